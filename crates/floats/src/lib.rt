@@ -1,0 +1,93 @@
+// Module 1, floats: rounding to whole numbers, order, size, limits, and the square root.
+ghost use mathlib.Core.Path.{_≡_};
+ghost use Rattle.floats.specs.Numbers.{isFinite, areFinite, isWithin, sizeOf, leastOf, greatestOf, answer};
+ghost use mathlib.Core.Bool.{true, false};
+
+// Refusal 0 and the value, or refusal 4 and +0.
+pub struct Answer {
+    pub refusal: u32,
+    pub value: f64,
+}
+
+fn given(value: f64) -> Answer
+    ensures { λ r. ⌜ r ≡ answer true value ⌝ }
+{
+    Answer { refusal: 0, value }
+}
+
+fn refused(value: f64) -> Answer
+    ensures { λ r. ⌜ r ≡ answer false value ⌝ }
+{
+    Answer {
+        refusal: 4,
+        value: 0.0,
+    }
+}
+
+pub fn is_finite(x: f64) -> bool
+    ensures { λ r. ⌜ r ≡ isFinite x ⌝ }
+{
+    let top: f64 = 1.0 / 0.0;
+    if x < top { -top < x } else { false }
+}
+
+fn are_finite(a: f64, b: f64) -> bool
+    ensures { λ r. ⌜ r ≡ areFinite a b ⌝ }
+{
+    if is_finite(a) { is_finite(b) } else { false }
+}
+
+// x with the sign clear, for any x.
+pub fn magnitude(x: f64) -> f64
+    ensures { λ r. ⌜ r ≡ sizeOf x ⌝ }
+{
+    if x < 0.0 {
+        -x
+    } else if x == 0.0 {
+        0.0
+    } else {
+        x
+    }
+}
+
+// Finite, and of size at most the limit: the test behind each limit of a call.
+pub fn is_within(x: f64, limit: f64) -> bool
+    ensures { λ r. ⌜ r ≡ isWithin x limit ⌝ }
+{
+    if is_finite(x) {
+        magnitude(x) <= limit
+    } else {
+        false
+    }
+}
+
+// The least of any two, with no refusal, for callers that know their numbers.
+pub fn lesser(a: f64, b: f64) -> f64
+    ensures { λ r. ⌜ r ≡ leastOf a b ⌝ }
+{
+    if b < a { b } else { a }
+}
+
+pub fn greater(a: f64, b: f64) -> f64
+    ensures { λ r. ⌜ r ≡ greatestOf a b ⌝ }
+{
+    if a < b { b } else { a }
+}
+
+pub fn size(x: f64) -> Answer
+    ensures { λ r. ⌜ r ≡ answer (isFinite x) (sizeOf x) ⌝ }
+{
+    if is_finite(x) { given(magnitude(x)) } else { refused(x) }
+}
+
+pub fn least(a: f64, b: f64) -> Answer
+    ensures { λ r. ⌜ r ≡ answer (areFinite a b) (leastOf a b) ⌝ }
+{
+    if are_finite(a, b) { given(lesser(a, b)) } else { refused(a) }
+}
+
+pub fn greatest(a: f64, b: f64) -> Answer
+    ensures { λ r. ⌜ r ≡ answer (areFinite a b) (greatestOf a b) ⌝ }
+{
+    if are_finite(a, b) { given(greater(a, b)) } else { refused(a) }
+}
