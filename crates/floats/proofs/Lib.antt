@@ -3,6 +3,7 @@ pub mod Rounding
 pub mod Sizes
 pub mod Answers
 pub mod Cells
+pub mod Bits
 pub mod Laws
 pub mod Newton
 pub mod Halves

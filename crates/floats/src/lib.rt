@@ -1,6 +1,7 @@
 // Module 1, floats: rounding to whole numbers, order, size, limits, and the square root.
 mod root;
 ghost use mathlib.Core.Path.{_≡_};
+ghost use lib.Ieee.{binary64, ofBits, toBits};
 ghost use Rattle.floats.specs.Numbers.{isFinite, areFinite, isWithin, sizeOf, leastOf, greatestOf, answer};
 ghost use Rattle.floats.specs.Whole.{floorOf, ceilOf, cellOf};
 ghost use Rattle.floats.specs.Root.{hasRoot, rootOf};
@@ -155,4 +156,24 @@ pub fn sqrt(x: f64) -> Answer
         return refused(x);
     }
     refused(x)
+}
+
+// The f64 with these bits, for any bits; every NaN is one NaN.
+pub fn float_of_bits(b: u64) -> f64
+    ensures { λ r. ⌜ r ≡ ofBits binary64 b ⌝ }
+{
+    if b % 0x8000_0000_0000_0000 > 0x7ff0_0000_0000_0000 {
+        return 0.0 / 0.0;
+    }
+    f64::from_bits(b)
+}
+
+// The bits of any f64; a NaN's are those of one NaN.
+pub fn bits_of_float(x: f64) -> u64
+    ensures { λ r. ⌜ r ≡ toBits binary64 x ⌝ }
+{
+    if x != x {
+        return 0x7ff8_0000_0000_0000;
+    }
+    f64::to_bits(x)
 }
