@@ -143,11 +143,8 @@ pub fn cell(x: f64) -> i32
 pub fn sqrt(x: f64) -> Answer
     ensures { λ r. ⌜ r ≡ answer (hasRoot x) (rootOf x) ⌝ }
 {
-    if x == 0.0 {
-        return given(x);
-    }
-    let infinity = f64::from_bits(0x7ff0_0000_0000_0000);
     if x > 0.0 {
+        let infinity = f64::from_bits(0x7ff0_0000_0000_0000);
         if x < infinity {
             let b = f64::to_bits(x);
             let r = root::root_bits(b);
@@ -155,7 +152,7 @@ pub fn sqrt(x: f64) -> Answer
         }
         return refused(x);
     }
-    refused(x)
+    if x == 0.0 { given(x) } else { refused(x) }
 }
 
 // The f64 with these bits, for any bits; every NaN is one NaN.

@@ -31,10 +31,10 @@ unfolding ofBits
 infinity-is = refl
 
 -- x is a number above zero
-number : (c : tie.Then3) → (m : ℕ) × (e : ℤ) × (c .before .before .before .args .x ≡ fin false (suc m) e)
+number : (c : tie.Then2) → (m : ℕ) × (e : ℤ) × (c .before .before .args .x ≡ fin false (suc m) e)
 number c =
-    let x = c .before .before .before .args .x in
-    above x (subst (λ (z : Float). lt z x ≡ true) zero-is (c .before .if2 .taken)) (subst (λ (z : Float). lt x z ≡ true) infinity-is (c .if3 .taken))
+    let x = c .before .before .args .x in
+    above x (subst (λ (z : Float). lt z x ≡ true) zero-is (c .before .if1 .taken)) (subst (λ (z : Float). lt x z ≡ true) infinity-is (c .if2 .taken))
 
 in-range : (x : Float) (m : ℕ) (e : ℤ) → x ≡ fin false (suc m) e → T (fits binary64 x) → (0 < toBits binary64 x) × (toBits binary64 x < 2047 * 2 ^ 52)
 in-range x m e p h =
@@ -56,14 +56,6 @@ answer x m e r p h b =
     subst (λ (z : Float). (hasRoot z ≡ true) × (ofBits binary64 r ≡ rootOf z)) (sym p)
     (refl, is-root m e r (subst (λ (z : Float). T (fits binary64 z)) p h) (subst (λ (z : Float). RootBits (unitsOf (toBits binary64 z)) r) p b))
 
-given-requires : tie.Need-given-requires
-given-requires c κs = search needs
-
-returns : tie.Need-returns
-returns c =
-    let z = at-zero (c .before .before .args .x) (subst (λ (z : Float). eq (c .before .before .args .x) z ≡ true) zero-is (c .before .if1 .taken)) in
-    taken _ _ _ _ (c .given .ensures) (z .0) (z .1)
-
 float-from-bits-infinity : tie.Need-float-from-bits-infinity
 unfolding nanBits
 float-from-bits-infinity c = tt
@@ -73,54 +65,63 @@ unfolding isNan
 float-to-bits-b c = subst (λ (z : Float). T (not (isNan z))) (sym (number c .2)) tt
 
 root-bits-requires : tie.Need-root-bits-requires
-root-bits-requires c κs = in-range (c .before .before .before .args .x) (number c .0) (number c .1) (number c .2) (held (c .before .before .before))
+root-bits-requires c κs = in-range (c .before .before .args .x) (number c .0) (number c .1) (number c .2) (held (c .before .before))
 
 float-from-bits-given : tie.Need-float-from-bits-given
 float-from-bits-given c = no-nan (c .root-bits .result) (bits-le _ _ (c .root-bits .ensures))
 
-given-requires-2 : tie.Need-given-requires-2
-given-requires-2 c κs = search needs
+given-requires : tie.Need-given-requires
+given-requires c κs = search needs
 
-returns-2 : tie.Need-returns-2
-returns-2 c =
+returns : tie.Need-returns
+returns c =
     let d = c .before .before in
-    let start = d .before .before .before in
+    let start = d .before .before in
     let a = answer (start .args .x) (number d .0) (number d .1) (c .before .root-bits .result) (number d .2) (held start) (c .before .root-bits .ensures) in
-    taken _ _ _ _ (c .given2 .ensures) (a .0) (a .1)
+    taken _ _ _ _ (c .given .ensures) (a .0) (a .1)
 
 refused-requires : tie.Need-refused-requires
 refused-requires c κs = search needs
 
-returns-3 : tie.Need-returns-3
-returns-3 c =
+returns-2 : tie.Need-returns-2
+returns-2 c =
     let d = c .before in
-    let x = d .before .before .before .args .x in
+    let x = d .before .before .args .x in
     turned-away _ _ _ _ (c .refused .ensures)
-    (at-infinity x (subst (λ (z : Float). lt z x ≡ true) zero-is (d .before .if2 .taken)) (subst (λ (z : Float). lt x z ≡ false) infinity-is (d .if3 .left)))
+    (at-infinity x (subst (λ (z : Float). lt z x ≡ true) zero-is (d .before .if1 .taken)) (subst (λ (z : Float). lt x z ≡ false) infinity-is (d .if2 .left)))
+
+given-requires-2 : tie.Need-given-requires-2
+given-requires-2 c κs = search needs
 
 refused-requires-2 : tie.Need-refused-requires-2
 refused-requires-2 c κs = search needs
+
+returns-3 : tie.Need-returns-3
+returns-3 c =
+    let x = c .before .before .before .args .x in
+    let z = at-zero x (subst (λ (z : Float). eq x z ≡ true) zero-is (c .before .if3 .taken)) in
+    taken _ _ _ _ (c .given2 .ensures) (z .0) (z .1)
 
 returns-4 : tie.Need-returns-4
 returns-4 c =
     let d = c .before in
     let x = d .before .before .args .x in
     turned-away _ _ _ _ (c .refused2 .ensures)
-    (below-zero x (subst (λ (z : Float). eq x z ≡ false) zero-is (d .before .if1 .left)) (subst (λ (z : Float). lt z x ≡ false) zero-is (d .if2 .left)))
+    (below-zero x (subst (λ (z : Float). eq x z ≡ false) zero-is (d .if3 .left)) (subst (λ (z : Float). lt z x ≡ false) zero-is (d .before .if1 .left)))
 
 pub sqrt-spec : {M : Type 1} → statement M
 sqrt-spec =
     tie.close
     (tie.spec
-    given-requires
-    returns
     float-from-bits-infinity
     float-to-bits-b
     root-bits-requires
     float-from-bits-given
-    given-requires-2
-    returns-2
+    given-requires
+    returns
     refused-requires
-    returns-3
+    returns-2
+    given-requires-2
     refused-requires-2
+    returns-3
     returns-4)
