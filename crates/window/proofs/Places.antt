@@ -1,0 +1,32 @@
+-- The place of a cell among the lent cells, worked out without wrapping. Assumes nothing.
+use mathlib.Core.Path.{_≡_, sym, _∙_}
+use mathlib.Core.List.{List}
+use Prim.Native.Nat.{ℕ, _+_, _*_, _-_, _/_, _≤_, _<_, _^_}
+use native.Mathlib.Nat.{mul-zero, zero-add, le-div-iff-mul-le, div-lt-iff-lt-mul}
+use native.Mathlib.Omega.{arith}
+use lib.ListN.{length}
+use borrow.Author.Tests.{le-ltb}
+use Rattle.base.proofs.Cases.{no}
+use Rattle.window.specs.declared.Cell.the-variants.{Outside}
+use Rattle.window.specs.Offsets.{cellOf, cellAt}
+
+-- no cell was lent for a place
+pub unlent : (cells : List ℕ) (i : ℕ) → length cells ≤ i → Outside ≡ cellAt cells i
+unfolding cellAt
+unlent cells i h = sym (no _ _ _ (le-ltb i (length cells) h))
+
+positive : (s : ℕ) → (s ≡ 0 → ⊥) → 0 < s
+positive s p = omega arith
+
+-- whether a cell was lent for row * s + x, by a division
+pub far-in : (row s x n : ℕ) → x < n → (s ≡ 0 → ⊥) → row ≤ (n - 1 - x) / s → row * s + x < n
+far-in row s x n h p k = let q : row * s ≤ n - 1 - x = le-div-iff-mul-le (positive s p) .0 k in omega arith
+
+pub far-out : (row s x n : ℕ) → (s ≡ 0 → ⊥) → (n - 1 - x) / s < row → n ≤ row * s + x
+far-out row s x n p k = let q : n - 1 - x < row * s = div-lt-iff-lt-mul (positive s p) .0 k in omega arith
+
+pub far-x : (row s x n : ℕ) → n ≤ x → n ≤ row * s + x
+far-x row s x n h = omega arith
+
+pub no-row : (row s x : ℕ) → s ≡ 0 → x ≡ row * s + x
+no-row row s x e = rw (e, mul-zero, zero-add)
