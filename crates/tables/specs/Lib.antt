@@ -1,0 +1,2 @@
+-- The definitions of the lent tables: their look-ups and their check.
+pub mod Tables
