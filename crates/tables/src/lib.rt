@@ -3,6 +3,9 @@ ghost use mathlib.Core.Path.{_≡_};
 ghost use lib.ListN.{getD};
 ghost use lib.Ieee.{ofBits, binary32};
 ghost use Rattle.tables.specs.Tables.{wordAt, isRegistered, blocksMotion, frictionAt, kindOf, liquidOf, liquidAt, boxesAt, stateBoxes, floatAt, boxAt};
+ghost use Rattle.tables.specs.Check.{tableRefusal};
+
+mod check;
 
 // A kind of liquid, in the order of word 2's numbers.
 pub enum LiquidKind {
@@ -166,5 +169,16 @@ pub fn box_at(shape: &[f32], k: u32) -> ShapeBox
         x1,
         y1,
         z1,
+    }
+}
+
+// The table check: 0 where every rule and limit of the lent tables holds, and 1 where one breaks.
+pub fn check_tables(records: &[u32], shapes: &[f32]) -> u32
+    ensures { λ r. ⌜ r ≡ tableRefusal (now (records .entry)) (now (shapes .entry)) ⌝ }
+{
+    if check::tables_fit(records, shapes) {
+        0
+    } else {
+        1
     }
 }
