@@ -250,3 +250,13 @@ cell-before x h k = rw (h, k)
 pub cell-beyond : (x : Float) → le x top ≡ false → pos 67108864 ≡ cellOf x
 unfolding cellOf choose
 cell-beyond x h = rw h
+
+-- a cell lies within the reach
+pub cell-reach : (x : Float) → mag (cellOf x) ≤ 67108864
+unfolding cellOf choose
+cell-reach x = go (le x top) (le bottom x) refl refl
+  where
+    go : (p q : Bool) → le x top ≡ p → le bottom x ≡ q → mag (choose p (choose q (floorInt x) (negsuc 67108863)) (pos 67108864)) ≤ 67108864
+    go true true h k = floor-reach x (reached-by x h k)
+    go true false h k = lit≤ tt
+    go false q h k = lit≤ tt
