@@ -1,0 +1,3 @@
+-- The definitions of module 2, of the capped list, and of the move over a list.
+pub mod Boxes
+pub mod Sides
