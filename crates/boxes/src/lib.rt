@@ -1,4 +1,9 @@
 // Module 2, boxes: vectors and boxes of f64 by value, overlap, and clipping, from collision.rs. Every function takes any numbers.
+mod list;
+mod passes;
+
+pub use passes::clip_sequence;
+pub use passes::move_over;
 ghost use mathlib.Core.Path.{_≡_};
 ghost use Rattle.boxes.specs.Boxes.{vec, box, fromFeet, offsetBy, below0, above0, downOf, upOf, expandTowards, inflateBy, meet, overlap, feetOf, clipX, clipY, clipZ};
 ghost use Rattle.boxes.specs.Sides.{onX, onY, onZ, apartOn, ahead, behind, stopOn, clipOn};
@@ -12,6 +17,46 @@ pub struct Vec3 {
 pub struct Aabb {
     pub min: Vec3,
     pub max: Vec3,
+}
+
+// The capped list: room for 128 boxes and a count.
+pub struct BoxList {
+    pub boxes: [Aabb; 128],
+    pub count: usize,
+}
+
+// A list, or the number of a refusal and an empty list. The list is the first field, so that handing it on moves nothing.
+pub struct Collected {
+    pub list: BoxList,
+    pub refusal: u32,
+}
+
+// A box that has moved, and by how much.
+pub struct Swept {
+    pub aabb: Aabb,
+    pub moved: Vec3,
+}
+
+// What a move comes to: the box after it, the way that it went, and whether a downward move was stopped.
+pub struct MoveResult {
+    pub aabb: Aabb,
+    pub moved: Vec3,
+    pub ground: bool,
+}
+
+// What a move is asked for.
+struct Request {
+    aabb: Aabb,
+    delta: Vec3,
+    step: f64,
+    ground: bool,
+}
+
+// Where a move stands between two passes: the attempt at hand, the first attempt, and whether the move is over.
+struct Sweep {
+    now: Swept,
+    first: Swept,
+    over: bool,
 }
 
 // A box and a mover on one axis: the box from lo to hi, the mover from `from` to `to`.
