@@ -2,3 +2,6 @@
 pub mod Lists
 pub mod Turns
 pub mod Shape
+pub mod Limits
+pub mod Beyond
+pub mod Numbers

@@ -1,4 +1,4 @@
--- The capped list: one box more, no room, and that nothing beyond the count matters. Assumes nothing.
+-- The capped list: no box, one box more, no room, and a loop along it. Assumes nothing.
 use mathlib.Core.Path.{_≡_, refl, sym, ap, _∙_}
 use mathlib.Core.Bool.{true, false}
 use mathlib.Core.List.{List, [], _∷_, _++_}
@@ -7,7 +7,7 @@ use native.Mathlib.Numerals.{add-one}
 use native.Mathlib.Omega.{arith}
 use lib.Dec.{ltb}
 use lib.ListN.{length, getD, take, drop, set, length-append, length-take, drop-of-length-le}
-use lib.Seq.{length-take-le, take-suc-set, take-set-le, drop-cons, getD-take}
+use lib.Seq.{length-take-le, take-suc-set, drop-cons, getD-take}
 use borrow.Author.Tests.{lt-ltb, le-ltb}
 use Rattle.base.specs.Choose.{choose}
 use Rattle.boxes.specs.declared.Aabb.{Aabb}
@@ -39,10 +39,6 @@ module _ (l : BoxList) (b : Aabb) (whole : length (l .boxes) ≡ room) where
       let n : length (listOf l) ≡ room = length-take (l .count) (l .boxes) ∙ omega arith in
       let t : ltb (length (listOf l)) room ≡ false = le-ltb (length (listOf l)) room (omega arith) in
       rw t
-
--- a box that is put at or beyond the count changes nothing
-pub beyond : (l : BoxList) (i : ℕ) (b : Aabb) → l .count ≤ i → listOf record { boxes = set (l .boxes) i b; count = l .count } ≡ listOf l
-beyond l i b h = take-set-le (l .count) (l .boxes) i b h
 
 -- a loop along the list: the box at i and those after it, and the end; n is how many count
 module _ (l : BoxList) (whole : length (l .boxes) ≡ room) (n i : ℕ) (counts : n ≡ min (l .count) room) where

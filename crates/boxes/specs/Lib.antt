@@ -4,3 +4,5 @@ pub mod Sides
 pub mod Lists
 pub mod Move
 pub mod Passes
+pub mod Limits
+pub mod Entry

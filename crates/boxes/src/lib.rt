@@ -1,7 +1,13 @@
 // Module 2, boxes: vectors and boxes of f64 by value, overlap, and clipping, from collision.rs. Every function takes any numbers.
+mod entry;
 mod list;
 mod passes;
 
+pub use entry::are_within;
+pub use entry::is_box;
+pub use entry::is_delta;
+pub use entry::is_step;
+pub use entry::move_over_list;
 pub use passes::clip_sequence;
 pub use passes::move_over;
 ghost use mathlib.Core.Path.{_≡_};
@@ -42,6 +48,12 @@ pub struct MoveResult {
     pub aabb: Aabb,
     pub moved: Vec3,
     pub ground: bool,
+}
+
+// A move that is handed in may be refused: refusal 0 and the move, or a refusal, the box given, moved zero, and ground false.
+pub struct MoveAnswer {
+    pub refusal: u32,
+    pub result: MoveResult,
 }
 
 // What a move is asked for.

@@ -5,7 +5,8 @@ use crate::BoxList;
 use crate::Collected;
 use crate::Vec3;
 ghost use mathlib.Core.Path.{_≡_};
-ghost use Rattle.boxes.specs.Lists.{noBox, emptyList, listOf, heldIn, held, pushOf};
+ghost use Rattle.boxes.specs.Lists.{room, noBox, emptyList, listOf, heldIn, held, pushOf};
+ghost use Prim.Native.Nat.{min};
 ghost use mathlib.Core.List.{[]};
 
 fn no_box() -> Aabb
@@ -23,6 +24,13 @@ fn no_box() -> Aabb
             z: 0.0,
         },
     }
+}
+
+// How many boxes of a list count: a count above the room counts as the room.
+pub(crate) fn counted(count: usize) -> usize
+    ensures { λ r. ⌜ r ≡ min count room ⌝ }
+{
+    if count < 128 { count } else { 128 }
 }
 
 impl BoxList {

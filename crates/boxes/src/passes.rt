@@ -7,9 +7,9 @@ use crate::Request;
 use crate::Sweep;
 use crate::Swept;
 use crate::Vec3;
+use crate::list::counted;
 ghost use mathlib.Core.Path.{_≡_};
-ghost use Rattle.boxes.specs.Lists.{listOf, room};
-ghost use Prim.Native.Nat.{min};
+ghost use Rattle.boxes.specs.Lists.{listOf};
 ghost use Rattle.boxes.specs.Move.{flatSquare, longer, stoppedFalling, blockedHorizontally, clipSequence, moveOver};
 ghost use Rattle.boxes.specs.Passes.{axisOf, clipAlong, wantedOf, goneOf, tries, nextOf, sweepOf};
 
@@ -163,13 +163,6 @@ fn next(pass: u32, q: Request, first: Swept, got: Swept) -> Sweep
         first,
         over: false,
     }
-}
-
-// How many boxes of a list count: a count above the room counts as the room.
-fn counted(count: usize) -> usize
-    ensures { λ r. ⌜ r ≡ min count room ⌝ }
-{
-    if count < 128 { count } else { 128 }
 }
 
 // All passes of a move over a list. The axis is fixed while the boxes are gone through.
