@@ -50,187 +50,111 @@ fn look(name: &[u8], cells: &[u32], w: Window, p: Pos) {
     }
 }
 
+fn check_counts(cells: &[u32]) {
+    let w = window_at(pos(0, 0, 0), 64, 64, 64);
+    check(b"64 x 64 x 64", cells, 262144, w);
+    check(b"a cell short", cells, 262143, w);
+    check(b"a cell too many", cells, 262145, w);
+}
+
+fn check_size(name: &[u8], cells: &[u32], n: usize, x: u32, y: u32, z: u32) {
+    check(name, cells, n, window_at(pos(0, 0, 0), x, y, z));
+}
+
 fn check_sizes(cells: &[u32]) {
-    let o = pos(0, 0, 0);
-    check(b"64 x 64 x 64", cells, 262144, window_at(o, 64, 64, 64));
-    check(b"a cell short", cells, 262143, window_at(o, 64, 64, 64));
-    check(b"a cell too many", cells, 262145, window_at(o, 64, 64, 64));
-    check(b"65 x 64 x 64", cells, 266240, window_at(o, 65, 64, 64));
-    check(b"64 x 65 x 64", cells, 266240, window_at(o, 64, 65, 64));
-    check(b"64 x 64 x 65", cells, 266240, window_at(o, 64, 64, 65));
-    check(b"1 x 1 x 1", cells, 1, window_at(o, 1, 1, 1));
-    check(b"0 x 1 x 1", cells, 0, window_at(o, 0, 1, 1));
-    check(b"1 x 0 x 1", cells, 0, window_at(o, 1, 0, 1));
-    check(b"1 x 1 x 0", cells, 0, window_at(o, 1, 1, 0));
-    check(
-        b"65536 x 65536 x 1, whose product wraps to no cells",
-        cells,
-        0,
-        window_at(o, 65536, 65536, 1),
-    );
-    check(
-        b"65537 x 65537 x 64",
-        cells,
-        131137,
-        window_at(o, 65537, 65537, 64),
-    );
+    check_size(b"65 x 64 x 64", cells, 266240, 65, 64, 64);
+    check_size(b"64 x 65 x 64", cells, 266240, 64, 65, 64);
+    check_size(b"64 x 64 x 65", cells, 266240, 64, 64, 65);
+    check_size(b"65536 x 65536 x 1", cells, 0, 65536, 65536, 1);
+    check_size(b"1 x 0 x 1", cells, 0, 1, 0, 1);
+    check_size(b"1 x 1 x 1", cells, 1, 1, 1, 1);
+}
+
+fn check_origin(name: &[u8], cells: &[u32], x: i32, y: i32, z: i32) {
+    check(name, cells, 24, window_at(pos(x, y, z), 2, 3, 4));
 }
 
 fn check_origins(cells: &[u32]) {
-    check(
-        b"origin 2^25",
-        cells,
-        24,
-        window_at(pos(33554432, 33554432, 33554432), 2, 3, 4),
-    );
-    check(
-        b"origin -2^25",
-        cells,
-        24,
-        window_at(pos(-33554432, -33554432, -33554432), 2, 3, 4),
-    );
-    check(
-        b"origin x above 2^25",
-        cells,
-        24,
-        window_at(pos(33554433, 0, 0), 2, 3, 4),
-    );
-    check(
-        b"origin y above 2^25",
-        cells,
-        24,
-        window_at(pos(0, 33554433, 0), 2, 3, 4),
-    );
-    check(
-        b"origin z above 2^25",
-        cells,
-        24,
-        window_at(pos(0, 0, 33554433), 2, 3, 4),
-    );
-    check(
-        b"origin x below -2^25",
-        cells,
-        24,
-        window_at(pos(-33554433, 0, 0), 2, 3, 4),
-    );
-    check(
-        b"origin y below -2^25",
-        cells,
-        24,
-        window_at(pos(0, -33554433, 0), 2, 3, 4),
-    );
-    check(
-        b"origin z below -2^25",
-        cells,
-        24,
-        window_at(pos(0, 0, -33554433), 2, 3, 4),
-    );
-    check(
-        b"origin -2^31",
-        cells,
-        24,
-        window_at(pos(-2147483648, 0, 0), 2, 3, 4),
-    );
+    check_origin(b"origin 2^25", cells, 33554432, 33554432, 33554432);
+    check_origin(b"origin x above 2^25", cells, 33554433, 0, 0);
+    check_origin(b"origin -2^25", cells, -33554432, -33554432, -33554432);
+    check_origin(b"origin y below -2^25", cells, 0, -33554433, 0);
+    check_origin(b"origin z at -2^31", cells, 0, 0, -2147483648);
 }
 
 // A window of 64 x 64 x 64 cells over the first of them; main marks those that are asked for by a number of their own.
-fn look_at_rim(cells: &[u32]) {
-    let w = window_at(pos(-32, -32, -32), 64, 64, 64);
-    look(b"the first cell", cells, w, pos(-32, -32, -32));
-    look(b"one on along x", cells, w, pos(-31, -32, -32));
-    look(b"one on along y", cells, w, pos(-32, -31, -32));
-    look(b"one on along z", cells, w, pos(-32, -32, -31));
-    look(b"the last cell", cells, w, pos(31, 31, 31));
-    look(b"the mark", cells, w, pos(-30, -32, -32));
-    look(b"one less than the mark", cells, w, pos(-29, -32, -32));
-    look(b"below on x", cells, w, pos(-33, 0, 0));
-    look(b"below on y", cells, w, pos(0, -33, 0));
-    look(b"below on z", cells, w, pos(0, 0, -33));
-    look(b"beyond on x", cells, w, pos(32, 0, 0));
-    look(b"beyond on y", cells, w, pos(0, 32, 0));
-    look(b"beyond on z", cells, w, pos(0, 0, 32));
+fn look_in(name: &[u8], cells: &[u32], x: i32, y: i32, z: i32) {
+    look(
+        name,
+        cells,
+        window_at(pos(-32, -32, -32), 64, 64, 64),
+        pos(x, y, z),
+    );
+}
+
+fn look_inside(cells: &[u32]) {
+    look_in(b"the first cell", cells, -32, -32, -32);
+    look_in(b"one on along x", cells, -31, -32, -32);
+    look_in(b"one on along y", cells, -32, -31, -32);
+    look_in(b"one on along z", cells, -32, -32, -31);
+    look_in(b"the last cell", cells, 31, 31, 31);
+    look_in(b"the mark", cells, -30, -32, -32);
+    look_in(b"one less than the mark", cells, -29, -32, -32);
+}
+
+fn look_past_rim(cells: &[u32]) {
+    look_in(b"below on x", cells, -33, 0, 0);
+    look_in(b"below on y", cells, 0, -33, 0);
+    look_in(b"below on z", cells, 0, 0, -33);
+    look_in(b"beyond on x", cells, 32, 0, 0);
+    look_in(b"beyond on y", cells, 0, 32, 0);
+    look_in(b"beyond on z", cells, 0, 0, 32);
 }
 
 fn look_far_out(cells: &[u32]) {
-    let w = window_at(pos(33554432, 33554432, 33554432), 64, 64, 64);
+    let w = window_at(pos(33554432, -33554432, 33554432), 64, 64, 64);
     look(
-        b"origin 2^25, the last cell",
+        b"a far window, the last cell",
         cells,
         w,
-        pos(33554495, 33554495, 33554495),
+        pos(33554495, -33554369, 33554495),
     );
     look(
-        b"origin 2^25, a cell at 2^25 + 256",
+        b"2^25 + 256 on x",
         cells,
         w,
-        pos(33554688, 33554432, 33554432),
-    );
-    let v = window_at(pos(-33554432, -33554432, -33554432), 64, 64, 64);
-    look(
-        b"origin -2^25, the first cell",
-        cells,
-        v,
-        pos(-33554432, -33554432, -33554432),
+        pos(33554688, -33554432, 33554432),
     );
     look(
-        b"origin -2^25, a cell at -2^25 - 256",
-        cells,
-        v,
-        pos(-33554688, -33554432, -33554432),
-    );
-    look(
-        b"the least i32 from 2^25",
+        b"-2^25 - 256 on y",
         cells,
         w,
-        pos(-2147483648, -2147483648, -2147483648),
+        pos(33554432, -33554688, 33554432),
     );
     look(
-        b"the greatest i32 from -2^25",
+        b"the ends of i32",
         cells,
-        v,
-        pos(2147483647, 2147483647, 2147483647),
+        w,
+        pos(-2147483648, 2147483647, -2147483648),
     );
 }
 
 // Windows that no check lets through: what was not lent is outside.
 fn look_unchecked(cells: &[u32]) {
-    let large = window_at(
-        pos(-2147483648, -2147483648, -2147483648),
-        4294967295,
-        4294967295,
-        4294967295,
-    );
+    let p = pos(-2147483648, -2147483648, -2147483648);
+    let w = window_at(p, 4294967295, 4294967295, 4294967295);
+    look(b"all of i32, the first cell", cells, w, p);
     look(
-        b"all of i32, the first cell",
+        b"all of i32, the last cell",
         cells,
-        large,
-        pos(-2147483648, -2147483648, -2147483648),
-    );
-    look(
-        b"all of i32, another row",
-        cells,
-        large,
-        pos(-2147483648, -2147483648, -2147483647),
-    );
-    look(
-        b"all of i32, the last cell but one",
-        cells,
-        large,
+        w,
         pos(2147483646, 2147483646, 2147483646),
     );
-    look(
-        b"all of i32, the last cell, which is beyond",
-        cells,
-        large,
-        pos(2147483647, 2147483647, 2147483647),
-    );
-    let none = window_at(pos(0, 0, 0), 0, 0, 0);
-    look(b"no size", cells, none, pos(0, 0, 0));
-    let short = window_at(pos(0, 0, 0), 64, 64, 64);
+    look(b"no size", cells, window_at(p, 0, 0, 0), p);
     look(
         b"a cell that was not lent",
         first(cells, 262143),
-        short,
+        window_at(pos(0, 0, 0), 64, 64, 64),
         pos(63, 63, 63),
     );
 }
@@ -244,9 +168,11 @@ fn main() {
     cells[64] = 12;
     cells[4096] = 13;
     cells[262143] = 14;
+    check_counts(&cells);
     check_sizes(&cells);
     check_origins(&cells);
-    look_at_rim(&cells);
+    look_inside(&cells);
+    look_past_rim(&cells);
     look_far_out(&cells);
     look_unchecked(&cells);
 }
