@@ -1,0 +1,188 @@
+// Module 6 through a window: collection of block boxes, and the move of a box through them.
+use boxes::Aabb;
+use boxes::BoxList;
+use boxes::Collected;
+use boxes::Vec3;
+use connect::Connected;
+use ranges::Range;
+use window::Cell;
+use window::Pos;
+use window::Window;
+ghost use mathlib.Core.Path.{_≡_};
+ghost use Rattle.boxes.specs.Lists.{heldIn};
+ghost use Rattle.tables.specs.Tables.{boxAt};
+ghost use Rattle.window.specs.Look.{lookAt};
+ghost use Rattle.moves.specs.Collect.{originOf, cubeAt, toAabb, connectedShape, cellShape, rangeOf, collectBlockBoxes, collidesWithBlocks};
+ghost use Rattle.moves.specs.Parts.{partAsked, countOf, nthAabb};
+ghost use Rattle.moves.specs.Answers.{heldAsked};
+
+// What stands in a cell: a full cube, or the boxes of the shapes by the two words of a record.
+struct Shape {
+    cube: bool,
+    first: u32,
+    count: u32,
+}
+
+enum Part {
+    Is(Shape),
+    Refused(u32),
+}
+
+pub enum Collides {
+    Is(bool),
+    Refused(u32),
+}
+
+// Refusal 0 and whether a box was hit, or a refusal and no.
+pub struct HitAnswer {
+    pub refusal: u32,
+    pub hit: bool,
+}
+
+fn origin_of(p: Pos) -> Vec3
+    ensures { λ r. ⌜ r ≡ originOf p ⌝ }
+{
+    let x = p.x as f64;
+    let y = p.y as f64;
+    let z = p.z as f64;
+    Vec3 { x, y, z }
+}
+
+fn cube_at(p: Pos) -> Aabb
+    ensures { λ r. ⌜ r ≡ cubeAt p ⌝ }
+{
+    let o = origin_of(p);
+    let far = Vec3 {
+        x: o.x + 1.0,
+        y: o.y + 1.0,
+        z: o.z + 1.0,
+    };
+    Aabb { min: o, max: far }
+}
+
+// What a registered record at p has beside its neighbours.
+fn part_of(records: &[u32], cells: &[u32], w: Window, p: Pos, id: u32) -> Part
+    ensures { λ r. ⌜ partAsked r ≡ connectedShape (lookAt (now (cells .entry)) w) (now (records .entry)) p id ⌝ }
+{
+    let state = connect::connected_state(records, cells, w, p, id);
+    match state {
+        Connected::Refused(n) => Part::Refused(n),
+        Connected::State(s) => {
+            let first = tables::word(records, s, 7);
+            let count = tables::word(records, s, 8);
+            Part::Is(Shape {
+                cube: false,
+                first,
+                count,
+            })
+        }
+    }
+}
+
+// What stands in the cell at p.
+fn part_at(records: &[u32], cells: &[u32], w: Window, p: Pos) -> Part
+    ensures { λ r. ⌜ partAsked r ≡ cellShape (lookAt (now (cells .entry)) w) (now (records .entry)) p ⌝ }
+{
+    let cell = window::look(cells, w, p);
+    match cell {
+        Cell::Outside => Part::Refused(5),
+        Cell::Unloaded => Part::Is(Shape {
+            cube: true,
+            first: 0,
+            count: 1,
+        }),
+        Cell::State(id) => {
+            if tables::is_registered(records, id) {
+                return part_of(records, cells, w, p, id);
+            }
+            Part::Is(Shape {
+                cube: false,
+                first: 0,
+                count: 0,
+            })
+        }
+    }
+}
+
+// How many boxes a cell has: `shape` is the part of the shapes that is `count` boxes, or nothing where that is not there whole.
+fn count_of(cube: bool, count: u32, shape: &[f32]) -> u32
+    ensures { λ r. ⌜ r ≡ countOf cube count (now (shape .entry)) ⌝ }
+{
+    if cube {
+        return 1;
+    }
+    if shape.len() == 0 {
+        return 0;
+    }
+    count
+}
+
+fn shape_aabb(shape: &[f32], k: u32) -> Aabb
+    ensures { λ r. ⌜ r ≡ toAabb (boxAt (now (shape .entry)) k) ⌝ }
+{
+    let b = tables::box_at(shape, k);
+    Aabb {
+        min: Vec3 {
+            x: b.x0,
+            y: b.y0,
+            z: b.z0,
+        },
+        max: Vec3 {
+            x: b.x1,
+            y: b.y1,
+            z: b.z1,
+        },
+    }
+}
+
+// Box k of a cell, in the world's coordinates.
+fn nth_aabb(cube: bool, shape: &[f32], p: Pos, k: u32) -> Aabb
+    ensures { λ r. ⌜ r ≡ nthAabb cube (now (shape .entry)) p k ⌝ }
+{
+    if cube {
+        return cube_at(p);
+    }
+    shape_aabb(shape, k).offset(origin_of(p))
+}
+
+fn range_of(area: Aabb) -> Range
+    ensures { λ r. ⌜ r ≡ rangeOf area ⌝ }
+{
+    let x = ranges::cells_between(area.min.x, area.max.x);
+    let y = ranges::layers_between(area.min.y, area.max.y);
+    let z = ranges::cells_between(area.min.z, area.max.z);
+    Range { x, y, z }
+}
+
+// The boxes of every cell that the area reaches, which strictly overlap it. The list is built in place. It refuses 5 and 6 alone.
+pub fn collect(records: &[u32], shapes: &[f32], cells: &[u32], w: Window, area: Aabb) -> Collected
+    ensures { λ r. ⌜ heldIn r ≡ heldAsked (collectBlockBoxes (lookAt (now (cells .entry)) w) (now (records .entry)) (now (shapes .entry)) area) ⌝ }
+{
+    let r = range_of(area);
+    let mut list = BoxList::new();
+    let mut t = ranges::start(r);
+    while t.y < r.y.count {
+        let p = ranges::place(r, t);
+        let q = match part_at(records, cells, w, p) {
+            Part::Refused(n) => return Collected::refused(n),
+            Part::Is(s) => s,
+        };
+        let shape = tables::boxes_at(shapes, q.first, q.count);
+        let n = count_of(q.cube, q.count, shape);
+        let mut k = 0u32;
+        while k < n {
+            let b = nth_aabb(q.cube, shape, p, k);
+            if b.intersects(area) {
+                let i = list.count;
+                if i >= 128 {
+                    return Collected::refused(6);
+                }
+                list.boxes[i] = b;
+                list.count = i + 1;
+            }
+            k += 1;
+        }
+        t = ranges::next(r, t);
+    }
+    Collected { list, refusal: 0 }
+}
