@@ -3,3 +3,4 @@ pub mod Cases
 pub mod Loops
 pub mod Asks
 pub mod Values
+pub mod Every

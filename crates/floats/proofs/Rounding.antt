@@ -240,10 +240,14 @@ neg-round f s num den =
     let u = den * 2 ^ k in
     neg-units f s (nearest (n / u) (compare (n % u * 2) u)) k
 
-pub neg-finite : (x : Float) → T (isFinite x) → T (isFinite (neg x))
+pub neg-finite : (x : Float) → isFinite (neg x) ≡ isFinite x
 unfolding neg
-neg-finite (fin s m e) t = tt
+neg-finite nan = refl
+neg-finite (inf s) = refl
+neg-finite (fin s m e) = refl
 
-pub ceil-by-floor : (x : Float) → T (isFinite x) → neg (floorOf (neg x)) ≡ ceilOf x
+pub ceil-by-floor : (x : Float) → isFinite x ≡ true → neg (floorOf (neg x)) ≡ ceilOf x
 unfolding floorOf ceilOf neg
+ceil-by-floor nan t = refl
+ceil-by-floor (inf s) t = absurd (false≢true t)
 ceil-by-floor (fin s m e) t = neg-round binary64 s (floorSize (not s) (m * up e) (down e)) 1

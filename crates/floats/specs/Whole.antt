@@ -30,7 +30,8 @@ ceilOf (inf s) = inf s
 ceilOf (fin s m e) = wholeF s (ceilSize s (m * up e) (down e))
 
 abbrev pub signedOf : Bool → ℕ → ℤ
-signedOf s n = choose s (negℤ (pos n)) (pos n)
+signedOf false n = pos n
+signedOf true n = negℤ (pos n)
 
 -- the greatest whole number that is not above x
 unfoldable pub floorInt : Float → ℤ

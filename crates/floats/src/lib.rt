@@ -1,6 +1,10 @@
 // Module 1, floats: rounding to whole numbers, order, size, limits, and the square root.
+mod root;
 ghost use mathlib.Core.Path.{_≡_};
+ghost use lib.Ieee.{binary64, ofBits, toBits};
 ghost use Rattle.floats.specs.Numbers.{isFinite, areFinite, isWithin, sizeOf, leastOf, greatestOf, answer};
+ghost use Rattle.floats.specs.Whole.{floorOf, ceilOf, cellOf};
+ghost use Rattle.floats.specs.Root.{hasRoot, rootOf};
 ghost use mathlib.Core.Bool.{true, false};
 
 // Refusal 0 and the value, or refusal 4 and +0.
@@ -90,4 +94,83 @@ pub fn greatest(a: f64, b: f64) -> Answer
     ensures { λ r. ⌜ r ≡ answer (areFinite a b) (greatestOf a b) ⌝ }
 {
     if are_finite(a, b) { given(greater(a, b)) } else { refused(a) }
+}
+
+// The greatest whole number that is not above x.
+pub fn floor(x: f64) -> Answer
+    ensures { λ r. ⌜ r ≡ answer (isFinite x) (floorOf x) ⌝ }
+{
+    if is_finite(x) {
+        let part: f64 = x % 1.0;
+        if part == 0.0 {
+            return given(x);
+        }
+        let cut: f64 = x - part;
+        if part < 0.0 {
+            return given(cut - 1.0);
+        }
+        return given(cut);
+    }
+    refused(x)
+}
+
+// The least whole number that is not below x.
+pub fn ceil(x: f64) -> Answer
+    ensures { λ r. ⌜ r ≡ answer (isFinite x) (ceilOf x) ⌝ }
+{
+    let below = floor(-x);
+    if below.refusal == 0 { given(-below.value) } else { refused(x) }
+}
+
+// The cell of a coordinate: floor as an integer, cut and corrected, with no call of fmod.
+pub fn cell(x: f64) -> i32
+    ensures { λ r. ⌜ r ≡ cellOf x ⌝ }
+{
+    if x <= 67108864.0 {
+        if -67108864.0 <= x {
+            let cut: i64 = std::num::truncating_f64_to_i64(x);
+            if x < cut as f64 {
+                return (cut - 1) as i32;
+            }
+            return cut as i32;
+        }
+        return -67108864;
+    }
+    67108864
+}
+
+// The f64 nearest to the root of x.
+pub fn sqrt(x: f64) -> Answer
+    ensures { λ r. ⌜ r ≡ answer (hasRoot x) (rootOf x) ⌝ }
+{
+    if x > 0.0 {
+        let infinity = f64::from_bits(0x7ff0_0000_0000_0000);
+        if x < infinity {
+            let b = f64::to_bits(x);
+            let r = root::root_bits(b);
+            return given(f64::from_bits(r));
+        }
+        return refused(x);
+    }
+    if x == 0.0 { given(x) } else { refused(x) }
+}
+
+// The f64 with these bits, for any bits; every NaN is one NaN.
+pub fn float_of_bits(b: u64) -> f64
+    ensures { λ r. ⌜ r ≡ ofBits binary64 b ⌝ }
+{
+    if b % 0x8000_0000_0000_0000 > 0x7ff0_0000_0000_0000 {
+        return 0.0 / 0.0;
+    }
+    f64::from_bits(b)
+}
+
+// The bits of any f64; a NaN's are those of one NaN.
+pub fn bits_of_float(x: f64) -> u64
+    ensures { λ r. ⌜ r ≡ toBits binary64 x ⌝ }
+{
+    if x != x {
+        return 0x7ff8_0000_0000_0000;
+    }
+    f64::to_bits(x)
 }

@@ -19,29 +19,29 @@ either false u v k hu hv = hv
 mag-subℕ : (a b k : ℕ) → a < k → b ≤ k → mag (subℕ a b) < k
 mag-subℕ a b k ha hb = either (ltb a b) (b - suc a) (a - b) k (omega arith) (omega arith)
 
-mag-add : (x y : ℤ) (j k : ℕ) → mag x < j → mag y < k → mag (x +ℤ y) < j + k
+pub mag-add : (x y : ℤ) (j k : ℕ) → mag x < j → mag y < k → mag (x +ℤ y) < j + k
 mag-add (pos a) (pos b) j k hx hy = omega arith
 mag-add (pos a) (negsuc b) j k hx hy = mag-subℕ a (suc b) (j + k) (omega arith) (omega arith)
 mag-add (negsuc a) (pos b) j k hx hy = mag-subℕ b (suc a) (j + k) (omega arith) (omega arith)
 mag-add (negsuc a) (negsuc b) j k hx hy = omega arith
 
-mag-neg : (y : ℤ) (k : ℕ) → mag y < k → mag (negℤ y) < k + 1
+pub mag-neg : (y : ℤ) (k : ℕ) → mag y < k → mag (negℤ y) < k + 1
 mag-neg (pos zero) k h = omega arith
 mag-neg (pos (suc b)) k h = omega arith
 mag-neg (negsuc b) k h = omega arith
 
 -- a number of fewer bits
-widens32 : {z : ℤ} → SFits w32 z → SFits w64 z
+pub widens32 : {z : ℤ} → SFits w32 z → SFits w64 z
 widens32 f = let h = f .sfits in record { sfits = omega arith }
 
 widens8 : {z : ℤ} → SFits w8 z → SFits w64 z
 widens8 f = let h = f .sfits in record { sfits = omega arith }
 
 -- a signed number of w bits as an i64 holds it
-abbrev wide : Width → ℤ → ℤ
+abbrev pub wide : Width → ℤ → ℤ
 wide w z = toZ w64 (ofZ w64 (toZ w (ofZ w z)))
 
-wide-is : (w : Width) (z : ℤ) → SFits w z → SFits w64 z → wide w z ≡ z
+pub wide-is : (w : Width) (z : ℤ) → SFits w z → SFits w64 z → wide w z ≡ z
 wide-is w z f g = rw (toZ-ofZ w z f, toZ-ofZ w64 z g)
 
 pub cast32 : (z : ℤ) → SFits w32 z → SFits w64 (toZ w32 (ofZ w32 z))

@@ -1,0 +1,31 @@
+-- `boxes::Aabb::intersects` meets its contract. Assumes nothing.
+use Rattle.base.specs.Choose.{choose}
+use borrow.Author.Needs.{needs}
+use Rattle.boxes.proofs.Aabb.intersects.Statement.{statement}
+use Rattle.boxes.proofs.Aabb.intersects.Tie as tie
+
+meets-requires : tie.Need-meets-requires
+meets-requires c κs = search needs
+
+meets-requires-2 : tie.Need-meets-requires-2
+meets-requires-2 c κs = search needs
+
+meets-requires-3 : tie.Need-meets-requires-3
+meets-requires-3 c κs = search needs
+
+returns : tie.Need-returns
+unfolding choose
+returns c = rw (← c .before .before .before .before .meets .ensures, c .before .before .before .if1 .taken, ← c .before .before .meets2 .ensures, c .before .if2 .taken, ← c .meets3 .ensures)
+
+returns-2 : tie.Need-returns-2
+unfolding choose
+returns-2 c = rw (← c .before .before .before .meets .ensures, c .before .before .if1 .taken, ← c .before .meets2 .ensures, c .if2 .left)
+
+returns-3 : tie.Need-returns-3
+unfolding choose
+returns-3 c = rw (← c .before .meets .ensures, c .if1 .left)
+
+pub intersects-spec : {M : Type 1} → statement M
+intersects-spec =
+    tie.close
+    (tie.spec meets-requires meets-requires-2 meets-requires-3 returns returns-2 returns-3)

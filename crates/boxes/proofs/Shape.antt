@@ -1,0 +1,68 @@
+-- The passes, one after the other, are the move of physics.rs. Assumes nothing.
+use mathlib.Core.Path.{_≡_, refl, sym, ap, _∙_}
+use mathlib.Core.Bool.{Bool, true, false}
+use mathlib.Core.List.{List}
+use lib.Ieee.{lt, ofBits}
+use Rattle.base.specs.Choose.{choose}
+use Rattle.base.proofs.Cases.{yes, no}
+use Rattle.floats.specs.Numbers.{zero64}
+use Rattle.boxes.specs.declared.Vec3.{Vec3}
+use Rattle.boxes.specs.declared.Aabb.{Aabb}
+use Rattle.boxes.specs.declared.Swept.{Swept}
+use Rattle.boxes.specs.declared.Request.{Request}
+use Rattle.boxes.specs.declared.Sweep.{Sweep}
+use Rattle.boxes.specs.declared.MoveResult.{MoveResult}
+use Rattle.boxes.specs.Move.{clipSequence, steppedUp, longer, stoppedFalling, moveOver}
+use Rattle.boxes.specs.Passes.{axisOf, clipAlong, wantedOf, goneOf, tries, nextOf, passOf, passesFrom, sweepOf}
+
+module _ (boxes : List Aabb) (q : Request) where
+  abbrev first : Swept
+  first = clipSequence boxes (q .aabb) (q .delta)
+
+  abbrev stepped : Swept
+  stepped = steppedUp boxes (q .aabb) (q .delta) (q .step)
+
+  -- where the move stands after the first attempt: it starts again, or is over
+  abbrev again : Sweep
+  again = record { now = record { aabb = q .aabb; moved = first .moved }; first = first; over = false }
+
+  abbrev done : Sweep
+  done = record { now = first; first = first; over = true }
+
+  abbrev third : Sweep
+  third = choose (tries q (first .moved)) again done
+
+  three : sweepOf boxes q ≡ choose (third .over) third (passesFrom 4 3 boxes q third)
+  unfolding choose passesFrom passOf nextOf goneOf wantedOf axisOf clipAlong clipSequence
+  three = refl
+
+  four : passesFrom 4 3 boxes q again .now ≡ longer first stepped
+  unfolding choose passesFrom passOf nextOf goneOf wantedOf axisOf clipAlong clipSequence steppedUp
+  four = refl
+
+  by : (t : Bool) → tries q (first .moved) ≡ t → sweepOf boxes q .now ≡ choose t (longer first stepped) first
+  unfolding choose
+  by true e =
+      let is : third ≡ again = yes (tries q (first .moved)) again done e in
+      let k : sweepOf boxes q ≡ passesFrom 4 3 boxes q again = three ∙ rw is in
+      ap (λ (s : Sweep). s .now) k ∙ four
+  by false e =
+      let is : third ≡ done = no (tries q (first .moved)) again done e in
+      let k : sweepOf boxes q ≡ done = three ∙ rw is in
+      ap (λ (s : Sweep). s .now) k
+
+  pub swept : sweepOf boxes q .now ≡ choose (tries q (first .moved)) (longer first stepped) first
+  swept = by _ refl
+
+-- what the passes end with, as a move
+abbrev pub resultOf : Vec3 → Swept → MoveResult
+resultOf delta kept = record { aabb = kept .aabb; moved = kept .moved; ground = stoppedFalling (delta .y) (kept .moved .y) }
+
+pub moves : (boxes : List Aabb) (q : Request) (s : Sweep) → s ≡ sweepOf boxes q → resultOf (q .delta) (s .now) ≡ moveOver boxes (q .aabb) (q .delta) (q .step) (q .ground)
+unfolding moveOver
+moves boxes q s e = ap (λ (k : Sweep). resultOf (q .delta) (k .now)) e ∙ ap (resultOf (q .delta)) (swept boxes q)
+
+-- with no step height there is one attempt
+pub one-attempt : (boxes : List Aabb) (aabb : Aabb) (delta : Vec3) (s : Sweep) → s ≡ sweepOf boxes record { aabb = aabb; delta = delta; step = zero64; ground = false } → s .now ≡ clipSequence boxes aabb delta
+unfolding choose lt ofBits
+one-attempt boxes aabb delta s e = ap (λ (k : Sweep). k .now) e ∙ swept boxes record { aabb = aabb; delta = delta; step = zero64; ground = false }

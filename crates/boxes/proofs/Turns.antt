@@ -1,0 +1,50 @@
+-- The loops of the code: the boxes of a pass, and the passes of a move. w is what the whole comes to. Assumes nothing.
+use mathlib.Core.Path.{_≡_, refl, sym, ap, _∙_}
+use mathlib.Core.Bool.{Bool, true, false}
+use mathlib.Core.List.{List, [], _∷_}
+use Prim.Native.Nat.{ℕ, suc, _+_, _-_, _≤_, _<_, min}
+use native.Mathlib.Omega.{arith}
+use lib.ListN.{length, getD, drop}
+use lib.Ieee.{Float}
+use Rattle.base.specs.Choose.{choose}
+use Rattle.base.proofs.Cases.{yes, no}
+use Rattle.boxes.specs.declared.Aabb.{Aabb}
+use Rattle.boxes.specs.declared.BoxList.{BoxList}
+use Rattle.boxes.specs.declared.Swept.{Swept}
+use Rattle.boxes.specs.declared.Request.{Request}
+use Rattle.boxes.specs.declared.Sweep.{Sweep}
+use Rattle.boxes.specs.Lists.{room, listOf}
+use Rattle.boxes.specs.Move.{clipAll}
+use Rattle.boxes.specs.Passes.{axisOf, clipAlong, wantedOf, goneOf, nextOf, passOf, passesFrom}
+use Rattle.boxes.proofs.Lists.{at-box, past-boxes}
+
+module _ (l : BoxList) (whole : length (l .boxes) ≡ room) (n i : ℕ) (counts : n ≡ min (l .count) room) (clip : Aabb → Aabb → Float → Float) (mover : Aabb) where
+  -- a box of a pass, which comes to e, and the end of a pass
+  pub clip-turn : (z : Aabb) (d e w : Float) → i < n → e ≡ clip (getD (l .boxes) i z) mover d → clipAll clip (drop i (listOf l)) mover d ≡ w → clipAll clip (drop (i + 1) (listOf l)) mover e ≡ w
+  unfolding clipAll
+  clip-turn z d e w h q inv = let t = rw (at-box l whole n i counts z h) at inv in rw q t
+
+  pub clip-end : (d w : Float) → n ≤ i → clipAll clip (drop i (listOf l)) mover d ≡ w → d ≡ w
+  unfolding clipAll
+  clip-end d w h inv = rw (past-boxes l whole n i counts h) at inv
+
+module _ (boxes : List Aabb) (q : Request) (pass : ℕ) (s t : Sweep) where
+  pub pass-is : (axis : ℕ) (d e : Float) (got : Swept) → axis ≡ axisOf pass → d ≡ wantedOf pass axis q (s .now) → e ≡ clipAll (clipAlong axis) boxes (s .now .aabb) d → got ≡ goneOf pass axis (s .now) e → t ≡ nextOf pass q (s .first) got → t ≡ passOf pass boxes q s
+  unfolding passOf
+  pass-is axis d e got ea ed ee eg et = rw (et, eg, ee, ed, ea)
+
+  module _ (w : Sweep) (is : t ≡ passOf pass boxes q s) where
+    turn : pass < 7 → passesFrom (7 - pass) pass boxes q s ≡ w → choose (t .over) t (passesFrom (7 - (pass + 1)) (pass + 1) boxes q t) ≡ w
+    unfolding passesFrom
+    turn h inv = let k : 7 - pass ≡ suc (7 - (pass + 1)) = omega arith in rw (k, ← is) at inv
+
+    -- after a pass the move goes on, or is over
+    pub pass-on : pass < 7 → t .over ≡ false → passesFrom (7 - pass) pass boxes q s ≡ w → passesFrom (7 - (pass + 1)) (pass + 1) boxes q t ≡ w
+    pass-on h o inv = sym (no (t .over) t _ o) ∙ turn h inv
+
+    pub pass-over : pass < 7 → t .over ≡ true → passesFrom (7 - pass) pass boxes q s ≡ w → t ≡ w
+    pass-over h o inv = sym (yes (t .over) t _ o) ∙ turn h inv
+
+pub passes-end : (boxes : List Aabb) (q : Request) (pass : ℕ) (s w : Sweep) → 7 ≤ pass → passesFrom (7 - pass) pass boxes q s ≡ w → s ≡ w
+unfolding passesFrom
+passes-end boxes q pass s w h inv = let k : 7 - pass ≡ 0 = omega arith in rw k at inv

@@ -1,0 +1,127 @@
+-- `boxes::passes::swept_over` meets its contract. Assumes nothing.
+use mathlib.Core.Path.{_≡_, refl, sym, _∙_}
+use Prim.Native.Nat.{_-_}
+use native.Mathlib.Omega.{arith}
+use lib.ListN.{length, drop, length-map}
+use borrow.Author.Needs.{needs}
+use Rattle.boxes.specs.Lists.{room, listOf}
+use Rattle.boxes.specs.Move.{clipAll}
+use Rattle.boxes.specs.Passes.{clipAlong, passesFrom}
+use Rattle.boxes.proofs.Turns.{clip-turn, clip-end, pass-is, pass-on, pass-over, passes-end}
+use Rattle.boxes.proofs.passes.swept_over.Statement.{statement}
+use Rattle.boxes.proofs.passes.swept_over.Tie as tie
+
+abbrev Inv-loop2 : tie.InvT-loop2
+Inv-loop2 q list n s pass axis now mover d₀ i₀ d i = clipAll (clipAlong axis) (drop i (listOf list)) mover d ≡ clipAll (clipAlong axis) (listOf list) mover d₀
+
+abbrev μ-loop2 : tie.MeasureT-loop2
+μ-loop2 q list n s pass axis now mover d₀ i₀ d i = n - i
+
+abbrev Inv-loop : tie.InvT-loop
+Inv-loop q list n s₀ pass₀ s pass = passesFrom (7 - pass) pass (listOf list) q s ≡ passesFrom 7 0 (listOf list) q s₀
+
+abbrev μ-loop : tie.MeasureT-loop
+μ-loop q list n s₀ pass₀ s pass = 7 - pass
+
+-- the array has its 128 elements
+whole : (c : tie.Start Inv-loop2 μ-loop2 Inv-loop μ-loop) → length (c .args .t1 .boxes) ≡ room
+whole c = sym (length-map (c .args .t1 .boxes) _) ∙ c .good .0 .1 .1 .0 .1 .0 .1
+
+counted-requires : tie.Need-counted-requires Inv-loop2 μ-loop2 Inv-loop μ-loop
+counted-requires c κs = search needs
+
+loop-holds : tie.Need-loop-holds Inv-loop2 μ-loop2 Inv-loop μ-loop
+loop-holds c = refl
+
+axis-of-requires : tie.Need-axis-of-requires Inv-loop2 μ-loop2 Inv-loop μ-loop
+axis-of-requires c κs = search needs
+
+wanted-requires : tie.Need-wanted-requires Inv-loop2 μ-loop2 Inv-loop μ-loop
+wanted-requires c κs = search needs
+
+loop2-holds : tie.Need-loop2-holds Inv-loop2 μ-loop2 Inv-loop μ-loop
+loop2-holds c = refl
+
+mul-b : tie.Need-mul-b Inv-loop2 μ-loop2 Inv-loop μ-loop
+mul-b c = omega arith
+
+element-copy-out-b : tie.Need-element-copy-out-b Inv-loop2 μ-loop2 Inv-loop μ-loop
+element-copy-out-b c = omega arith
+
+clip-along-requires : tie.Need-clip-along-requires Inv-loop2 μ-loop2 Inv-loop μ-loop
+clip-along-requires c κs = search needs
+
+add-i : tie.Need-add-i Inv-loop2 μ-loop2 Inv-loop μ-loop
+add-i c = omega arith
+
+loop2-less : tie.Need-loop2-less Inv-loop2 μ-loop2 Inv-loop μ-loop
+loop2-less c = omega arith
+
+loop2-again : tie.Need-loop2-again Inv-loop2 μ-loop2 Inv-loop μ-loop
+loop2-again c =
+    let k = c .before .before .before .before .before .before .before .before .before .before .before .before .before in
+    let x = c .before .before .before .loop2 in
+    clip-turn (k .args .t1) (whole k) (c .before .before .before .before .before .before .before .before .before .before .before .before .counted .result) (x .i) (c .before .before .before .before .before .before .before .before .before .before .before .before .counted .ensures) (clipAlong (c .before .before .before .before .before .before .before .axis-of .result)) (c .before .before .before .before .before .before .before .before .before .loop .s .now .aabb)
+    _ (x .d) (c .clip-along .result) _ (c .before .before .loop2-test .taken) (c .clip-along .ensures) (x .inv)
+
+gone-requires : tie.Need-gone-requires Inv-loop2 μ-loop2 Inv-loop μ-loop
+gone-requires c κs = search needs
+
+next-requires : tie.Need-next-requires Inv-loop2 μ-loop2 Inv-loop μ-loop
+next-requires c κs = search needs
+
+returns : tie.Need-returns Inv-loop2 μ-loop2 Inv-loop μ-loop
+returns c =
+    let k = c .before .before .before .before .before .before .before .before .before .before .before .before .before .before .before in
+    let x = c .before .before .before .before .before .loop2 in
+    let a = c .before .before .before .before .before .before .before .before .before .axis-of in
+    let l = c .before .before .before .before .before .before .before .before .before .before .before .loop in
+    let e = clip-end (k .args .t1) (whole k) (c .before .before .before .before .before .before .before .before .before .before .before .before .before .before .counted .result) (x .i) (c .before .before .before .before .before .before .before .before .before .before .before .before .before .before .counted .ensures) (clipAlong (a .result)) (l .s .now .aabb) (x .d) _ (c .before .before .before .before .loop2-test .left) (x .inv) in
+    let is = pass-is (listOf (k .args .t1)) (k .args .q) (l .pass) (l .s) (c .before .next .result) (a .result) (c .before .before .before .before .before .before .wanted .result) (x .d) (c .before .before .gone .result) (a .ensures) (c .before .before .before .before .before .before .wanted .ensures) e (c .before .before .gone .ensures) (c .before .next .ensures) in
+    pass-over (listOf (k .args .t1)) (k .args .q) (l .pass) (l .s) (c .before .next .result) _ is (c .before .before .before .before .before .before .before .before .before .before .loop-test .taken) (c .if1 .taken) (l .inv)
+
+add-pass : tie.Need-add-pass Inv-loop2 μ-loop2 Inv-loop μ-loop
+add-pass c = omega arith
+
+loop-less : tie.Need-loop-less Inv-loop2 μ-loop2 Inv-loop μ-loop
+loop-less c = omega arith
+
+loop-again : tie.Need-loop-again Inv-loop2 μ-loop2 Inv-loop μ-loop
+loop-again c =
+    let k = c .before .before .before .before .before .before .before .before .before .before .before .before .before .before .before in
+    let x = c .before .before .before .before .before .loop2 in
+    let a = c .before .before .before .before .before .before .before .before .before .axis-of in
+    let l = c .before .before .before .before .before .before .before .before .before .before .before .loop in
+    let e = clip-end (k .args .t1) (whole k) (c .before .before .before .before .before .before .before .before .before .before .before .before .before .before .counted .result) (x .i) (c .before .before .before .before .before .before .before .before .before .before .before .before .before .before .counted .ensures) (clipAlong (a .result)) (l .s .now .aabb) (x .d) _ (c .before .before .before .before .loop2-test .left) (x .inv) in
+    let is = pass-is (listOf (k .args .t1)) (k .args .q) (l .pass) (l .s) (c .before .next .result) (a .result) (c .before .before .before .before .before .before .wanted .result) (x .d) (c .before .before .gone .result) (a .ensures) (c .before .before .before .before .before .before .wanted .ensures) e (c .before .before .gone .ensures) (c .before .next .ensures) in
+    pass-on (listOf (k .args .t1)) (k .args .q) (l .pass) (l .s) (c .before .next .result) _ is (c .before .before .before .before .before .before .before .before .before .before .loop-test .taken) (c .if1 .left) (l .inv)
+
+returns-2 : tie.Need-returns-2 Inv-loop2 μ-loop2 Inv-loop μ-loop
+returns-2 c = passes-end (listOf (c .before .before .before .before .before .args .t1)) (c .before .before .before .before .before .args .q) (c .before .loop .pass) (c .before .loop .s) _ (c .loop-test .left) (c .before .loop .inv)
+
+pub swept-over-spec : {M : Type 1} → statement M
+swept-over-spec =
+    tie.close
+    (tie.spec
+    Inv-loop2
+    μ-loop2
+    Inv-loop
+    μ-loop
+    counted-requires
+    loop-holds
+    axis-of-requires
+    wanted-requires
+    loop2-holds
+    mul-b
+    element-copy-out-b
+    clip-along-requires
+    add-i
+    loop2-less
+    loop2-again
+    gone-requires
+    next-requires
+    returns
+    add-pass
+    loop-less
+    loop-again
+    returns-2)

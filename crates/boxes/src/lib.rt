@@ -1,0 +1,328 @@
+// Module 2, boxes: vectors and boxes of f64 by value, overlap, and clipping, from collision.rs. Every function takes any numbers.
+mod entry;
+mod list;
+mod passes;
+
+pub use entry::are_within;
+pub use entry::is_box;
+pub use entry::is_delta;
+pub use entry::is_step;
+pub use entry::move_over_list;
+pub use passes::clip_sequence;
+pub use passes::move_over;
+ghost use mathlib.Core.Path.{_≡_};
+ghost use Rattle.boxes.specs.Boxes.{vec, box, fromFeet, offsetBy, below0, above0, downOf, upOf, expandTowards, inflateBy, meet, overlap, feetOf, clipX, clipY, clipZ};
+ghost use Rattle.boxes.specs.Sides.{onX, onY, onZ, apartOn, ahead, behind, stopOn, clipOn};
+
+pub struct Vec3 {
+    pub x: f64,
+    pub y: f64,
+    pub z: f64,
+}
+
+pub struct Aabb {
+    pub min: Vec3,
+    pub max: Vec3,
+}
+
+// The capped list: room for 128 boxes and a count.
+pub struct BoxList {
+    pub boxes: [Aabb; 128],
+    pub count: usize,
+}
+
+// A list, or the number of a refusal and an empty list. The list is the first field, so that handing it on moves nothing.
+pub struct Collected {
+    pub list: BoxList,
+    pub refusal: u32,
+}
+
+// A box that has moved, and by how much.
+pub struct Swept {
+    pub aabb: Aabb,
+    pub moved: Vec3,
+}
+
+// What a move comes to: the box after it, the way that it went, and whether a downward move was stopped.
+pub struct MoveResult {
+    pub aabb: Aabb,
+    pub moved: Vec3,
+    pub ground: bool,
+}
+
+// A move that is handed in may be refused: refusal 0 and the move, or a refusal, the box given, moved zero, and ground false.
+pub struct MoveAnswer {
+    pub refusal: u32,
+    pub result: MoveResult,
+}
+
+// What a move is asked for.
+struct Request {
+    aabb: Aabb,
+    delta: Vec3,
+    step: f64,
+    ground: bool,
+}
+
+// Where a move stands between two passes: the attempt at hand, the first attempt, and whether the move is over.
+struct Sweep {
+    now: Swept,
+    first: Swept,
+    over: bool,
+}
+
+// A box and a mover on one axis: the box from lo to hi, the mover from `from` to `to`.
+struct Sides {
+    lo: f64,
+    hi: f64,
+    from: f64,
+    to: f64,
+}
+
+impl Vec3 {
+    pub fn new(x: f64, y: f64, z: f64) -> Vec3
+        ensures { λ r. ⌜ r ≡ vec x y z ⌝ }
+    {
+        Vec3 { x, y, z }
+    }
+}
+
+// d where it goes down, and 0 otherwise; a zero stays as it is.
+fn low(d: f64) -> f64
+    ensures { λ r. ⌜ r ≡ below0 d ⌝ }
+{
+    if d <= 0.0 { d } else { 0.0 }
+}
+
+fn high(d: f64) -> f64
+    ensures { λ r. ⌜ r ≡ above0 d ⌝ }
+{
+    if d >= 0.0 { d } else { 0.0 }
+}
+
+fn lows(d: Vec3) -> Vec3
+    ensures { λ r. ⌜ r ≡ downOf d ⌝ }
+{
+    Vec3 {
+        x: low(d.x),
+        y: low(d.y),
+        z: low(d.z),
+    }
+}
+
+fn highs(d: Vec3) -> Vec3
+    ensures { λ r. ⌜ r ≡ upOf d ⌝ }
+{
+    Vec3 {
+        x: high(d.x),
+        y: high(d.y),
+        z: high(d.z),
+    }
+}
+
+impl Aabb {
+    pub fn new(min: Vec3, max: Vec3) -> Aabb
+        ensures { λ r. ⌜ r ≡ box min max ⌝ }
+    {
+        Aabb { min, max }
+    }
+
+    // A box of width by height by width whose bottom face is centred on `feet`.
+    pub fn from_feet(feet: Vec3, width: f64, height: f64) -> Aabb
+        ensures { λ r. ⌜ r ≡ fromFeet feet width height ⌝ }
+    {
+        let half = width / 2.0;
+        Aabb {
+            min: Vec3 {
+                x: feet.x - half,
+                y: feet.y,
+                z: feet.z - half,
+            },
+            max: Vec3 {
+                x: feet.x + half,
+                y: feet.y + height,
+                z: feet.z + half,
+            },
+        }
+    }
+
+    pub fn offset(self, by: Vec3) -> Aabb
+        ensures { λ r. ⌜ r ≡ offsetBy self by ⌝ }
+    {
+        Aabb {
+            min: Vec3 {
+                x: self.min.x + by.x,
+                y: self.min.y + by.y,
+                z: self.min.z + by.z,
+            },
+            max: Vec3 {
+                x: self.max.x + by.x,
+                y: self.max.y + by.y,
+                z: self.max.z + by.z,
+            },
+        }
+    }
+
+    // Grows the box in the direction of `delta` only.
+    pub fn expand_towards(self, delta: Vec3) -> Aabb
+        ensures { λ r. ⌜ r ≡ expandTowards self delta ⌝ }
+    {
+        let down = lows(delta);
+        let up = highs(delta);
+        Aabb {
+            min: Vec3 {
+                x: self.min.x + down.x,
+                y: self.min.y + down.y,
+                z: self.min.z + down.z,
+            },
+            max: Vec3 {
+                x: self.max.x + up.x,
+                y: self.max.y + up.y,
+                z: self.max.z + up.z,
+            },
+        }
+    }
+
+    pub fn inflate(self, by: Vec3) -> Aabb
+        ensures { λ r. ⌜ r ≡ inflateBy self by ⌝ }
+    {
+        Aabb {
+            min: Vec3 {
+                x: self.min.x - by.x,
+                y: self.min.y - by.y,
+                z: self.min.z - by.z,
+            },
+            max: Vec3 {
+                x: self.max.x + by.x,
+                y: self.max.y + by.y,
+                z: self.max.z + by.z,
+            },
+        }
+    }
+
+    // Strict on all three axes: touching is no overlap.
+    pub fn intersects(self, other: Aabb) -> bool
+        ensures { λ r. ⌜ r ≡ overlap self other ⌝ }
+    {
+        if meets(self.min.x, self.max.x, other.min.x, other.max.x) {
+            if meets(self.min.y, self.max.y, other.min.y, other.max.y) {
+                return meets(self.min.z, self.max.z, other.min.z, other.max.z);
+            }
+        }
+        false
+    }
+
+    // The middle of the bottom face.
+    pub fn feet(self) -> Vec3
+        ensures { λ r. ⌜ r ≡ feetOf self ⌝ }
+    {
+        Vec3 {
+            x: (self.min.x + self.max.x) / 2.0,
+            y: self.min.y,
+            z: (self.min.z + self.max.z) / 2.0,
+        }
+    }
+
+    // How far `mover` goes along x, of dx, before it stops at this box.
+    pub fn clip_x(self, mover: Aabb, dx: f64) -> f64
+        ensures { λ r. ⌜ r ≡ clipX self mover dx ⌝ }
+    {
+        clipped(self.on_y(mover), self.on_z(mover), self.on_x(mover), dx)
+    }
+
+    pub fn clip_y(self, mover: Aabb, dy: f64) -> f64
+        ensures { λ r. ⌜ r ≡ clipY self mover dy ⌝ }
+    {
+        clipped(self.on_x(mover), self.on_z(mover), self.on_y(mover), dy)
+    }
+
+    pub fn clip_z(self, mover: Aabb, dz: f64) -> f64
+        ensures { λ r. ⌜ r ≡ clipZ self mover dz ⌝ }
+    {
+        clipped(self.on_x(mover), self.on_y(mover), self.on_z(mover), dz)
+    }
+
+    fn on_x(self, mover: Aabb) -> Sides
+        ensures { λ r. ⌜ r ≡ onX self mover ⌝ }
+    {
+        Sides {
+            lo: self.min.x,
+            hi: self.max.x,
+            from: mover.min.x,
+            to: mover.max.x,
+        }
+    }
+
+    fn on_y(self, mover: Aabb) -> Sides
+        ensures { λ r. ⌜ r ≡ onY self mover ⌝ }
+    {
+        Sides {
+            lo: self.min.y,
+            hi: self.max.y,
+            from: mover.min.y,
+            to: mover.max.y,
+        }
+    }
+
+    fn on_z(self, mover: Aabb) -> Sides
+        ensures { λ r. ⌜ r ≡ onZ self mover ⌝ }
+    {
+        Sides {
+            lo: self.min.z,
+            hi: self.max.z,
+            from: mover.min.z,
+            to: mover.max.z,
+        }
+    }
+}
+
+// Strict overlap on one axis, of al to ah and bl to bh.
+fn meets(al: f64, ah: f64, bl: f64, bh: f64) -> bool
+    ensures { λ r. ⌜ r ≡ meet al ah bl bh ⌝ }
+{
+    if al < bh { ah > bl } else { false }
+}
+
+fn are_apart(s: Sides) -> bool
+    ensures { λ r. ⌜ r ≡ apartOn s ⌝ }
+{
+    if s.to <= s.lo { true } else { s.from >= s.hi }
+}
+
+fn is_ahead(s: Sides, d: f64) -> bool
+    ensures { λ r. ⌜ r ≡ ahead s d ⌝ }
+{
+    if d > 0.0 { s.to <= s.lo } else { false }
+}
+
+fn is_behind(s: Sides, d: f64) -> bool
+    ensures { λ r. ⌜ r ≡ behind s d ⌝ }
+{
+    if d < 0.0 { s.from >= s.hi } else { false }
+}
+
+// The way d along the axis of s, stopped at the box.
+fn stopped(s: Sides, d: f64) -> f64
+    ensures { λ r. ⌜ r ≡ stopOn s d ⌝ }
+{
+    if is_ahead(s, d) {
+        return floats::lesser(d, s.lo - s.to);
+    }
+    if is_behind(s, d) {
+        return floats::greater(d, s.hi - s.from);
+    }
+    d
+}
+
+// The same, where the mover doesn't pass the box by on one of the two other axes. It serves x, y and z.
+fn clipped(first: Sides, second: Sides, along: Sides, d: f64) -> f64
+    ensures { λ r. ⌜ r ≡ clipOn first second along d ⌝ }
+{
+    if are_apart(first) {
+        return d;
+    }
+    if are_apart(second) {
+        return d;
+    }
+    stopped(along, d)
+}

@@ -1,0 +1,72 @@
+-- `connect::connects` meets its contract. Assumes nothing.
+use Rattle.connect.specs.Connect.{registeredConnects}
+use Rattle.base.specs.Choose.{choose}
+use borrow.Author.Needs.{needs}
+use Rattle.connect.proofs.connects.Statement.{statement}
+use Rattle.connect.proofs.connects.Tie as tie
+
+is-registered-requires : tie.Need-is-registered-requires
+is-registered-requires c κs = search needs
+
+word-requires : tie.Need-word-requires
+word-requires c κs = search needs
+
+both-fences-requires : tie.Need-both-fences-requires
+both-fences-requires c κs = search needs
+
+returns : tie.Need-returns
+unfolding registeredConnects choose
+returns c = rw (← c .before .before .before .before .is-registered .ensures, c .before .before .before .if1 .taken, ← c .before .before .word .ensures, ← c .before .both-fences .ensures, c .if2 .taken)
+
+both-thin-or-wall-requires : tie.Need-both-thin-or-wall-requires
+both-thin-or-wall-requires c κs = search needs
+
+returns-2 : tie.Need-returns-2
+unfolding registeredConnects choose
+returns-2 c = rw (← c .before .before .before .before .before .before .is-registered .ensures, c .before .before .before .before .before .if1 .taken, ← c .before .before .before .before .word .ensures, ← c .before .before .before .both-fences .ensures, c .before .before .if2 .left, ← c .before .both-thin-or-wall .ensures, c .if3 .taken)
+
+word-requires-2 : tie.Need-word-requires-2
+word-requires-2 c κs = search needs
+
+gate-decides-requires : tie.Need-gate-decides-requires
+gate-decides-requires c κs = search needs
+
+gate-joins-requires : tie.Need-gate-joins-requires
+gate-joins-requires c κs = search needs
+
+returns-3 : tie.Need-returns-3
+unfolding registeredConnects choose
+returns-3 c = rw (← c .before .before .before .before .before .before .before .before .before .before .is-registered .ensures, c .before .before .before .before .before .before .before .before .before .if1 .taken, ← c .before .before .before .before .before .before .before .before .word .ensures, ← c .before .before .before .before .before .before .before .both-fences .ensures, c .before .before .before .before .before .before .if2 .left, ← c .before .before .before .before .before .both-thin-or-wall .ensures, c .before .before .before .before .if3 .left, ← c .before .before .before .word2 .ensures, ← c .before .before .gate-decides .ensures, c .before .if4 .taken, ← c .gate-joins .ensures)
+
+word-requires-3 : tie.Need-word-requires-3
+word-requires-3 c κs = search needs
+
+opposite-face-requires : tie.Need-opposite-face-requires
+opposite-face-requires c κs = search needs
+
+returns-4 : tie.Need-returns-4
+unfolding registeredConnects choose
+returns-4 c = rw (← c .before .before .before .before .before .before .before .before .before .before .before .is-registered .ensures, c .before .before .before .before .before .before .before .before .before .before .if1 .taken, ← c .before .before .before .before .before .before .before .before .before .word .ensures, ← c .before .before .before .before .before .before .before .before .both-fences .ensures, c .before .before .before .before .before .before .before .if2 .left, ← c .before .before .before .before .before .before .both-thin-or-wall .ensures, c .before .before .before .before .before .if3 .left, ← c .before .before .before .before .word2 .ensures, ← c .before .before .before .gate-decides .ensures, c .before .before .if4 .left, ← c .before .word3 .ensures, ← c .opposite-face .ensures)
+
+returns-5 : tie.Need-returns-5
+unfolding registeredConnects choose
+returns-5 c = rw (← c .before .is-registered .ensures, c .if1 .left)
+
+pub connects-spec : {M : Type 1} → statement M
+connects-spec =
+    tie.close
+    (tie.spec
+    is-registered-requires
+    word-requires
+    both-fences-requires
+    returns
+    both-thin-or-wall-requires
+    returns-2
+    word-requires-2
+    gate-decides-requires
+    gate-joins-requires
+    returns-3
+    word-requires-3
+    opposite-face-requires
+    returns-4
+    returns-5)

@@ -1,0 +1,64 @@
+-- `cover::gap_on_face` meets its contract. Assumes nothing.
+use mathlib.Core.Bool.{false}
+use mathlib.Core.Path.{_≡_, sym, _∙_}
+use Prim.Native.Nat.{ℕ, _≤_, _<_, _-_}
+use native.Mathlib.Omega.{arith}
+use borrow.Author.Count.{below-more, below-none}
+use borrow.Author.Needs.{needs}
+use Rattle.base.proofs.Every.{some-none, some-at}
+use Rattle.cover.specs.Gaps.{gapPast, gapOnLine, anyGap, gapOnFace}
+use Rattle.cover.specs.Cover.{onFace, u1}
+use Rattle.cover.proofs.gap_on_face.Statement.{statement}
+use Rattle.cover.proofs.gap_on_face.Tie as tie
+
+abbrev Inv-loop : tie.InvT-loop
+Inv-loop shape face n k₀ k = (k ≤ n) × ((j : ℕ) → j < k → gapPast (onFace shape face) (u1 shape face) (gapOnLine shape face) j ≡ false)
+
+abbrev μ-loop : tie.MeasureT-loop
+μ-loop shape face n k₀ k = n - k
+
+gap-on-line-requires : tie.Need-gap-on-line-requires Inv-loop μ-loop
+gap-on-line-requires c κs = search needs
+
+returns : tie.Need-returns Inv-loop μ-loop
+unfolding gapOnFace anyGap
+returns c = rw (← c .before .gap-on-line .ensures, c .if1 .taken)
+
+loop-holds : tie.Need-loop-holds Inv-loop μ-loop
+loop-holds c = (search needs, below-none _)
+
+gap-beside-requires : tie.Need-gap-beside-requires Inv-loop μ-loop
+gap-beside-requires c κs = search needs
+
+returns-2 : tie.Need-returns-2 Inv-loop μ-loop
+unfolding gapOnFace anyGap
+returns-2 c = sym (rw (sym (c .before .before .before .before .before .gap-on-line .ensures) ∙ c .before .before .before .before .if1 .left) (some-at _ _ (c .before .before .before .loop .k) (omega arith) (sym (c .before .gap-beside .ensures) ∙ c .if2 .taken)))
+
+add-k : tie.Need-add-k Inv-loop μ-loop
+add-k c = search needs
+
+loop-less : tie.Need-loop-less Inv-loop μ-loop
+loop-less c = search needs
+
+loop-again : tie.Need-loop-again Inv-loop μ-loop
+loop-again c = (search needs, below-more _ _ (c .before .before .before .loop .inv .1) (sym (c .before .gap-beside .ensures) ∙ c .if2 .left))
+
+returns-3 : tie.Need-returns-3 Inv-loop μ-loop
+unfolding gapOnFace anyGap
+returns-3 c = sym (rw (sym (c .before .before .before .gap-on-line .ensures) ∙ c .before .before .if1 .left) (some-none _ _ (λ j h. c .before .loop .inv .1 j (omega arith))))
+
+pub gap-on-face-spec : {M : Type 1} → statement M
+gap-on-face-spec =
+    tie.close
+    (tie.spec
+    Inv-loop
+    μ-loop
+    gap-on-line-requires
+    returns
+    loop-holds
+    gap-beside-requires
+    returns-2
+    add-k
+    loop-less
+    loop-again
+    returns-3)

@@ -1,0 +1,45 @@
+-- `cover::spans_line` meets its contract. Assumes nothing.
+use borrow.Author.Needs.{needs}
+use Rattle.cover.specs.Gaps.{spans}
+use Rattle.cover.proofs.spans_line.Statement.{statement}
+use Rattle.cover.proofs.spans_line.Tie as tie
+
+on-face-requires : tie.Need-on-face-requires
+on-face-requires c κs = search needs
+
+u-place-requires : tie.Need-u-place-requires
+u-place-requires c κs = search needs
+
+number-requires : tie.Need-number-requires
+number-requires c κs = search needs
+
+returns : tie.Need-returns
+unfolding spans
+returns c = rw (← c .before .before .before .before .on-face .ensures, c .before .before .before .if1 .taken, ← c .before .before .u-place .ensures .0, ← c .before .number .ensures, c .if2 .taken)
+
+add-number : tie.Need-add-number
+add-number c = search needs
+
+number-requires-2 : tie.Need-number-requires-2
+number-requires-2 c κs = search needs
+
+returns-2 : tie.Need-returns-2
+unfolding spans
+returns-2 c = rw (← c .before .before .before .before .before .on-face .ensures, c .before .before .before .before .if1 .taken, ← c .before .before .before .u-place .ensures .0, ← c .before .before .number .ensures, c .before .if2 .left, ← c .number2 .ensures)
+
+returns-3 : tie.Need-returns-3
+unfolding spans
+returns-3 c = rw (← c .before .on-face .ensures, c .if1 .left)
+
+pub spans-line-spec : {M : Type 1} → statement M
+spans-line-spec =
+    tie.close
+    (tie.spec
+    on-face-requires
+    u-place-requires
+    number-requires
+    returns
+    add-number
+    number-requires-2
+    returns-2
+    returns-3)

@@ -1,0 +1,137 @@
+-- What the definitions of `specs/Whole.antt` come to: floor and ceiling are the whole numbers next to x (`floor-greatest`, `ceil-least`), exactly,
+-- there is one such number (`brackets-one`), and worked examples. Assumes nothing.
+use mathlib.Core.Path.{_≡_, refl, sym, ap, _∙_, subst}
+use Prim.Native.Nat.{ℕ, zero, suc, _+_, _-_, _*_, _/_, _%_, _^_, _≤_, _<_}
+use native.Mathlib.Nat.{div-mul-le-self, lt-div-mul-add, div-one, div-le-self, le-trans, le-of-eq, le-of-lt, mul-one, add-zero, div-lt-iff-lt-mul, le-of-suc-le-suc, suc-mul, le-mul-of-pos-right, mul-le-mul-right}
+use native.Mathlib.Decide.{decLe}
+use native.Mathlib.Omega.{arith}
+use mathlib.Core.Bool.{Bool, true, false, not}
+use lib.IntN.{ℤ, pos, negsuc}
+use lib.Dec.{T}
+use lib.Pow.{pow-pos}
+use lib.Ieee.{Float, nan, inf, fin, binary64, up, down, round, fits}
+use lib.Ieee.Fits.{down-pos}
+use lib.Ieee.Exact.{HasValue}
+use lib.Ieee.Back.{round-whole}
+use Rattle.base.specs.Choose.{choose}
+use Rattle.base.proofs.Values.{round-back}
+use Rattle.floats.specs.Whole.{floorSize, floorOf, ceilOf, floorInt, cellOf, wholeF}
+use Rattle.floats.specs.Root.{rootOf, rootRaised, rootFrom, nearestFrom}
+use Rattle.floats.proofs.Rounding.{small}
+
+-- n is the size of the greatest whole number that is not above a / c; for the sign true, not above -(a / c): then -n ≤ -a / c < -n + 1
+pub Brackets : Bool → ℕ → ℕ → ℕ → Type 0
+Brackets false a c n = (n * c ≤ a) × (a < n * c + c)
+Brackets true a c n = (a ≤ n * c) × (n * c < a + c)
+
+pub brackets : (s : Bool) (a c : ℕ) → 0 < c → Brackets s a c (floorSize s a c)
+unfolding Brackets floorSize
+brackets false a c C = (div-mul-le-self a c, lt-div-mul-add C)
+brackets true a c C =
+    let b = a + (c - 1) in
+    let lo : b / c * c ≤ b = div-mul-le-self b c in
+    let hi : b < b / c * c + c = lt-div-mul-add C in
+    (omega arith, omega arith)
+
+pub brackets-one : (s : Bool) (a c n k : ℕ) → 0 < c → Brackets s a c n → Brackets s a c k → n ≡ k
+unfolding Brackets
+brackets-one s a c n k C p q = either (decLe n k) (decLe k n)
+  where
+    apart : (s : Bool) (n k : ℕ) → n < k → Brackets s a c n → Brackets s a c k → ⊥
+    apart false n k h p q = let l : suc n * c ≤ k * c = mul-le-mul-right c h in omega arith
+    apart true n k h p q = let l : suc n * c ≤ k * c = mul-le-mul-right c h in omega arith
+
+    either : Dec (n ≤ k) → Dec (k ≤ n) → n ≡ k
+    either (yes l) (yes g) = omega arith
+    either (yes l) (no g) = absurd (apart s n k (omega arith) p q)
+    either (no l) _ = absurd (apart s k n (omega arith) q p)
+
+-- ---- nothing is rounded: t is the side, below or above
+raised-le : (m c : ℕ) → 0 < c → (m + (c - 1)) / c ≤ m
+raised-le m c C = le-of-suc-le-suc (div-lt-iff-lt-mul C .1 (fit m c (m * c) (suc m * c) (suc-mul m c) (le-mul-of-pos-right m C) C))
+  where
+    fit : (m c p q : ℕ) → q ≡ p + c → m ≤ p → 0 < c → m + (c - 1) < q
+    fit m c p q e h C = omega arith
+
+size-le : (t : Bool) (m k : ℕ) → floorSize t (m * 1) (2 ^ suc k) ≤ m
+unfolding floorSize
+size-le false m k = le-trans (div-le-self (m * 1) (2 ^ suc k)) (le-of-eq (mul-one m))
+size-le true m k = subst (λ (x : ℕ). (x + (2 ^ suc k - 1)) / 2 ^ suc k ≤ m) (sym (mul-one m)) (raised-le m (2 ^ suc k) (pow-pos (suc k)))
+
+size-one : (t : Bool) (a : ℕ) → floorSize t a 1 ≡ a
+unfolding floorSize
+size-one false a = div-one a
+size-one true a = div-one (a + 0) ∙ add-zero a
+
+exact : (s t : Bool) (m : ℕ) (e : ℤ) → T (fits binary64 (fin s m e)) → HasValue (wholeF s (floorSize t (m * up e) (down e))) s (floorSize t (m * up e) (down e)) 1
+exact s t m (pos k) h =
+    subst (λ (n : ℕ). HasValue (round binary64 s n 1) s n 1) (sym (size-one t (m * 2 ^ k)))
+    (subst (λ (x : Float). HasValue x s (m * 2 ^ k) 1) (sym (round-back binary64 s m (pos k) h)) (refl, refl))
+exact s t m (negsuc k) h = round-whole binary64 s (floorSize t (m * 1) (2 ^ suc k)) (le-trans (size-le t m k) (le-of-lt (small binary64 s m (negsuc k) h)))
+
+-- r is ±n, exactly, and of the sign s also where n is 0; n is the whole number next to ±a / c on the side t
+pub record NextTo (t s : Bool) (a c : ℕ) (r : Float) : Type 0 where
+  pub n : ℕ
+  pub value : HasValue r s n 1
+  pub next : Brackets t a c n
+
+pub floor-greatest : (s : Bool) (m : ℕ) (e : ℤ) → T (fits binary64 (fin s m e)) → NextTo s s (m * up e) (down e) (floorOf (fin s m e))
+unfolding floorOf
+floor-greatest s m e h = record { n = floorSize s (m * up e) (down e); value = exact s s m e h; next = brackets s (m * up e) (down e) (down-pos e) }
+
+pub ceil-least : (s : Bool) (m : ℕ) (e : ℤ) → T (fits binary64 (fin s m e)) → NextTo (not s) s (m * up e) (down e) (ceilOf (fin s m e))
+unfolding ceilOf
+ceil-least s m e h = record { n = floorSize (not s) (m * up e) (down e); value = exact s (not s) m e h; next = brackets (not s) (m * up e) (down e) (down-pos e) }
+
+-- ---- worked examples
+
+-- -0.25, -1, -0, and the largest half
+quarter : floorOf (fin true 1 (negsuc 1)) ≡ fin true 1 (pos 0)
+unfolding floorOf floorSize round
+quarter = refl
+
+minus-one : floorOf (fin true 1 (pos 0)) ≡ fin true 1 (pos 0)
+unfolding floorOf floorSize round
+minus-one = refl
+
+minus-zero : floorOf (fin true 0 (pos 0)) ≡ fin true 0 (pos 0)
+unfolding floorOf floorSize round
+minus-zero = refl
+
+largest-half : floorOf (fin true 9007199254740991 (negsuc 0)) ≡ fin true 1 (pos 52)
+unfolding floorOf floorSize round
+largest-half = refl
+
+ceil-quarter : ceilOf (fin true 1 (negsuc 1)) ≡ fin true 0 (pos 0)
+unfolding ceilOf floorSize round
+ceil-quarter = refl
+
+-- the cell of -2.5, and of what no window holds
+cell-below : cellOf (fin true 5 (negsuc 0)) ≡ negsuc 2
+unfolding cellOf choose floorInt floorSize lib.Ieee.le lib.Ieee.lt lib.Ieee.eq
+cell-below = refl
+
+cell-of-nan : cellOf nan ≡ pos 67108864
+unfolding cellOf choose lib.Ieee.le lib.Ieee.lt lib.Ieee.eq
+cell-of-nan = refl
+
+-- the roots of the largest f64, of the smallest, of the largest subnormal, of the smallest normal, and of 2
+root-of-largest : rootOf (fin false 9007199254740991 (pos 971)) ≡ fin false 9007199254740991 (pos 459)
+unfolding rootOf rootRaised rootFrom nearestFrom choose round
+root-of-largest = refl
+
+root-of-smallest : rootOf (fin false 1 (negsuc 1073)) ≡ fin false 1 (negsuc 536)
+unfolding rootOf rootRaised rootFrom nearestFrom choose round
+root-of-smallest = refl
+
+root-of-largest-subnormal : rootOf (fin false 4503599627370495 (negsuc 1073)) ≡ fin false 9007199254740991 (negsuc 563)
+unfolding rootOf rootRaised rootFrom nearestFrom choose round
+root-of-largest-subnormal = refl
+
+root-of-smallest-normal : rootOf (fin false 1 (negsuc 1021)) ≡ fin false 1 (negsuc 510)
+unfolding rootOf rootRaised rootFrom nearestFrom choose round
+root-of-smallest-normal = refl
+
+root-of-two : rootOf (fin false 1 (pos 1)) ≡ fin false 6369051672525773 (negsuc 51)
+unfolding rootOf rootRaised rootFrom nearestFrom choose round
+root-of-two = refl

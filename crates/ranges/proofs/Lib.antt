@@ -1,0 +1,3 @@
+-- The laws of ranges.
+pub mod Walks
+pub mod Sums

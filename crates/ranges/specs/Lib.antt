@@ -1,0 +1,3 @@
+-- The cells of an area, and going through them in the Rust's order.
+pub mod Ranges
+pub mod Walk

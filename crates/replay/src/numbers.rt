@@ -1,0 +1,33 @@
+// The calls of module 1.
+use floats::Answer;
+
+fn answer(line: &[u8]) -> Answer {
+    let x = crate::text::float(line, 1);
+    if crate::text::begins(line, b"floor") {
+        return floats::floor(x);
+    }
+    if crate::text::begins(line, b"ceil") {
+        return floats::ceil(x);
+    }
+    if crate::text::begins(line, b"sqrt") {
+        return floats::sqrt(x);
+    }
+    if crate::text::begins(line, b"size") {
+        return floats::size(x);
+    }
+    let y = crate::text::float(line, 2);
+    if crate::text::begins(line, b"least") {
+        return floats::least(x, y);
+    }
+    floats::greatest(x, y)
+}
+
+pub(crate) fn run(line: &[u8]) {
+    let a = answer(line);
+    if a.refusal != 0 {
+        crate::text::put(b"refused ");
+        crate::text::put_digit(a.refusal as u64);
+        crate::text::put(b" ");
+    }
+    crate::text::put_float(a.value);
+}

@@ -1,0 +1,36 @@
+-- Laws of lists: an element, and the part that is some boxes. Assumes nothing.
+use mathlib.Core.Path.{_≡_, refl}
+use mathlib.Core.List.{List, [], _∷_}
+use Prim.Native.Nat.{ℕ, zero, suc, _+_, _-_, _*_, _/_, _<_, _≤_}
+use native.Mathlib.Nat.{le-of-suc-le-suc, not-suc-le-zero}
+use native.Mathlib.Omega.{arith}
+use lib.ListN.{length, getD, take, drop}
+use lib.Ieee.{Float}
+use borrow.Author.Tests.{le-leb, lt-leb}
+use Rattle.base.specs.Choose.{choose}
+use Rattle.tables.specs.Tables.{boxesAt}
+
+-- within the list the default is not looked at
+pub getD-any : {A : Type 0} (l : List A) (i : ℕ) (d e : A) → i < length l → getD l i d ≡ getD l i e
+getD-any [] i d e h = absurd (not-suc-le-zero h)
+getD-any (x ∷ xs) zero d e h = refl
+getD-any (x ∷ xs) (suc i) d e h = getD-any xs i d e (le-of-suc-le-suc h)
+
+-- ---- b boxes from box a on are there when their numbers are, six for each
+left-over : (a n : ℕ) → a + n - a ≡ n
+left-over a n = omega arith
+
+whole : (a b n : ℕ) → a * 6 + b * 6 ≤ n → a + b ≤ n / 6
+whole a b n h = omega arith
+
+short : (a b n : ℕ) → n < a * 6 + b * 6 → n / 6 < a + b
+short a b n h = omega arith
+
+module _ (l : List Float) (a b p q : ℕ) (s : p ≡ a) (t : q ≡ b) where
+  pub whole-part : p * 6 + q * 6 ≤ length l → take (p * 6 + q * 6 - p * 6) (drop (p * 6) l) ≡ boxesAt l a b
+  unfolding boxesAt choose
+  whole-part h = rw (← s, ← t, le-leb (p + q) (length l / 6) (whole p q (length l) h), left-over)
+
+  pub short-part : length l < p * 6 + q * 6 → [] ≡ boxesAt l a b
+  unfolding boxesAt choose
+  short-part h = rw (← s, ← t, lt-leb (p + q) (length l / 6) (short p q (length l) h))

@@ -1,0 +1,27 @@
+-- `tables::word` meets its contract. Assumes nothing.
+use borrow.Author.Needs.{needs}
+use Rattle.tables.proofs.word.Statement.{statement}
+use Rattle.tables.proofs.word.Tie as tie
+
+wide-requires : tie.Need-wide-requires
+wide-requires c κs = search needs
+
+mul-word-at : tie.Need-mul-word-at
+mul-word-at c = search needs
+
+wide-requires-2 : tie.Need-wide-requires-2
+wide-requires-2 c κs = search needs
+
+add-word-at : tie.Need-add-word-at
+add-word-at c = search needs
+
+word-at-requires : tie.Need-word-at-requires
+word-at-requires c κs = search needs
+
+returns : tie.Need-returns
+returns c = rw (← c .before .before .wide .ensures, ← c .before .wide2 .ensures, ← c .word-at .ensures)
+
+pub word-spec : {M : Type 1} → statement M
+word-spec =
+    tie.close
+    (tie.spec wide-requires mul-word-at wide-requires-2 add-word-at word-at-requires returns)

@@ -1,0 +1,3 @@
+-- The definitions of the lent tables: their look-ups and their check.
+pub mod Tables
+pub mod Check

@@ -1,0 +1,184 @@
+// The lent tables: records of 20 words, boxes of six numbers, and their check.
+ghost use mathlib.Core.Path.{_≡_};
+ghost use lib.ListN.{getD};
+ghost use lib.Ieee.{ofBits, binary32};
+ghost use Rattle.tables.specs.Tables.{wordAt, isRegistered, blocksMotion, frictionAt, kindOf, liquidOf, liquidAt, boxesAt, stateBoxes, floatAt, boxAt};
+ghost use Rattle.tables.specs.Check.{tableRefusal};
+
+mod check;
+
+// A kind of liquid, in the order of word 2's numbers.
+pub enum LiquidKind {
+    None,
+    Water,
+    Lava,
+}
+
+// The liquid of a state: depth 0 to 7, or 8 to 15 where it is falling; 0 where there is none.
+pub struct LiquidState {
+    pub kind: LiquidKind,
+    pub depth: u32,
+}
+
+// A box of a shape, in its block's coordinates.
+pub struct ShapeBox {
+    pub x0: f64,
+    pub y0: f64,
+    pub z0: f64,
+    pub x1: f64,
+    pub y1: f64,
+    pub z1: f64,
+}
+
+fn wide(x: u32) -> usize
+    ensures { λ r. ⌜ r ≡ x ⌝ }
+{
+    x as usize
+}
+
+// The word at place i: 0 where there is none.
+fn word_at(records: &[u32], i: usize) -> u32
+    ensures { λ r. ⌜ r ≡ getD (now (records .entry)) i 0 ⌝ }
+{
+    if i < records.len() { records[i] } else { 0 }
+}
+
+// Word k of a state's record: 0 where there is none.
+pub fn word(records: &[u32], state: u32, k: u32) -> u32
+    ensures { λ r. ⌜ r ≡ wordAt (now (records .entry)) state k ⌝ }
+{
+    word_at(records, wide(state) * 20 + wide(k))
+}
+
+pub fn is_registered(records: &[u32], state: u32) -> bool
+    ensures { λ r. ⌜ r ≡ isRegistered (now (records .entry)) state ⌝ }
+{
+    word(records, state, 0) % 2 == 1
+}
+
+pub fn blocks_motion(records: &[u32], state: u32) -> bool
+    ensures { λ r. ⌜ r ≡ blocksMotion (now (records .entry)) state ⌝ }
+{
+    word(records, state, 0) / 2 % 2 == 1
+}
+
+// The number with these f32 bits. Above the infinity's, with the sign's bit off, they are a NaN's.
+fn float_of(bits: u32) -> f64
+    ensures { λ r. ⌜ r ≡ ofBits binary32 bits ⌝ }
+{
+    if bits % 0x8000_0000 <= 0x7f80_0000 {
+        return std::num::f32_to_f64_with_nan(f32::from_bits(bits));
+    }
+    0.0 / 0.0
+}
+
+// A state's friction: 0.0 where there is no record, a NaN where its bits are a NaN's.
+pub fn friction(records: &[u32], state: u32) -> f64
+    ensures { λ r. ⌜ r ≡ frictionAt (now (records .entry)) state ⌝ }
+{
+    float_of(word(records, state, 1))
+}
+
+fn kind_of(number: u32) -> LiquidKind
+    ensures { λ r. ⌜ r ≡ kindOf number ⌝ }
+{
+    if number == 1 {
+        return LiquidKind::Water;
+    }
+    if number == 2 {
+        return LiquidKind::Lava;
+    }
+    LiquidKind::None
+}
+
+fn liquid_of(number: u32, depth: u32) -> LiquidState
+    ensures { λ r. ⌜ r ≡ liquidOf number depth ⌝ }
+{
+    let kind = kind_of(number);
+    match kind {
+        LiquidKind::None => LiquidState {
+            kind: LiquidKind::None,
+            depth: 0,
+        },
+        LiquidKind::Water => LiquidState { kind, depth },
+        LiquidKind::Lava => LiquidState { kind, depth },
+    }
+}
+
+// The liquid of a state; an unknown state, or one that is no liquid, has none.
+pub fn liquid_state(records: &[u32], state: u32) -> LiquidState
+    ensures { λ r. ⌜ r ≡ liquidAt (now (records .entry)) state ⌝ }
+{
+    if is_registered(records, state) {
+        let number = word(records, state, 2);
+        let depth = word(records, state, 3);
+        return liquid_of(number, depth);
+    }
+    LiquidState {
+        kind: LiquidKind::None,
+        depth: 0,
+    }
+}
+
+// The part of the shapes that is `count` boxes from box `first` on: nothing where it is not there whole.
+pub fn boxes_at(shapes: &[f32], first: u32, count: u32) -> &[f32]
+    ensures { λ r. ⌜ now r ≡ boxesAt (now (shapes .entry)) first count ⌝ }
+{
+    let start = wide(first) * 6;
+    let end = start + wide(count) * 6;
+    if end <= shapes.len() {
+        return &shapes[start..end];
+    }
+    &shapes[0..0]
+}
+
+// The boxes of a state, as a part of the lent shapes.
+pub fn state_boxes<'a>(records: &[u32], shapes: &'a [f32], state: u32) -> &'a [f32]
+    ensures { λ r. ⌜ now r ≡ stateBoxes (now (records .entry)) (now (shapes .entry)) state ⌝ }
+{
+    let first = word(records, state, 7);
+    let count = word(records, state, 8);
+    boxes_at(shapes, first, count)
+}
+
+// Number i of a shape: 0.0 where there is none.
+pub fn float_at(shape: &[f32], i: usize) -> f64
+    ensures { λ r. ⌜ r ≡ floatAt (now (shape .entry)) i ⌝ }
+{
+    if i < shape.len() {
+        return std::num::f32_to_f64_with_nan(shape[i]);
+    }
+    0.0
+}
+
+// Box k of a shape.
+pub fn box_at(shape: &[f32], k: u32) -> ShapeBox
+    ensures { λ r. ⌜ r ≡ boxAt (now (shape .entry)) k ⌝ }
+{
+    let i = wide(k) * 6;
+    let x0 = float_at(shape, i);
+    let y0 = float_at(shape, i + 1);
+    let z0 = float_at(shape, i + 2);
+    let x1 = float_at(shape, i + 3);
+    let y1 = float_at(shape, i + 4);
+    let z1 = float_at(shape, i + 5);
+    ShapeBox {
+        x0,
+        y0,
+        z0,
+        x1,
+        y1,
+        z1,
+    }
+}
+
+// The table check: 0 where every rule and limit of the lent tables holds, and 1 where one breaks.
+pub fn check_tables(records: &[u32], shapes: &[f32]) -> u32
+    ensures { λ r. ⌜ r ≡ tableRefusal (now (records .entry)) (now (shapes .entry)) ⌝ }
+{
+    if check::tables_fit(records, shapes) {
+        0
+    } else {
+        1
+    }
+}
