@@ -1,14 +1,15 @@
 -- Bytes compared one after the other, and a part looked for at one place after the other. Assumes nothing.
-use mathlib.Core.Path.{_≡_, refl, sym, ap, _∙_, subst}
-use mathlib.Core.Bool.{Bool, true, false, _&&_, _||_}
+use mathlib.Core.Path.{_≡_, refl, sym, ap, _∙_}
+use mathlib.Core.Bool.{Bool, true, false, _&&_, _||_, true≢false}
 use mathlib.Core.List.{List, [], _∷_}
-use Prim.Native.Nat.{ℕ, zero, suc, _+_, _-_, _≤_, _<_, min}
+use Prim.Native.Nat.{ℕ, suc, _+_, _-_, _≤_, _<_, min}
 use native.Mathlib.Numerals.{add-one}
 use native.Mathlib.Omega.{arith}
-use lib.Dec.{T, eqb}
+use lib.Dec.{eqb}
 use lib.ListN.{length, getD, take, drop, length-take, length-drop, drop-of-length-le}
 use lib.Seq.{drop-cons, take-all}
 use borrow.Author.Tests.{eq-eqb, ne-eqb}
+use Rattle.base.proofs.Every.{and-right}
 use Rattle.idents.specs.Bytes.{equal, endsWith, startsWith, hasWithin}
 
 -- one element more
@@ -22,11 +23,7 @@ unfolding equal
 unequal [] [] h = absurd (h refl)
 unequal [] (y ∷ b) h = refl
 unequal (x ∷ a) [] h = refl
-unequal (x ∷ a) (y ∷ b) h = ap (λ (t : Bool). eqb x y && t) (unequal a b (λ e. h (ap suc e))) ∙ and-false (eqb x y)
-  where
-    and-false : (t : Bool) → (t && false) ≡ false
-    and-false true = refl
-    and-false false = refl
+unequal (x ∷ a) (y ∷ b) h = and-right (eqb x y) (equal a b) (unequal a b (λ e. h (ap suc e)))
 
 -- what is left of the two from place i on; w is what the whole comes to
 module _ (a b : List ℕ) (e : length a ≡ length b) (i : ℕ) (w : Bool) (inv : equal (drop i a) (drop i b) ≡ w) where
@@ -84,7 +81,7 @@ within-short (b ∷ l) p h = rw (starts-short (b ∷ l) p h, within-short l p (o
 -- no bytes start anything
 pub starts-part : (l p : List ℕ) → startsWith l p ≡ false → 0 < length p
 unfolding startsWith equal
-starts-part l [] e = absurd (subst T e tt)
+starts-part l [] e = absurd (true≢false e)
 starts-part l (b ∷ p) e = omega arith
 
 -- what is left from place k on; w is what the whole comes to

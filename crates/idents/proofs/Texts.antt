@@ -1,37 +1,31 @@
 -- What the tests on bytes come to: `equal` is equality, `endsWith` finds the identifier to be something and the suffix, and `hasWithin` something,
 -- the part and something more; and each finds what is there. Assumes nothing.
-use mathlib.Core.Path.{_≡_, refl, sym, ap, _∙_, subst}
-use mathlib.Core.Bool.{Bool, true, false, _&&_, _||_}
+use mathlib.Core.Path.{_≡_, refl, sym, ap, _∙_}
+use mathlib.Core.Bool.{Bool, true, false, _||_, false≢true}
 use mathlib.Core.List.{List, [], _∷_, _++_}
-use Prim.Native.Nat.{ℕ, zero, suc, _+_, _-_, _≤_}
+use Prim.Native.Nat.{ℕ, _-_}
 use native.Mathlib.Omega.{arith}
-use lib.Dec.{T, eqb, eqb→eq, eqb-refl}
-use lib.Ieee.Fits.{and-l, and-r}
+use lib.Dec.{eqb}
 use lib.ListN.{length, take, drop, length-append, take-append-drop}
 use lib.Seq.{take-append-seam, drop-append-seam}
+use borrow.Author.Tests.{eqb-true, eq-eqb}
+use Rattle.base.proofs.Every.{both}
 use Rattle.idents.specs.Bytes.{equal, endsWith, startsWith, hasWithin}
-
-holds : (t : Bool) → t ≡ true → T t
-holds t e = subst T (sym e) tt
-
-is-true : (t : Bool) → T t → t ≡ true
-is-true true h = refl
-is-true false h = absurd h
 
 -- ---- equal
 pub equal-same : (a b : List ℕ) → equal a b ≡ true → a ≡ b
 unfolding equal
 equal-same [] [] e = refl
-equal-same [] (y ∷ b) e = absurd (holds false e)
-equal-same (x ∷ a) [] e = absurd (holds false e)
+equal-same [] (y ∷ b) e = absurd (false≢true e)
+equal-same (x ∷ a) [] e = absurd (false≢true e)
 equal-same (x ∷ a) (y ∷ b) e =
-    let h : T (eqb x y && equal a b) = holds (eqb x y && equal a b) e in
-    λ i. eqb→eq x y (and-l (eqb x y) (equal a b) h) i ∷ equal-same a b (is-true (equal a b) (and-r (eqb x y) (equal a b) h)) i
+    let h = both (eqb x y) (equal a b) e in
+    λ i. eqb-true x y (h .one) i ∷ equal-same a b (h .two) i
 
 pub same-equal : (a : List ℕ) → equal a a ≡ true
 unfolding equal
 same-equal [] = refl
-same-equal (x ∷ a) = rw (is-true (eqb x x) (eqb-refl x), same-equal a)
+same-equal (x ∷ a) = rw (eq-eqb x x refl, same-equal a)
 
 -- ---- endsWith
 pub ends-split : (id suffix : List ℕ) → endsWith id suffix ≡ true → take (length id - length suffix) id ++ suffix ≡ id

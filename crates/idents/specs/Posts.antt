@@ -8,7 +8,8 @@ use Rattle.idents.specs.declared.Properties.{Properties}
 use Rattle.idents.specs.declared.Post.{Post}
 use Rattle.idents.specs.declared.Post.the-variants.{Never, Always, North, East, South, West, BadDirection}
 use Rattle.idents.specs.Bytes.{bytes, equal, endsWith, hasWithin}
-use Rattle.idents.specs.Connects.{connectsAs}
+use Rattle.idents.specs.declared.Connects.the-variants.{Wall}
+use Rattle.idents.specs.Connects.{connectsNumber, connectsAs}
 
 -- the numbers of word 6; where the Rust panics, a number that no word 6 has
 abbrev pub postNumber : Post → ℕ
@@ -20,9 +21,9 @@ postNumber South = 4
 postNumber West = 5
 postNumber BadDirection = 255
 
--- 255 marks a property that the block has not
-abbrev pub absent : ℕ → Bool
-absent v = eqb v 255
+-- 255 marks a property that the block does not have
+abbrev pub present : ℕ → Bool
+present v = not (eqb v 255)
 
 abbrev pub raised : Bool → Post
 raised b = choose b Always Never
@@ -42,8 +43,8 @@ unfoldable pub postRule : List ℕ → Properties → Post
 postRule id p =
     choose (endsWith id (bytes "lantern")) (raised (eqb (p .hanging) 0))
     (choose (endsWith id (bytes "standing_sign")) Always
-    (choose (not (absent (p .torch))) (raised (eqb (p .torch) 1))
-    (choose (eqb (connectsAs id (p .«wall_north») (p .«fence_north»)) 4) (raised (eqb (p .«wall_post») 1))
+    (choose (present (p .torch)) (raised (eqb (p .torch) 1))
+    (choose (eqb (connectsAs id (p .«wall_north») (p .«fence_north»)) (connectsNumber Wall)) (raised (eqb (p .«wall_post») 1))
     (choose (isWoodenTrapdoor id && eqb (p .open) 1) (facing (p .direction))
     Never))))
 

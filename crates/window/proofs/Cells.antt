@@ -1,20 +1,20 @@
 -- The cells of a window: inside a window that passes its check each cell has a place of its own among the lent cells, so that the look-up refuses
 -- the outside cells and no others. Assumes nothing.
 use mathlib.Core.Path.{_≡_, refl, sym, ap, _∙_, subst}
-use mathlib.Core.Bool.{Bool, true, false, _&&_}
+use mathlib.Core.Bool.{Bool, true, false, _&&_, false≢true}
 use mathlib.Core.List.{List}
-use Prim.Native.Nat.{ℕ, zero, suc, _+_, _*_, _-_, _/_, _%_, _≤_, _<_}
+use Prim.Native.Nat.{ℕ, _+_, _*_, _/_, _%_, _<_}
 use native.Mathlib.Nat.{mul-comm, mul-assoc}
 use native.Mathlib.Omega.{arith}
 use lib.Arith.{digits-lt, digits-div, digits-mod}
-use lib.Dec.{T, leb, ltb, eqb, ltb→lt, eqb→eq}
+use lib.Dec.{leb, ltb, eqb}
 use lib.IntN.{ℤ, pos, negsuc, natAbs, _+ℤ_, _-ℤ_, -ℤ-+ℤ-cancel}
-use lib.Ieee.Fits.{and-l, and-r}
 use lib.ListN.{length, getD}
 use lib.Signed.{ltZ, leZ}
-use borrow.Author.Tests.{lt-ltb}
+use borrow.Author.Tests.{ltb-true, eqb-true, lt-ltb}
+use Rattle.base.proofs.Every.{both}
 use Rattle.base.specs.Choose.{choose}
-use Rattle.base.specs.Ask.{Ask, refused, found}
+use Rattle.base.specs.Ask.{refused, found}
 use Rattle.window.specs.declared.Pos.{Pos}
 use Rattle.window.specs.declared.Sizes.{Sizes}
 use Rattle.window.specs.declared.Window.{Window}
@@ -22,22 +22,28 @@ use Rattle.window.specs.Window.{within, inside, placeOf, indexOf, sizesF
 use Rattle.window.specs.Look.{Block, blockOf, lookAt}
 use Rattle.window.proofs.Offsets.{within-by}
 
--- on one axis: the difference to the origin is below the size, and tells the coordinate
-below-size : (o : ℤ) (n : ℕ) (c : ℤ) → T (within o n c) → natAbs (c -ℤ o) < n
-below-size o n c t = go (c -ℤ o) (subst T (within-by o n c) t)
-  where
-    go : (d : ℤ) → T (leZ (pos 0) d && ltZ d (pos n)) → natAbs d < n
-    go (pos k) t = ltb→lt k n (and-r (leb 0 k) (ltb k n) t)
-    go (negsuc k) t = absurd t
+-- on one axis: the difference to the origin is not below zero and below the size, and tells the coordinate
+record Ahead (d : ℤ) (n : ℕ) : Type 0 where
+  pub size : ℕ
+  pub is : d ≡ pos size
+  pub small : size < n
 
-same-coordinate : (o : ℤ) (n : ℕ) (c d : ℤ) → T (within o n c) → T (within o n d) → natAbs (c -ℤ o) ≡ natAbs (d -ℤ o) → c ≡ d
-same-coordinate o n c d t u e =
-    sym (-ℤ-+ℤ-cancel c o) ∙ ap (λ (z : ℤ). z +ℤ o) (go (c -ℤ o) (d -ℤ o) (subst T (within-by o n c) t) (subst T (within-by o n d) u) e) ∙ -ℤ-+ℤ-cancel d o
+ahead : (o : ℤ) (n : ℕ) (c : ℤ) → within o n c ≡ true → Ahead (c -ℤ o) n
+ahead o n c e = go (c -ℤ o) (sym (within-by o n c) ∙ e)
   where
-    go : (a b : ℤ) → T (leZ (pos 0) a && ltZ a (pos n)) → T (leZ (pos 0) b && ltZ b (pos n)) → natAbs a ≡ natAbs b → a ≡ b
-    go (pos a) (pos b) t u e = ap pos e
-    go (pos a) (negsuc b) t u e = absurd u
-    go (negsuc a) b t u e = absurd t
+    go : (d : ℤ) → (leZ (pos 0) d && ltZ d (pos n)) ≡ true → Ahead d n
+    go (pos k) e = record { size = k; is = refl; small = ltb-true k n (both (leb 0 k) (ltb k n) e .two) }
+    go (negsuc k) e = absurd (false≢true e)
+
+below-size : (o : ℤ) (n : ℕ) (c : ℤ) → within o n c ≡ true → natAbs (c -ℤ o) < n
+below-size o n c e = let a = ahead o n c e in subst (λ (d : ℤ). natAbs d < n) (sym (a .is)) (a .small)
+
+same-coordinate : (o : ℤ) (n : ℕ) (c d : ℤ) → within o n c ≡ true → within o n d ≡ true → natAbs (c -ℤ o) ≡ natAbs (d -ℤ o) → c ≡ d
+same-coordinate o n c d t u e =
+    let a = ahead o n c t in
+    let b = ahead o n d u in
+    let k : a .size ≡ b .size = ap natAbs (sym (a .is)) ∙ e ∙ ap natAbs (b .is) in
+    sym (-ℤ-+ℤ-cancel c o) ∙ ap (λ (z : ℤ). z +ℤ o) (a .is ∙ ap pos k ∙ sym (b .is)) ∙ -ℤ-+ℤ-cancel d o
 
 -- ---- places
 -- a place is a number of three digits
@@ -59,22 +65,17 @@ same-place s x y z u v w hx hz hu hw e =
     (last-digit _ _ (s .x) x u hx hu e, other-digits y v (s .z) z w hz hw r, last-digit y v (s .z) z w hz hw r)
 
 -- ---- the cells inside
-holds : (b : Bool) → b ≡ true → T b
-holds b e = subst T (sym e) tt
-
 pub record Inside (w : Window) (p : Pos) : Type 0 where
-  pub x : T (within (w .origin .x) (w .sizes .x) (p .x))
-  pub y : T (within (w .origin .y) (w .sizes .y) (p .y))
-  pub z : T (within (w .origin .z) (w .sizes .z) (p .z))
+  pub x : within (w .origin .x) (w .sizes .x) (p .x) ≡ true
+  pub y : within (w .origin .y) (w .sizes .y) (p .y) ≡ true
+  pub z : within (w .origin .z) (w .sizes .z) (p .z) ≡ true
 
 pub is-inside : (w : Window) (p : Pos) → inside w p ≡ true → Inside w p
 unfolding inside
 is-inside w p e =
-    let a : Bool = within (w .origin .x) (w .sizes .x) (p .x) in
-    let b : Bool = within (w .origin .y) (w .sizes .y) (p .y) in
-    let c : Bool = within (w .origin .z) (w .sizes .z) (p .z) in
-    let t : T (a && b && c) = holds (a && b && c) e in
-    record { x = and-l a b (and-l (a && b) c t); y = and-r a b (and-l (a && b) c t); z = and-r (a && b) c t }
+    let xyz = both (within (w .origin .x) (w .sizes .x) (p .x) && within (w .origin .y) (w .sizes .y) (p .y)) (within (w .origin .z) (w .sizes .z) (p .z)) e in
+    let xy = both (within (w .origin .x) (w .sizes .x) (p .x)) (within (w .origin .y) (w .sizes .y) (p .y)) (xyz .one) in
+    record { x = xy .one; y = xy .two; z = xyz .two }
 
 -- how far an inside cell lies from the origin
 pub record Near (w : Window) (p : Pos) : Type 0 where
@@ -120,7 +121,7 @@ unfolding windowFits
 index-lent cells w p f i =
     let n = w .sizes .x * w .sizes .y * w .sizes .z in
     let fits = sizesFit (w .sizes) && originFits (w .origin) in
-    let e : length cells ≡ n = eqb→eq (length cells) n (and-r fits (eqb (length cells) n) (holds (fits && eqb (length cells) n) f)) in
+    let e : length cells ≡ n = eqb-true (length cells) n (both fits (eqb (length cells) n) f .two) in
     subst (λ (k : ℕ). indexOf w p < k) (sym e) (index-below w p i)
 
 -- so no inside cell is refused: what stands at its place is found

@@ -2,23 +2,22 @@
 use mathlib.Core.Path.{_≡_, refl, sym, ap, _∙_, subst}
 use mathlib.Core.Bool.{Bool, true, false, _&&_}
 use mathlib.Core.List.{List}
-use Prim.Native.Nat.{ℕ, zero, suc, _+_, _*_, _≤_, _<_, _^_}
+use Prim.Native.Nat.{ℕ, _<_, _^_}
 use native.Mathlib.Omega.{arith}
-use lib.Dec.{T, leb, ltb, eqb, leb·zero}
+use lib.Dec.{T, ltb, eqb, leb·zero}
 use lib.IntN.{ℤ, pos, negsuc, natAbs, _+ℤ_, _-ℤ_, +ℤ-idl, +ℤ-comm, -ℤ-+ℤ-cancel}
 use lib.ListN.{length, getD}
 use lib.Signed.{ltZ, leZ}
 use borrow.Author.Tests.{le-ltb}
 use Rattle.base.specs.Choose.{choose}
-use Rattle.base.specs.Ask.{Ask, refused, found}
+use Rattle.base.specs.Ask.{refused, found}
 use Rattle.window.specs.declared.Pos.{Pos}
 use Rattle.window.specs.declared.Sizes.{Sizes}
 use Rattle.window.specs.declared.Window.{Window}
-use Rattle.window.specs.declared.Cell.{Cell}
 use Rattle.window.specs.declared.Cell.the-variants.{Outside, Unloaded, State}
-use Rattle.window.specs.Window.{within, inside, placeOf, indexOf}
-use Rattle.window.specs.Look.{Block, none, some, blockOf, lookAt, asked}
-use Rattle.window.specs.Offsets.{offsetOf, cellOf, cellAt, cellIn}
+use Rattle.window.specs.Window.{within, inside, indexOf}
+use Rattle.window.specs.Look.{none, some, blockOf, lookAt, asked}
+use Rattle.window.specs.Offsets.{offsetOf, cellAt, cellIn}
 use Rattle.window.proofs.Order.{lt-moved, le-moved}
 
 -- on one axis, by the difference to the origin

@@ -1,9 +1,9 @@
 -- The order of signed numbers is kept when both sides move by the same number. Assumes nothing.
-use mathlib.Core.Path.{_≡_, refl, sym, ap, _∙_}
-use mathlib.Core.Bool.{Bool, true, false}
-use Prim.Native.Nat.{ℕ, zero, suc, _≤_, _<_}
-use lib.Dec.{leb, ltb, leb·suc-suc, leb·zero, leb·suc-zero}
-use lib.IntN.{ℤ, pos, negsuc, negℤ, sucℤ, predℤ, suc-pred, _+ℤ_, _-ℤ_, ℤ-ind, +ℤ-assoc, +ℤ-one, +ℤ-idr, -ℤ-one}
+use mathlib.Core.Path.{_≡_, refl, sym, _∙_}
+use mathlib.Core.Bool.{Bool}
+use Prim.Native.Nat.{zero, suc}
+use lib.Dec.{leb·suc-suc, leb·zero, leb·suc-zero}
+use lib.IntN.{ℤ, pos, negsuc, negℤ, sucℤ, predℤ, suc-pred, _+ℤ_, ℤ-ind, +ℤ-assoc, +ℤ-one, +ℤ-idr, -ℤ-one}
 use lib.Signed.{ltZ, leZ}
 
 lt-suc : (a b : ℤ) → ltZ (sucℤ a) (sucℤ b) ≡ ltZ a b

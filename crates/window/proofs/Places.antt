@@ -1,14 +1,14 @@
 -- The place of a cell among the lent cells, worked out without wrapping. Assumes nothing.
-use mathlib.Core.Path.{_≡_, sym, _∙_}
+use mathlib.Core.Path.{_≡_, sym}
 use mathlib.Core.List.{List}
-use Prim.Native.Nat.{ℕ, _+_, _*_, _-_, _/_, _≤_, _<_, _^_}
+use Prim.Native.Nat.{ℕ, _+_, _*_, _-_, _/_, _≤_, _<_}
 use native.Mathlib.Nat.{mul-zero, zero-add, le-div-iff-mul-le, div-lt-iff-lt-mul}
 use native.Mathlib.Omega.{arith}
 use lib.ListN.{length}
 use borrow.Author.Tests.{le-ltb}
 use Rattle.base.proofs.Cases.{no}
 use Rattle.window.specs.declared.Cell.the-variants.{Outside}
-use Rattle.window.specs.Offsets.{cellOf, cellAt}
+use Rattle.window.specs.Offsets.{cellAt}
 
 -- no cell was lent for a place
 pub unlent : (cells : List ℕ) (i : ℕ) → length cells ≤ i → Outside ≡ cellAt cells i

@@ -1,5 +1,5 @@
 -- The one look-up: a cell inside is unloaded or has a state; a cell outside the window is refused, and never taken for unloaded.
-use mathlib.Core.Bool.{Bool, _&&_}
+use mathlib.Core.Bool.{_&&_}
 use mathlib.Core.List.{List}
 use Prim.Native.Nat.{ℕ}
 use lib.Dec.{ltb, eqb}

@@ -1,6 +1,5 @@
 -- What the program works with: how far a coordinate lies above the origin's, as an unsigned number, and the cell at three such offsets.
 -- `proofs/Offsets` shows that this comes to the look-up as defined in `Look`.
-use mathlib.Core.Bool.{Bool, _&&_}
 use mathlib.Core.List.{List}
 use Prim.Native.Nat.{ℕ}
 use lib.Dec.{ltb, eqb}

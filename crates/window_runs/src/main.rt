@@ -159,6 +159,16 @@ fn look_unchecked(cells: &[u32]) {
     );
 }
 
+fn run(cells: &[u32]) {
+    check_counts(cells);
+    check_sizes(cells);
+    check_origins(cells);
+    look_inside(cells);
+    look_past_rim(cells);
+    look_far_out(cells);
+    look_unchecked(cells);
+}
+
 fn main() {
     let mut cells = [3u32; 266240];
     cells[0] = 10;
@@ -168,11 +178,5 @@ fn main() {
     cells[64] = 12;
     cells[4096] = 13;
     cells[262143] = 14;
-    check_counts(&cells);
-    check_sizes(&cells);
-    check_origins(&cells);
-    look_inside(&cells);
-    look_past_rim(&cells);
-    look_far_out(&cells);
-    look_unchecked(&cells);
+    run(&cells);
 }

@@ -54,7 +54,23 @@ rule-requires-5 c κs = search needs
 
 returns : tie.Need-returns
 unfolding wallPost postRule
-returns c = rw (← c .before .before .before .before .before .before .before .before .before .before .before .before .before .before .before .before .before .before .before .before .connects-as .ensures, ← c .before .before .before .before .before .before .before .before .before .before .before .before .before .before .before .before .before .before .before .connects-number .ensures, ← c .before .before .before .before .before .before .before .before .before .before .before .before .before .before .before .before .before .before .is-wooden-trapdoor .ensures, ← c .before .before .before .before .before .before .before .before .before .before .before .before .before .before .raised-if .ensures, ← c .before .before .before .before .before .before .before .before .before .before .before .before .raised-if2 .ensures, ← c .before .before .before .before .before .before .before .before .before .before .before .facing-side .ensures, ← c .before .before .before .before .before .before .before .before .before .before .rule .ensures, ← c .before .before .before .before .before .before .before .before .before .rule2 .ensures, ← c .before .before .before .before .before .before .before .before .rule3 .ensures, ← c .before .before .before .before .before .before .ends-with .ensures, ← c .before .before .before .before .before .rule4 .ensures, ← c .before .before .before .ends-with2 .ensures, ← c .before .raised-if3 .ensures, ← c .rule5 .ensures)
+returns c =
+    rw (
+      c .rule5 .ensures,
+      c .before .raised-if3 .ensures,
+      c .before .before .before .ends-with2 .ensures,
+      c .before .before .before .before .before .rule4 .ensures,
+      c .before .before .before .before .before .before .ends-with .ensures,
+      c .before .before .before .before .before .before .before .before .rule3 .ensures,
+      c .before .before .before .before .before .before .before .before .before .rule2 .ensures,
+      c .before .before .before .before .before .before .before .before .before .before .rule .ensures,
+      c .before .before .before .before .before .before .before .before .before .before .before .facing-side .ensures,
+      c .before .before .before .before .before .before .before .before .before .before .before .before .raised-if2 .ensures,
+      c .before .before .before .before .before .before .before .before .before .before .before .before .before .before .raised-if .ensures,
+      c .before .before .before .before .before .before .before .before .before .before .before .before .before .before .before .before .before .before .is-wooden-trapdoor .ensures,
+      c .before .before .before .before .before .before .before .before .before .before .before .before .before .before .before .before .before .before .before .connects-number .ensures,
+      c .before .before .before .before .before .before .before .before .before .before .before .before .before .before .before .before .before .before .before .before .connects-as .ensures,
+    )
 
 pub wall-post-spec : {M : Type 1} → statement M
 wall-post-spec =

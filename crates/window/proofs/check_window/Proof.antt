@@ -1,6 +1,7 @@
 -- `window::check_window` meets its contract. Assumes nothing.
+use mathlib.Core.Path.{sym, _∙_}
 use native.Mathlib.Omega.{arith}
-use Rattle.window.proofs.Check.{small, layer-count, cell-count}
+use Rattle.window.proofs.Check.{sizes-small, layer-count, cell-count}
 use Rattle.window.specs.Window.{windowRefusal, windowFits}
 use Rattle.base.specs.Choose.{choose}
 use borrow.Author.Tests.{eq-eqb, ne-eqb}
@@ -15,13 +16,13 @@ origin-fits-requires : tie.Need-origin-fits-requires
 origin-fits-requires c κs = search needs
 
 mul-product : tie.Need-mul-product
-mul-product c = let s = c .before .before .before .before .before .before .args .w .sizes in omega (arith, layer-count s (small (c .before .before .before .before .sizes-fit .ensures) (c .before .before .before .if1 .taken)))
+mul-product c = let s = c .before .before .before .before .before .before .args .w .sizes in omega (arith, layer-count s (sizes-small s (sym (c .before .before .before .before .sizes-fit .ensures) ∙ c .before .before .before .if1 .taken)))
 
 mul-product-2 : tie.Need-mul-product-2
-mul-product-2 c = let s = c .before .before .before .before .before .before .before .args .w .sizes in omega (arith, cell-count s (small (c .before .before .before .before .before .sizes-fit .ensures) (c .before .before .before .before .if1 .taken)))
+mul-product-2 c = let s = c .before .before .before .before .before .before .before .args .w .sizes in omega (arith, cell-count s (sizes-small s (sym (c .before .before .before .before .before .sizes-fit .ensures) ∙ c .before .before .before .before .if1 .taken)))
 
 cast-if3 : tie.Need-cast-if3
-cast-if3 c = let s = c .before .before .before .before .before .before .before .args .w .sizes in omega (arith, cell-count s (small (c .before .before .before .before .before .sizes-fit .ensures) (c .before .before .before .before .if1 .taken)))
+cast-if3 c = let s = c .before .before .before .before .before .before .before .args .w .sizes in omega (arith, cell-count s (sizes-small s (sym (c .before .before .before .before .before .sizes-fit .ensures) ∙ c .before .before .before .before .if1 .taken)))
 
 returns : tie.Need-returns
 unfolding windowRefusal windowFits choose

@@ -1,5 +1,4 @@
 -- `window::offset` meets its contract. Assumes nothing.
-use lib.IntN.{_+ℤ_, _-ℤ_}
 use Rattle.window.proofs.Signs.{Worked, worked, cast32, cast8, below, above, casts}
 use Rattle.window.proofs.offset.Statement.{statement}
 use Rattle.window.proofs.offset.Tie as tie
