@@ -1,3 +1,16 @@
+use mathlib.Core.Path.{_≡_, sym, ap, _∙_}
+use mathlib.Core.Logic.{⊎-elim}
+use mathlib.Core.List.{[]}
+use Prim.Native.Nat.{_-_}
+use native.Mathlib.Omega.{arith}
+use borrow.Author.Needs.{needs}
+use Rattle.boxes.specs.Lists.{listOf}
+use Rattle.window.specs.Look.{lookAt}
+use Rattle.ranges.specs.Walk.{walk}
+use Rattle.ranges.proofs.Walks.{left, next-within, next-less}
+use Rattle.moves.specs.Collect.{visit, push, cellShape}
+use Rattle.moves.specs.Parts.{nthAabb, partAsked}
+use Rattle.moves.proofs.Collects.{Room, Walking, leftFrom, left-end, left-next, kept, passed, full, walking-start, walking-end, walking-refused, boxing-start, boxing-full}
 use Rattle.moves.proofs.collect.Statement.{statement}
 use Rattle.moves.proofs.collect.Tie as tie
 use Rattle.moves.proofs.collect.Reads as reads
@@ -15,124 +28,118 @@ use Rattle.ranges.proofs.start.Reads as start-reads
 use Rattle.tables.proofs.boxes_at.Reads as boxes-at-reads
 
 abbrev Inv-loop2 : tie.InvT-loop2
-Inv-loop2 records shapes cells w area r list₀ t p q shape n k₀ list k = ?
+Inv-loop2 records shapes cells w area r list₀ t p q shape n k₀ list k = Room list × (leftFrom (lookAt cells w) records shapes area r t (nthAabb (q .cube) shape p) n (walk (visit push area (lookAt cells w) records shapes) r []) k (listOf list) ≡ walk (visit push area (lookAt cells w) records shapes) r [])
 
 abbrev μ-loop2 : tie.MeasureT-loop2
-μ-loop2 records shapes cells w area r list₀ t p q shape n k₀ list k = ?
+μ-loop2 records shapes cells w area r list₀ t p q shape n k₀ list k = n - k
 
 abbrev Inv-loop : tie.InvT-loop
-Inv-loop records shapes cells w area r list₀ t₀ list t = ?
+Inv-loop records shapes cells w area r list₀ t₀ list t = Walking (lookAt cells w) records shapes area r list t
 
 abbrev μ-loop : tie.MeasureT-loop
-μ-loop records shapes cells w area r list₀ t₀ list t = ?
+μ-loop records shapes cells w area r list₀ t₀ list t = left r t
 
--- src/lib.rt:161:9
 range-of-requires : tie.Need-range-of-requires Inv-loop2 μ-loop2 Inv-loop μ-loop
-range-of-requires c κs = ?
+range-of-requires c κs = search needs
 
--- src/lib.rt:162:20
 new-requires : tie.Need-new-requires Inv-loop2 μ-loop2 Inv-loop μ-loop
-new-requires c κs = ?
+new-requires c κs = search needs
 
--- src/lib.rt:163:9
 start-requires : tie.Need-start-requires Inv-loop2 μ-loop2 Inv-loop μ-loop
-start-requires c κs = ?
+start-requires c κs = search needs
 
--- src/lib.rt:164:5
 loop-holds : tie.Need-loop-holds Inv-loop2 μ-loop2 Inv-loop μ-loop
-loop-holds c = ?
+loop-holds c = walking-start _ _ _ _ _ _ _ (c .before .new .ensures) (c .start .ensures)
 
--- src/lib.rt:165:13
 place-requires : tie.Need-place-requires Inv-loop2 μ-loop2 Inv-loop μ-loop
-place-requires c κs = ?
+place-requires c κs = search needs
 
--- src/lib.rt:166:23
 part-at-requires : tie.Need-part-at-requires Inv-loop2 μ-loop2 Inv-loop μ-loop
-part-at-requires c κs = ?
+part-at-requires c κs = search needs
 
--- src/lib.rt:167:27
 enum-known-n : tie.Need-enum-known-n Inv-loop2 μ-loop2 Inv-loop μ-loop
-enum-known-n c = ?
+enum-known-n c = search needs
 
--- src/lib.rt:167:33
 refused-requires : tie.Need-refused-requires Inv-loop2 μ-loop2 Inv-loop μ-loop
-refused-requires c κs = ?
+refused-requires c κs = search needs
 
--- src/lib.rt:167:33
 returns : tie.Need-returns Inv-loop2 μ-loop2 Inv-loop μ-loop
-returns c = ?
+returns c = c .refused .ensures ∙ walking-refused (c .before .before .before .before .before .before .before .before .before .loop .inv) (c .before .before .before .before .before .before .if1 .taken) (c .before .before .n .given .0 .0) (c .before .before .before .before .before .before .before .before .before .before .before .before .range-of .ensures) (ap (cellShape _ _) (sym (c .before .before .before .before .before .place .ensures)) ∙ sym (c .before .before .before .before .part-at .ensures) ∙ ap partAsked (c .before .before .n .given .1))
 
--- src/lib.rt:168:22
 enum-known-s : tie.Need-enum-known-s Inv-loop2 μ-loop2 Inv-loop μ-loop
-enum-known-s c = ?
+enum-known-s c = search needs
 
--- src/lib.rt:170:13
 boxes-at-requires : tie.Need-boxes-at-requires Inv-loop2 μ-loop2 Inv-loop μ-loop
-boxes-at-requires c κs = ?
+boxes-at-requires c κs = search needs
 
--- src/lib.rt:171:13
 count-of-requires : tie.Need-count-of-requires Inv-loop2 μ-loop2 Inv-loop μ-loop
-count-of-requires c κs = ?
+count-of-requires c κs = search needs
 
--- src/lib.rt:173:9
 loop2-holds : tie.Need-loop2-holds Inv-loop2 μ-loop2 Inv-loop μ-loop
-loop2-holds c = ?
+loop2-holds c = 
+    let inv = c .before .before .before .before .before .before .before .before .before .before .loop .inv in (
+      inv .has-room,
+      rw (c .before .before .before .before .before .before .place .ensures)
+      (boxing-start inv (c .before .before .before .before .before .before .before .if1 .taken) (c .before .before .before .s .given .0 .0) _ _ (ap (cellShape _ _) (sym (c .before .before .before .before .before .before .place .ensures)) ∙ sym (c .before .before .before .before .before .part-at .ensures) ∙ ap partAsked (c .before .before .before .s .given .1)) (c .before .boxes-at .ensures) (c .count-of .ensures)),
+    )
 
--- src/lib.rt:174:17
 nth-aabb-requires : tie.Need-nth-aabb-requires Inv-loop2 μ-loop2 Inv-loop μ-loop
-nth-aabb-requires c κs = ?
+nth-aabb-requires c κs = search needs
 
--- src/lib.rt:175:16
 intersects-requires : tie.Need-intersects-requires Inv-loop2 μ-loop2 Inv-loop μ-loop
-intersects-requires c κs = ?
+intersects-requires c κs = search needs
 
--- src/lib.rt:178:21
 refused-requires-2 : tie.Need-refused-requires-2 Inv-loop2 μ-loop2 Inv-loop μ-loop
-refused-requires-2 c κs = ?
+refused-requires-2 c κs = search needs
 
--- src/lib.rt:178:21
 returns-2 : tie.Need-returns-2 Inv-loop2 μ-loop2 Inv-loop μ-loop
-returns-2 c = ?
+returns-2 c =
+    let b = c .before .before .before .before .before .before .loop2 .inv in
+    c .refused2 .ensures
+    ∙ boxing-full _ _ _ _ _ _ _ _ _ _ _ (c .before .before .before .before .before .before .before .before .before .before .before .before .before .before .before .before .before .before .before .before .range-of .ensures) (c .before .before .before .before .before .loop2-test .taken) (c .before .before .before .before .nth-aabb .ensures) (full _ _ _ (b .0) (c .before .if3 .taken) (sym (c .before .before .before .intersects .ensures) ∙ c .before .before .if2 .taken)) (b .1)
 
--- src/lib.rt:180:17
 mul-b : tie.Need-mul-b Inv-loop2 μ-loop2 Inv-loop μ-loop
-mul-b c = ?
+mul-b c = omega arith
 
--- src/lib.rt:180:17
 element-set-from-b : tie.Need-element-set-from-b Inv-loop2 μ-loop2 Inv-loop μ-loop
-element-set-from-b c = ?
+element-set-from-b c = omega arith
 
--- src/lib.rt:181:30
 add-list : tie.Need-add-list Inv-loop2 μ-loop2 Inv-loop μ-loop
-add-list c = ?
+add-list c = omega arith
 
--- src/lib.rt:183:13
 add-k : tie.Need-add-k Inv-loop2 μ-loop2 Inv-loop μ-loop
-add-k c = ?
+add-k c = omega arith
 
--- src/lib.rt:173:9
 loop2-less : tie.Need-loop2-less Inv-loop2 μ-loop2 Inv-loop μ-loop
-loop2-less c = ?
+loop2-less c = omega arith
 
--- src/lib.rt:173:9
 loop2-again : tie.Need-loop2-again Inv-loop2 μ-loop2 Inv-loop μ-loop
-loop2-again c = ?
+loop2-again c = 
+    let l = c .before .before .before .before .loop2 .list in
+    let b = c .before .before .before .before .loop2 .inv in
+    let o = sym (c .before .intersects .ensures) in
+    let m = ⊎-elim (λ w. kept _ _ l (c .if2 .list) (b .0) (w .2) (w .1 .left) (o ∙ w .0 .taken)) (λ w. passed _ _ l (c .if2 .list) (b .0) (w .1) (o ∙ w .0 .left)) (c .if2 .came) in
+    (m .0, left-next _ _ _ _ _ _ _ _ _ _ _ _ _ (c .before .before .before .loop2-test .taken) (c .before .before .nth-aabb .ensures) (m .1) (b .1))
 
--- src/lib.rt:185:9
 next-requires : tie.Need-next-requires Inv-loop2 μ-loop2 Inv-loop μ-loop
-next-requires c κs = ?
+next-requires c κs = search needs
 
--- src/lib.rt:164:5
 loop-less : tie.Need-loop-less Inv-loop2 μ-loop2 Inv-loop μ-loop
-loop-less c = ?
+loop-less c = let i = c .before .before .before .before .before .before .before .before .before .before .before .before .before .loop .inv .within in rw (c .next .ensures) (next-less _ _ (c .before .before .before .before .before .before .before .before .before .before .if1 .taken) (i .x (c .before .before .before .before .before .before .before .before .before .before .if1 .taken)) (i .z (c .before .before .before .before .before .before .before .before .before .before .if1 .taken)))
 
--- src/lib.rt:164:5
 loop-again : tie.Need-loop-again Inv-loop2 μ-loop2 Inv-loop μ-loop
-loop-again c = ?
+loop-again c = 
+    let i = c .before .before .before .before .before .before .before .before .before .before .before .before .before .loop .inv .within in
+    let b = c .before .before .loop2 .inv in
+    rw (c .next .ensures)
+    record {
+      has-room = b .0;
+      within = next-within _ _ (c .before .before .before .before .before .before .before .before .before .before .if1 .taken) (i .x (c .before .before .before .before .before .before .before .before .before .before .if1 .taken)) (i .z (c .before .before .before .before .before .before .before .before .before .before .if1 .taken));
+      left = left-end _ _ _ _ _ _ _ _ _ _ _ (c .before .loop2-test .left) (b .1);
+    }
 
--- src/lib.rt:158:1
 returns-3 : tie.Need-returns-3 Inv-loop2 μ-loop2 Inv-loop μ-loop
-returns-3 c = ?
+returns-3 c = walking-end (c .before .before .before .loop .inv) (c .before .before .before .before .before .before .range-of .ensures) (c .if1 .left)
 
 pub collect-spec : {M : Type 1} → statement M
 collect-spec =

@@ -1,0 +1,3 @@
+-- The laws of collection.
+pub mod Boxes
+pub mod Collects
