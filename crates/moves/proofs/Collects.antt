@@ -23,8 +23,8 @@ use Rattle.ranges.specs.declared.Range.{Range}
 use Rattle.ranges.specs.declared.At.{At}
 use Rattle.ranges.specs.Ranges.{placeOf, nextOf, startOf}
 use Rattle.ranges.specs.Walk.{walk}
-use Rattle.ranges.proofs.Walks.{rest, rest-end, rest-refused, rest-done, rest-next, rest-start, Within, start-within}
-use Rattle.moves.specs.Collect.{CellShape, aabbsOf, cellShape, offer, offerAll, visit, push, pushed, rangeOf, collectBlockBoxes}
+use Rattle.ranges.proofs.Walks.{rest, rest-end, rest-refused, rest-done, rest-next, rest-start, Within, start-within, left, next-within, next-less}
+use Rattle.moves.specs.Collect.{CellShape, aabbsOf, cellShape, offer, offerAll, visit, push, pushed, hit, isHit, rangeOf, collectBlockBoxes, collidesWithBlocks}
 use Rattle.tables.specs.Tables.{boxesAt}
 use Rattle.moves.specs.declared.Shape.{Shape}
 use Rattle.moves.specs.Parts.{shapeIn, countOf, nthAabb}
@@ -59,43 +59,86 @@ module _ {S : Type 0} (accept : Aabb → S → Ask (Turn S Bool)) (area : Aabb) 
   boxes-turn g n k s b h e = let q : n - k ≡ suc (n - (k + 1)) = omega arith in rw (q, e)
 
 -- ---- what the inner loop has left: the boxes of the cell from k on, and the cells after it
-module _ (look : Pos → Ask Block) (records : List ℕ) (shapes : List Float) (area : Aabb) (r : Range) (t : At) (g : ℕ → Aabb) (n : ℕ) (whole : Ask (Turn (List Aabb) Bool)) where
-  abbrev pub visiting : Pos → List Aabb → Ask (Turn (List Aabb) Bool)
-  visiting = visit push area look records shapes
+module _ {S : Type 0} (accept : Aabb → S → Ask (Turn S Bool)) (look : Pos → Ask Block) (records : List ℕ) (shapes : List Float) (area : Aabb) (r : Range) (t : At) (g : ℕ → Aabb) (n : ℕ) where
+  abbrev pub visiting : Pos → S → Ask (Turn S Bool)
+  visiting = visit accept area look records shapes
 
-  unfoldable pub leftFrom : ℕ → List Aabb → Ask (Turn (List Aabb) Bool)
-  leftFrom k bs = offerAll push area (listed g (n - k) k) bs >>= onward (rest visiting r (nextOf r t))
+  unfoldable pub leftFrom : ℕ → S → Ask (Turn S Bool)
+  leftFrom k s = offerAll accept area (listed g (n - k) k) s >>= onward (rest visiting r (nextOf r t))
 
-  -- the cell is begun
-  pub left-begin : (bs : List Aabb) (shape : CellShape) → t .y < r .y .count → t .x < r .x .count → t .z < r .z .count → cellShape look records (placeOf r t) ≡ found shape
-      → aabbsOf shapes (placeOf r t) shape ≡ listed g n 0 → rest visiting r t bs ≡ whole → leftFrom 0 bs ≡ whole
-  unfolding leftFrom
-  left-begin bs shape hy hx hz e l inv =
-      let z : n - 0 ≡ n = omega arith in
-      ap (λ (k : ℕ). offerAll push area (listed g k 0) bs >>= onward (rest visiting r (nextOf r t))) z
-      ∙ sym (rest-turn visiting r t bs hy hx hz (offerAll push area (listed g n 0) bs) (cell-found push area look records shapes (placeOf r t) bs shape (listed g n 0) e l))
-      ∙ inv
+  module _ (whole : Ask (Turn S Bool)) where
+    -- the cell is begun
+    pub left-begin : (s : S) (shape : CellShape) → t .y < r .y .count → t .x < r .x .count → t .z < r .z .count → cellShape look records (placeOf r t) ≡ found shape
+        → aabbsOf shapes (placeOf r t) shape ≡ listed g n 0 → rest visiting r t s ≡ whole → leftFrom 0 s ≡ whole
+    unfolding leftFrom
+    left-begin s shape hy hx hz e l inv =
+        let z : n - 0 ≡ n = omega arith in
+        ap (λ (k : ℕ). offerAll accept area (listed g k 0) s >>= onward (rest visiting r (nextOf r t))) z
+        ∙ sym (rest-turn visiting r t s hy hx hz (offerAll accept area (listed g n 0) s) (cell-found accept area look records shapes (placeOf r t) s shape (listed g n 0) e l))
+        ∙ inv
 
-  -- its boxes are through
-  pub left-end : (k : ℕ) (bs : List Aabb) → n ≤ k → leftFrom k bs ≡ whole → rest visiting r (nextOf r t) bs ≡ whole
-  unfolding leftFrom
-  left-end k bs h inv = rw (boxes-end push area g n k bs h) at inv
+    -- its boxes are through
+    pub left-end : (k : ℕ) (s : S) → n ≤ k → leftFrom k s ≡ whole → rest visiting r (nextOf r t) s ≡ whole
+    unfolding leftFrom
+    left-end k s h inv = rw (boxes-end accept area g n k s h) at inv
 
-  -- a box, by what it is offered to
-  turned : (k : ℕ) (bs : List Aabb) (b : Aabb) (m : Ask (Turn (List Aabb) Bool)) → k < n → b ≡ g k → offer push area b bs ≡ m → leftFrom k bs ≡ whole
-      → ((m >>= onward (offerAll push area (listed g (n - (k + 1)) (k + 1)))) >>= onward (rest visiting r (nextOf r t))) ≡ whole
-  unfolding leftFrom
-  turned k bs b m h e o inv =
-      ap (λ (z : Ask (Turn (List Aabb) Bool)). (z >>= onward (offerAll push area (listed g (n - (k + 1)) (k + 1)))) >>= onward (rest visiting r (nextOf r t))) (sym o)
-      ∙ sym (ap (λ (z : Ask (Turn (List Aabb) Bool)). z >>= onward (rest visiting r (nextOf r t))) (boxes-turn push area g n k bs b h e))
-      ∙ inv
+    -- a box, by what it is offered to
+    turned : (k : ℕ) (s : S) (b : Aabb) (m : Ask (Turn S Bool)) → k < n → b ≡ g k → offer accept area b s ≡ m → leftFrom k s ≡ whole
+        → ((m >>= onward (offerAll accept area (listed g (n - (k + 1)) (k + 1)))) >>= onward (rest visiting r (nextOf r t))) ≡ whole
+    unfolding leftFrom
+    turned k s b m h e o inv =
+        ap (λ (z : Ask (Turn S Bool)). (z >>= onward (offerAll accept area (listed g (n - (k + 1)) (k + 1)))) >>= onward (rest visiting r (nextOf r t))) (sym o)
+        ∙ sym (ap (λ (z : Ask (Turn S Bool)). z >>= onward (rest visiting r (nextOf r t))) (boxes-turn accept area g n k s b h e))
+        ∙ inv
 
-  pub left-next : (k : ℕ) (bs cs : List Aabb) (b : Aabb) → k < n → b ≡ g k → offer push area b bs ≡ found (next cs) → leftFrom k bs ≡ whole → leftFrom (k + 1) cs ≡ whole
-  unfolding leftFrom
-  left-next k bs cs b h e o inv = turned k bs b (found (next cs)) h e o inv
+    pub left-next : (k : ℕ) (s a : S) (b : Aabb) → k < n → b ≡ g k → offer accept area b s ≡ found (next a) → leftFrom k s ≡ whole → leftFrom (k + 1) a ≡ whole
+    unfolding leftFrom
+    left-next k s a b h e o inv = turned k s b (found (next a)) h e o inv
 
-  pub left-full : (k : ℕ) (bs : List Aabb) (b : Aabb) → k < n → b ≡ g k → offer push area b bs ≡ refused 6 → leftFrom k bs ≡ whole → refused 6 ≡ whole
-  left-full k bs b h e o inv = turned k bs b (refused 6) h e o inv
+    pub left-refused : (k : ℕ) (s : S) (b : Aabb) (j : ℕ) → k < n → b ≡ g k → offer accept area b s ≡ refused j → leftFrom k s ≡ whole → refused j ≡ whole
+    left-refused k s b j h e o inv = turned k s b (refused j) h e o inv
+
+    pub left-done : (k : ℕ) (s : S) (b : Aabb) (v : Bool) → k < n → b ≡ g k → offer accept area b s ≡ found (done v) → leftFrom k s ≡ whole → found (done v) ≡ whole
+    left-done k s b v h e o inv = turned k s b (found (done v)) h e o inv
+
+-- ---- where the outer loop stands
+pub record Walking {S : Type 0} (accept : Aabb → S → Ask (Turn S Bool)) (look : Pos → Ask Block) (records : List ℕ) (shapes : List Float) (area : Aabb) (r : Range) (s₀ s : S) (t : At) : Type 0 where
+  pub within : Within r t
+  pub left : rest (visit accept area look records shapes) r t s ≡ walk (visit accept area look records shapes) r s₀
+
+module _ {S : Type 0} (accept : Aabb → S → Ask (Turn S Bool)) (look : Pos → Ask Block) (records : List ℕ) (shapes : List Float) (area : Aabb) (r : Range) (s₀ : S) where
+  abbrev pub all : Ask (Turn S Bool)
+  all = walk (visit accept area look records shapes) r s₀
+
+  pub walking-start : (s : S) (t : At) → s ≡ s₀ → t ≡ startOf r → Walking accept look records shapes area r s₀ s t
+  walking-start s t e h = rw (e, h) record { within = start-within r; left = rest-start (visit accept area look records shapes) r s₀ }
+
+  module _ {s : S} {t : At} (inv : Walking accept look records shapes area r s₀ s t) where
+    -- no layer is left
+    pub walking-end : r .y .count ≤ t .y → found (next s) ≡ all
+    walking-end h = sym (rest-end (visit accept area look records shapes) r t s h) ∙ inv .left
+
+    module _ (hy : t .y < r .y .count) where
+      -- the cell at hand is refused
+      pub walking-refused : (k : ℕ) → cellShape look records (placeOf r t) ≡ refused k → refused k ≡ all
+      walking-refused k h =
+          sym (rest-refused (visit accept area look records shapes) r t s hy (inv .within .x hy) (inv .within .z hy) k (cell-refused accept area look records shapes (placeOf r t) s k h))
+          ∙ inv .left
+
+      -- its boxes are begun
+      pub boxing-start : (q : Shape) (shape : List Float) (n : ℕ) → cellShape look records (placeOf r t) ≡ found (shapeIn q) → shape ≡ boxesAt shapes (q .first) (q .count) → n ≡ countOf (q .cube) (q .count) shape
+          → leftFrom accept look records shapes area r t (nthAabb (q .cube) shape (placeOf r t)) n 0 s ≡ all
+      boxing-start q shape n h e m =
+          left-begin accept look records shapes area r t (nthAabb (q .cube) shape (placeOf r t)) n all s (shapeIn q) hy (inv .within .x hy) (inv .within .z hy) h
+          (listed-all shapes shape (placeOf r t) q n e m) (inv .left)
+
+      -- its boxes are through, and the next cell is at hand
+      pub walking-next : (g : ℕ → Aabb) (n k : ℕ) (a : S) (u : At) → u ≡ nextOf r t → n ≤ k → leftFrom accept look records shapes area r t g n k a ≡ all → Walking accept look records shapes area r s₀ a u
+      walking-next g n k a u e h b =
+          rw e record { within = next-within r t hy (inv .within .x hy) (inv .within .z hy); left = left-end accept look records shapes area r t g n all k a h b }
+
+      pub walking-less : (u : At) → u ≡ nextOf r t → left r u < left r t
+      walking-less u e = rw e (next-less r t hy (inv .within .x hy) (inv .within .z hy))
 
 -- ---- the list in place
 pub record Room (l : BoxList) : Type 0 where
@@ -128,64 +171,33 @@ full area b l room-l h o =
     let t : ltb (length (listOf l)) room ≡ false = le-ltb (length (listOf l)) room (omega arith) in
     rw (o, t)
 
--- ---- the answers
-module _ (look : Pos → Ask Block) (records : List ℕ) (shapes : List Float) (area : Aabb) where
-  pub collected : (l : BoxList) → Room l → found (next (listOf l)) ≡ walk (visit push area look records shapes) (rangeOf area) [] → record { refusal = 0; count = l .count; boxes = listOf l } ≡ heldAsked (collectBlockBoxes look records shapes area)
+-- ---- the answers, for r the range of the area
+module _ (look : Pos → Ask Block) (records : List ℕ) (shapes : List Float) (area : Aabb) (r : Range) (e : r ≡ rangeOf area) where
+  pub collected : (l : BoxList) → Room l → found (next (listOf l)) ≡ all push look records shapes area r [] → record { refusal = 0; count = l .count; boxes = listOf l } ≡ heldAsked (collectBlockBoxes look records shapes area)
   unfolding collectBlockBoxes
-  collected l q e =
+  collected l q h =
       let w = q .whole in
       let c = q .counts in
       let n : length (listOf l) ≡ l .count = length-take-le (l .count) (l .boxes) (omega arith) in
-      rw (← e, n)
+      rw (← e, ← h, n)
 
-  pub turned-away : (k : ℕ) → refused k ≡ walk (visit push area look records shapes) (rangeOf area) [] → held k [] ≡ heldAsked (collectBlockBoxes look records shapes area)
+  pub not-collected : (k : ℕ) → refused k ≡ all push look records shapes area r [] → held k [] ≡ heldAsked (collectBlockBoxes look records shapes area)
   unfolding collectBlockBoxes
-  turned-away k e = rw (← e)
+  not-collected k h = rw (← e, ← h)
 
-pub empty-room : Room emptyList
+  pub hit-told : (m : Ask (Turn Bool Bool)) → m ≡ all hit look records shapes area r false → (m >>= λ t. found (isHit t)) ≡ collidesWithBlocks look records shapes area
+  unfolding collidesWithBlocks
+  hit-told m h = rw (← e, ← h)
+
+-- a box that overlaps is a hit, and another is none
+pub is-hit : (area b : Aabb) → overlap b area ≡ true → offer hit area b false ≡ found (done true)
+unfolding choose
+is-hit area b o = rw o
+
+pub no-hit : (area b : Aabb) → overlap b area ≡ false → offer hit area b false ≡ found (next false)
+unfolding choose
+no-hit area b o = rw o
+
+pub empty-room : (l : BoxList) → l ≡ emptyList → Room l × (listOf l ≡ [])
 unfolding emptyList
-empty-room = record { whole = length-replicate 128 noBox; counts = omega arith }
-
--- ---- where the outer loop stands
-pub record Walking (look : Pos → Ask Block) (records : List ℕ) (shapes : List Float) (area : Aabb) (r : Range) (l : BoxList) (t : At) : Type 0 where
-  pub has-room : Room l
-  pub within : Within r t
-  pub left : rest (visit push area look records shapes) r t (listOf l) ≡ walk (visit push area look records shapes) r []
-
-pub walking-start : (look : Pos → Ask Block) (records : List ℕ) (shapes : List Float) (area : Aabb) (r : Range) (l : BoxList) (t : At) → l ≡ emptyList → t ≡ startOf r → Walking look records shapes area r l t
-unfolding emptyList
-walking-start look records shapes area r l t e h =
-    rw (e, h) record { has-room = empty-room; within = start-within r; left = rest-start (visit push area look records shapes) r [] }
-
-module _ {look : Pos → Ask Block} {records : List ℕ} {shapes : List Float} {area : Aabb} {r : Range} {l : BoxList} {t : At} (inv : Walking look records shapes area r l t) where
-  -- no layer is left
-  pub walking-end : r ≡ rangeOf area → r .y .count ≤ t .y → record { refusal = 0; count = l .count; boxes = listOf l } ≡ heldAsked (collectBlockBoxes look records shapes area)
-  walking-end e h =
-      collected look records shapes area l (inv .has-room)
-      (sym (rest-end (visit push area look records shapes) r t (listOf l) h) ∙ inv .left ∙ ap (λ (z : Range). walk (visit push area look records shapes) z []) e)
-
-  module _ (hy : t .y < r .y .count) where
-    -- the cell at hand is refused
-    pub walking-refused : (k : ℕ) → r ≡ rangeOf area → cellShape look records (placeOf r t) ≡ refused k → held k [] ≡ heldAsked (collectBlockBoxes look records shapes area)
-    walking-refused k e h =
-        turned-away look records shapes area k
-        (sym (rest-refused (visit push area look records shapes) r t (listOf l) hy (inv .within .x hy) (inv .within .z hy) k (cell-refused push area look records shapes (placeOf r t) (listOf l) k h))
-        ∙ inv .left
-        ∙ ap (λ (z : Range). walk (visit push area look records shapes) z []) e)
-
-    -- its boxes are begun
-    pub boxing-start : (s : Shape) (shape : List Float) (n : ℕ) → cellShape look records (placeOf r t) ≡ found (shapeIn s) → shape ≡ boxesAt shapes (s .first) (s .count) → n ≡ countOf (s .cube) (s .count) shape
-        → leftFrom look records shapes area r t (nthAabb (s .cube) shape (placeOf r t)) n (walk (visit push area look records shapes) r []) 0 (listOf l) ≡ walk (visit push area look records shapes) r []
-    boxing-start s shape n h e m =
-        left-begin look records shapes area r t (nthAabb (s .cube) shape (placeOf r t)) n (walk (visit push area look records shapes) r []) (listOf l) (shapeIn s) hy (inv .within .x hy) (inv .within .z hy) h
-        (listed-all shapes shape (placeOf r t) s n e m) (inv .left)
-
--- the box at hand is the 129th
-pub boxing-full : (look : Pos → Ask Block) (records : List ℕ) (shapes : List Float) (area : Aabb) (r : Range) (t : At) (g : ℕ → Aabb) (n k : ℕ) (bs : List Aabb) (b : Aabb)
-    → r ≡ rangeOf area → k < n → b ≡ g k → offer push area b bs ≡ refused 6
-    → leftFrom look records shapes area r t g n (walk (visit push area look records shapes) r []) k bs ≡ walk (visit push area look records shapes) r []
-    → held 6 [] ≡ heldAsked (collectBlockBoxes look records shapes area)
-boxing-full look records shapes area r t g n k bs b e h v o inv =
-    turned-away look records shapes area 6
-    (left-full look records shapes area r t g n (walk (visit push area look records shapes) r []) k bs b h v o inv
-    ∙ ap (λ (z : Range). walk (visit push area look records shapes) z []) e)
+empty-room l e = rw e (record { whole = length-replicate 128 noBox; counts = omega arith }, refl)

@@ -14,7 +14,7 @@ ghost use Rattle.tables.specs.Tables.{boxAt};
 ghost use Rattle.window.specs.Look.{lookAt};
 ghost use Rattle.moves.specs.Collect.{originOf, cubeAt, toAabb, connectedShape, cellShape, rangeOf, collectBlockBoxes, collidesWithBlocks};
 ghost use Rattle.moves.specs.Parts.{partAsked, countOf, nthAabb};
-ghost use Rattle.moves.specs.Answers.{heldAsked};
+ghost use Rattle.moves.specs.Answers.{heldAsked, hitAsked};
 
 // What stands in a cell: a full cube, or the boxes of the shapes by the two words of a record.
 struct Shape {
@@ -185,4 +185,31 @@ pub fn collect(records: &[u32], shapes: &[f32], cells: &[u32], w: Window, area: 
         t = ranges::next(r, t);
     }
     Collected { list, refusal: 0 }
+}
+
+// Whether a block box strictly overlaps the area. It stops at its first hit: no cell after that is asked for. It refuses 5 alone.
+pub fn collides(records: &[u32], shapes: &[f32], cells: &[u32], w: Window, area: Aabb) -> Collides
+    ensures { λ r. ⌜ hitAsked r ≡ collidesWithBlocks (lookAt (now (cells .entry)) w) (now (records .entry)) (now (shapes .entry)) area ⌝ }
+{
+    let r = range_of(area);
+    let mut t = ranges::start(r);
+    while t.y < r.y.count {
+        let p = ranges::place(r, t);
+        let q = match part_at(records, cells, w, p) {
+            Part::Refused(n) => return Collides::Refused(n),
+            Part::Is(s) => s,
+        };
+        let shape = tables::boxes_at(shapes, q.first, q.count);
+        let n = count_of(q.cube, q.count, shape);
+        let mut k = 0u32;
+        while k < n {
+            let b = nth_aabb(q.cube, shape, p, k);
+            if b.intersects(area) {
+                return Collides::Is(true);
+            }
+            k += 1;
+        }
+        t = ranges::next(r, t);
+    }
+    Collides::Is(false)
 }

@@ -6,11 +6,10 @@ use native.Mathlib.Omega.{arith}
 use borrow.Author.Needs.{needs}
 use Rattle.boxes.specs.Lists.{listOf}
 use Rattle.window.specs.Look.{lookAt}
-use Rattle.ranges.specs.Walk.{walk}
-use Rattle.ranges.proofs.Walks.{left, next-within, next-less}
-use Rattle.moves.specs.Collect.{visit, push, cellShape}
+use Rattle.ranges.proofs.Walks.{left}
+use Rattle.moves.specs.Collect.{push, cellShape}
 use Rattle.moves.specs.Parts.{nthAabb, partAsked}
-use Rattle.moves.proofs.Collects.{Room, Walking, leftFrom, left-end, left-next, kept, passed, full, walking-start, walking-end, walking-refused, boxing-start, boxing-full}
+use Rattle.moves.proofs.Collects.{Room, Walking, all, leftFrom, left-next, left-refused, kept, passed, full, empty-room, collected, not-collected, walking-start, walking-end, walking-refused, walking-next, walking-less, boxing-start}
 use Rattle.moves.proofs.collect.Statement.{statement}
 use Rattle.moves.proofs.collect.Tie as tie
 use Rattle.moves.proofs.collect.Reads as reads
@@ -28,13 +27,13 @@ use Rattle.ranges.proofs.start.Reads as start-reads
 use Rattle.tables.proofs.boxes_at.Reads as boxes-at-reads
 
 abbrev Inv-loop2 : tie.InvT-loop2
-Inv-loop2 records shapes cells w area r list₀ t p q shape n k₀ list k = Room list × (leftFrom (lookAt cells w) records shapes area r t (nthAabb (q .cube) shape p) n (walk (visit push area (lookAt cells w) records shapes) r []) k (listOf list) ≡ walk (visit push area (lookAt cells w) records shapes) r [])
+Inv-loop2 records shapes cells w area r list₀ t p q shape n k₀ list k = Room list × (leftFrom push (lookAt cells w) records shapes area r t (nthAabb (q .cube) shape p) n k (listOf list) ≡ all push (lookAt cells w) records shapes area r [])
 
 abbrev μ-loop2 : tie.MeasureT-loop2
 μ-loop2 records shapes cells w area r list₀ t p q shape n k₀ list k = n - k
 
 abbrev Inv-loop : tie.InvT-loop
-Inv-loop records shapes cells w area r list₀ t₀ list t = Walking (lookAt cells w) records shapes area r list t
+Inv-loop records shapes cells w area r list₀ t₀ list t = Room list × Walking push (lookAt cells w) records shapes area r [] (listOf list) t
 
 abbrev μ-loop : tie.MeasureT-loop
 μ-loop records shapes cells w area r list₀ t₀ list t = left r t
@@ -49,7 +48,7 @@ start-requires : tie.Need-start-requires Inv-loop2 μ-loop2 Inv-loop μ-loop
 start-requires c κs = search needs
 
 loop-holds : tie.Need-loop-holds Inv-loop2 μ-loop2 Inv-loop μ-loop
-loop-holds c = walking-start _ _ _ _ _ _ _ (c .before .new .ensures) (c .start .ensures)
+loop-holds c = let e = empty-room _ (c .before .new .ensures) in (e .0, walking-start push _ _ _ _ _ [] _ _ (e .1) (c .start .ensures))
 
 place-requires : tie.Need-place-requires Inv-loop2 μ-loop2 Inv-loop μ-loop
 place-requires c κs = search needs
@@ -64,7 +63,7 @@ refused-requires : tie.Need-refused-requires Inv-loop2 μ-loop2 Inv-loop μ-loop
 refused-requires c κs = search needs
 
 returns : tie.Need-returns Inv-loop2 μ-loop2 Inv-loop μ-loop
-returns c = c .refused .ensures ∙ walking-refused (c .before .before .before .before .before .before .before .before .before .loop .inv) (c .before .before .before .before .before .before .if1 .taken) (c .before .before .n .given .0 .0) (c .before .before .before .before .before .before .before .before .before .before .before .before .range-of .ensures) (ap (cellShape _ _) (sym (c .before .before .before .before .before .place .ensures)) ∙ sym (c .before .before .before .before .part-at .ensures) ∙ ap partAsked (c .before .before .n .given .1))
+returns c = c .refused .ensures ∙ not-collected _ _ _ _ _ (c .before .before .before .before .before .before .before .before .before .before .before .before .range-of .ensures) _ (walking-refused push _ _ _ _ _ [] (c .before .before .before .before .before .before .before .before .before .loop .inv .1) (c .before .before .before .before .before .before .if1 .taken) (c .before .before .n .given .0 .0) (ap (cellShape _ _) (sym (c .before .before .before .before .before .place .ensures)) ∙ sym (c .before .before .before .before .part-at .ensures) ∙ ap partAsked (c .before .before .n .given .1)))
 
 enum-known-s : tie.Need-enum-known-s Inv-loop2 μ-loop2 Inv-loop μ-loop
 enum-known-s c = search needs
@@ -78,9 +77,9 @@ count-of-requires c κs = search needs
 loop2-holds : tie.Need-loop2-holds Inv-loop2 μ-loop2 Inv-loop μ-loop
 loop2-holds c = 
     let inv = c .before .before .before .before .before .before .before .before .before .before .loop .inv in (
-      inv .has-room,
+      inv .0,
       rw (c .before .before .before .before .before .before .place .ensures)
-      (boxing-start inv (c .before .before .before .before .before .before .before .if1 .taken) (c .before .before .before .s .given .0 .0) _ _ (ap (cellShape _ _) (sym (c .before .before .before .before .before .before .place .ensures)) ∙ sym (c .before .before .before .before .before .part-at .ensures) ∙ ap partAsked (c .before .before .before .s .given .1)) (c .before .boxes-at .ensures) (c .count-of .ensures)),
+      (boxing-start push _ _ _ _ _ [] (inv .1) (c .before .before .before .before .before .before .before .if1 .taken) (c .before .before .before .s .given .0 .0) _ _ (ap (cellShape _ _) (sym (c .before .before .before .before .before .before .place .ensures)) ∙ sym (c .before .before .before .before .before .part-at .ensures) ∙ ap partAsked (c .before .before .before .s .given .1)) (c .before .boxes-at .ensures) (c .count-of .ensures)),
     )
 
 nth-aabb-requires : tie.Need-nth-aabb-requires Inv-loop2 μ-loop2 Inv-loop μ-loop
@@ -93,10 +92,11 @@ refused-requires-2 : tie.Need-refused-requires-2 Inv-loop2 μ-loop2 Inv-loop μ-
 refused-requires-2 c κs = search needs
 
 returns-2 : tie.Need-returns-2 Inv-loop2 μ-loop2 Inv-loop μ-loop
-returns-2 c =
+returns-2 c = 
     let b = c .before .before .before .before .before .before .loop2 .inv in
     c .refused2 .ensures
-    ∙ boxing-full _ _ _ _ _ _ _ _ _ _ _ (c .before .before .before .before .before .before .before .before .before .before .before .before .before .before .before .before .before .before .before .before .range-of .ensures) (c .before .before .before .before .before .loop2-test .taken) (c .before .before .before .before .nth-aabb .ensures) (full _ _ _ (b .0) (c .before .if3 .taken) (sym (c .before .before .before .intersects .ensures) ∙ c .before .before .if2 .taken)) (b .1)
+    ∙ not-collected _ _ _ _ _ (c .before .before .before .before .before .before .before .before .before .before .before .before .before .before .before .before .before .before .before .before .range-of .ensures) 6
+    (left-refused push _ _ _ _ _ _ _ _ _ _ _ _ 6 (c .before .before .before .before .before .loop2-test .taken) (c .before .before .before .before .nth-aabb .ensures) (full _ _ _ (b .0) (c .before .if3 .taken) (sym (c .before .before .before .intersects .ensures) ∙ c .before .before .if2 .taken)) (b .1))
 
 mul-b : tie.Need-mul-b Inv-loop2 μ-loop2 Inv-loop μ-loop
 mul-b c = omega arith
@@ -119,27 +119,19 @@ loop2-again c =
     let b = c .before .before .before .before .loop2 .inv in
     let o = sym (c .before .intersects .ensures) in
     let m = ⊎-elim (λ w. kept _ _ l (c .if2 .list) (b .0) (w .2) (w .1 .left) (o ∙ w .0 .taken)) (λ w. passed _ _ l (c .if2 .list) (b .0) (w .1) (o ∙ w .0 .left)) (c .if2 .came) in
-    (m .0, left-next _ _ _ _ _ _ _ _ _ _ _ _ _ (c .before .before .before .loop2-test .taken) (c .before .before .nth-aabb .ensures) (m .1) (b .1))
+    (m .0, left-next push _ _ _ _ _ _ _ _ _ _ _ _ _ (c .before .before .before .loop2-test .taken) (c .before .before .nth-aabb .ensures) (m .1) (b .1))
 
 next-requires : tie.Need-next-requires Inv-loop2 μ-loop2 Inv-loop μ-loop
 next-requires c κs = search needs
 
 loop-less : tie.Need-loop-less Inv-loop2 μ-loop2 Inv-loop μ-loop
-loop-less c = let i = c .before .before .before .before .before .before .before .before .before .before .before .before .before .loop .inv .within in rw (c .next .ensures) (next-less _ _ (c .before .before .before .before .before .before .before .before .before .before .if1 .taken) (i .x (c .before .before .before .before .before .before .before .before .before .before .if1 .taken)) (i .z (c .before .before .before .before .before .before .before .before .before .before .if1 .taken)))
+loop-less c = walking-less push _ _ _ _ _ [] (c .before .before .before .before .before .before .before .before .before .before .before .before .before .loop .inv .1) (c .before .before .before .before .before .before .before .before .before .before .if1 .taken) _ (c .next .ensures)
 
 loop-again : tie.Need-loop-again Inv-loop2 μ-loop2 Inv-loop μ-loop
-loop-again c = 
-    let i = c .before .before .before .before .before .before .before .before .before .before .before .before .before .loop .inv .within in
-    let b = c .before .before .loop2 .inv in
-    rw (c .next .ensures)
-    record {
-      has-room = b .0;
-      within = next-within _ _ (c .before .before .before .before .before .before .before .before .before .before .if1 .taken) (i .x (c .before .before .before .before .before .before .before .before .before .before .if1 .taken)) (i .z (c .before .before .before .before .before .before .before .before .before .before .if1 .taken));
-      left = left-end _ _ _ _ _ _ _ _ _ _ _ (c .before .loop2-test .left) (b .1);
-    }
+loop-again c = let b = c .before .before .loop2 .inv in (b .0, walking-next push _ _ _ _ _ [] (c .before .before .before .before .before .before .before .before .before .before .before .before .before .loop .inv .1) (c .before .before .before .before .before .before .before .before .before .before .if1 .taken) _ _ _ _ _ (c .next .ensures) (c .before .loop2-test .left) (b .1))
 
 returns-3 : tie.Need-returns-3 Inv-loop2 μ-loop2 Inv-loop μ-loop
-returns-3 c = walking-end (c .before .before .before .loop .inv) (c .before .before .before .before .before .before .range-of .ensures) (c .if1 .left)
+returns-3 c = let i = c .before .before .before .loop .inv in collected _ _ _ _ _ (c .before .before .before .before .before .before .range-of .ensures) _ (i .0) (walking-end push _ _ _ _ _ [] (i .1) (c .if1 .left))
 
 pub collect-spec : {M : Type 1} → statement M
 collect-spec =
