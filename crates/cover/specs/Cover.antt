@@ -1,7 +1,7 @@
 -- Module 4, face cover. Document 01: "Yes exactly when the rectangles at or past the face, clamped to 0..1, cover the unit square. No box covers
 -- nothing."
--- It is said over whole numbers. Every f32 is a whole number of 2 ^ -149, so the unit square is `unit` by `unit` cells of that size, no edge of
--- a rectangle cuts through a cell, and the rectangles cover the square exactly when each cell lies in one of them.
+-- It is said over whole numbers. Every finite f32 is a whole number of 2 ^ -149, so the unit square is `unit` by `unit` cells of that size, no edge
+-- of a rectangle cuts through a cell, and the rectangles cover the square exactly when each cell lies in one of them.
 use mathlib.Core.Bool.{Bool, not, _&&_, _||_}
 use mathlib.Core.List.{List}
 use Prim.Native.Nat.{ℕ, _+_, _*_, _/_, _^_, min}
@@ -76,8 +76,8 @@ hasCell l f i j k =
     && leb (cellsBefore (v0 l k)) j
     && ltb j (cellsBefore (v1 l k))
 
--- Box k has a rectangle on the face that is none, since an edge is a NaN. In the Rust that NaN is a cut, no rectangle reaches over a cut that is
--- a NaN, and so the face is not covered, whatever the other boxes are.
+-- Box k is on the face, and an edge of its rectangle is a NaN. In the Rust that NaN is a cut, no rectangle reaches up to it, and so the face is not
+-- covered, whatever the other boxes are.
 abbrev pub hasNan : List Float → Side → ℕ → Bool
 hasNan l f k = onFace l f k && (isNan (u0 l f k) || isNan (u1 l f k) || isNan (v0 l k) || isNan (v1 l k))
 

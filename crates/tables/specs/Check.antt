@@ -27,7 +27,7 @@ countsFit records shapes =
 
 -- ---- the words of a state's record
 
--- 16, and 4 below: m * 2 ^ e
+-- 16: 1 * 2 ^ 4
 abbrev pub sixteen : Float
 sixteen = fin false 1 (pos 4)
 
@@ -56,11 +56,11 @@ wordsFit records state =
 unfoldable pub partFits : List ℕ → List Float → ℕ → Bool
 partFits records shapes state = leb (wordAt records state 8) 16 && leb (wordAt records state 7 + wordAt records state 8) (boxCount shapes)
 
--- the words from the first number on, as many as the second, are zero
+-- so many words of a record are zero, from the one named on
 unfoldable pub allZero : List ℕ → ℕ → ℕ → ℕ → Bool
 allZero records state from count = every count (λ i. eqb (wordAt records state (from + i)) 0)
 
--- "lead to registered records of the same word 4"
+-- "A connecting record's transitions and posts lead to registered records of the same word 4"
 unfoldable pub leadsOn : List ℕ → ℕ → ℕ → Bool
 leadsOn records kind target = isRegistered records target && eqb (wordAt records target 4) kind
 
@@ -71,8 +71,8 @@ allLeadOn records state kind = every 10 (λ i. leadsOn records kind (wordAt reco
 unfoldable pub postsStay : List ℕ → ℕ → Bool
 postsStay records state = eqb (wordAt records state 17) state && eqb (wordAt records state 18) state
 
--- words 9 to 18, "transitions north, east, south, west: off, on" and "post off, on": "A connecting record's transitions and posts lead to ..";
--- of those only a wall's posts may lead elsewhere; "a record connecting as nothing has words 9 to 18 zero"
+-- words 9 to 16, "transitions north, east, south, west: off, on", and 17 and 18, "post off, on": those of "a connecting record" lead on, and the
+-- posts of every one but a wall stay; "a record connecting as nothing has words 9 to 18 zero"
 unfoldable pub linksFit : List ℕ → ℕ → Bool
 linksFit records state =
     choose (eqb (wordAt records state 4) 0)
@@ -97,6 +97,7 @@ recordFits records shapes state =
 
 -- ---- boxes: "six f32 (x0 y0 z0 x1 y1 z1), finite, size at most 4, min at or below max", also those that no record uses
 
+-- 4: 1 * 2 ^ 2
 abbrev pub four : Float
 four = fin false 1 (pos 2)
 
