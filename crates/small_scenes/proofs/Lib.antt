@@ -1,0 +1,2 @@
+-- The small scenes hold.
+pub mod Small

@@ -1,0 +1,2 @@
+-- The small scenes.
+pub mod Scenes

@@ -1,0 +1,107 @@
+-- The small scenes that document 01 marks P, as one table, and the test that a scene is as the document says.
+use mathlib.Core.Bool.{Bool, true, false, Bool·beq, _&&_}
+use mathlib.Core.List.{List, [], _∷_}
+use Prim.Native.Nat.{ℕ}
+use lib.Dec.{eqb}
+use lib.ListN.{length}
+use lib.Ieee.{Float, binary64, round, neg, toBits}
+use Rattle.boxes.specs.declared.Vec3.{Vec3}
+use Rattle.boxes.specs.declared.Aabb.{Aabb}
+use Rattle.boxes.specs.declared.MoveAnswer.{MoveAnswer}
+use Rattle.boxes.specs.Boxes.{vec, box, offsetBy}
+use Rattle.boxes.specs.Entry.{moveOverList}
+
+-- A move over a list: its boxes, the delta, the step height and whether the body was on the ground; then how far it moves, and its ground flag.
+-- The mover is (0,1,0)-(1,2,1).
+pub record Moving : Type 0 where
+  pub boxes : List Aabb
+  pub delta : Vec3
+  pub step : Float
+  pub ground : Bool
+  pub moved : Vec3
+  pub after : Bool
+
+-- one kind for each thing that the table speaks of
+pub data Scene : Type 0 where
+  move : Moving → Scene
+
+-- n / d
+abbrev pub part : ℕ → ℕ → Float
+part n d = round binary64 false n d
+
+abbrev pub w : ℕ → Float
+w n = part n 1
+
+abbrev pub mover : Aabb
+mover = box (vec (w 0) (w 1) (w 0)) (vec (w 1) (w 2) (w 1))
+
+-- bit for bit
+abbrev pub same : Float → Float → Bool
+same a b = eqb (toBits binary64 a) (toBits binary64 b)
+
+abbrev pub sameVec : Vec3 → Vec3 → Bool
+sameVec a b = same (a .x) (b .x) && (same (a .y) (b .y) && same (a .z) (b .z))
+
+abbrev pub sameBox : Aabb → Aabb → Bool
+sameBox a b = sameVec (a .min) (b .min) && sameVec (a .max) (b .max)
+
+-- the move is not refused, goes as far as it should and to where that leads, and has its ground flag
+abbrev pub moves : MoveAnswer → Vec3 → Bool → Bool
+moves r moved after =
+    eqb (r .refusal) 0
+    && (sameVec (r .result .moved) moved
+    && (sameBox (r .result .aabb) (offsetBy mover moved)
+    && Bool·beq (r .result .ground) after))
+
+unfoldable pub holds : Scene → Bool
+holds (move m) = moves (moveOverList record { boxes = m .boxes; count = length (m .boxes) } mover (m .delta) (m .step) (m .ground)) (m .moved) (m .after)
+
+unfoldable pub allHold : List Scene → Bool
+allHold [] = true
+allHold (s ∷ ss) = holds s && allHold ss
+
+-- ---- the table
+
+-- P1, P2, P3: one box, delta (2,0,0)
+abbrev pub sliding : Aabb → Vec3 → Scene
+sliding b moved = move record { boxes = b ∷ []; delta = vec (w 2) (w 0) (w 0); step = w 0; ground = false; moved = moved; after = false }
+
+-- P4, P5: a floor and a ledge of this height, delta (2,-0.5,0), step 0.5, grounded
+abbrev pub climbing : Float → Vec3 → Scene
+climbing top moved =
+    move record {
+      boxes = box (vec (w 0) (w 0) (w 0)) (vec (w 4) (w 1) (w 1)) ∷ box (vec (w 2) (w 1) (w 0)) (vec (w 4) top (w 1)) ∷ [];
+      delta = vec (w 2) (neg (part 1 2)) (w 0);
+      step = part 1 2;
+      ground = true;
+      moved = moved;
+      after = true;
+    }
+
+-- P6: the box is stepped over, and nothing is below
+abbrev pub hopping : Bool → Scene
+hopping after =
+    move record {
+      boxes = box (vec (w 2) (part 3 4) (w 0)) (vec (w 3) (part 5 4) (w 1)) ∷ [];
+      delta = vec (part 7 2) (neg (part 1 2)) (w 0);
+      step = part 1 2;
+      ground = true;
+      moved = vec (part 7 2) (w 0) (w 0);
+      after = after;
+    }
+
+unfoldable pub scenes : List Scene
+scenes =
+    -- P1: a wall from x = 2
+    sliding (box (vec (w 2) (w 1) (w 0)) (vec (w 3) (w 2) (w 1))) (vec (w 1) (w 0) (w 0))
+    -- P2: from x = 1, to 2
+    ∷ sliding (box (vec (w 1) (w 1) (w 0)) (vec (w 2) (w 2) (w 1))) (vec (w 0) (w 0) (w 0))
+    -- P3: beside the way, at z 1..2
+    ∷ sliding (box (vec (w 2) (w 1) (w 1)) (vec (w 3) (w 2) (w 2))) (vec (w 2) (w 0) (w 0))
+    -- P4: top 1.5
+    ∷ climbing (part 3 2) (vec (w 2) (part 1 2) (w 0))
+    -- P5: top 1.5625
+    ∷ climbing (part 25 16) (vec (w 1) (w 0) (w 0))
+    -- P6: the ground flag is worked out after the step
+    ∷ hopping true
+    ∷ []
