@@ -22,8 +22,8 @@ use Rattle.window.specs.declared.Pos.{Pos}
 use Rattle.window.specs.declared.Window.{Window}
 use Rattle.window.specs.Window.{windowRefusal}
 use Rattle.window.specs.Look.{Block, lookAt}
-use Rattle.moves.specs.declared.Collides.{Collides}
-use Rattle.moves.specs.declared.Collides.the-variants.{Is, Refused}
+use Rattle.moves.specs.declared.Collision.{Collision}
+use Rattle.moves.specs.declared.Collision.the-variants.{Is, Refused}
 use Rattle.moves.specs.declared.HitAnswer.{HitAnswer}
 use Rattle.moves.specs.Collect.{collectBlockBoxes, collidesWithBlocks}
 
@@ -32,7 +32,7 @@ abbrev pub heldAsked : Ask (List Aabb) → Held
 heldAsked (refused n) = held n []
 heldAsked (found bs) = held 0 bs
 
-abbrev pub hitAsked : Collides → Ask Bool
+abbrev pub hitAsked : Collision → Ask Bool
 hitAsked (Is b) = found b
 hitAsked (Refused n) = refused n
 

@@ -28,7 +28,7 @@ enum Part {
     Refused(u32),
 }
 
-pub enum Collides {
+pub enum Collision {
     Is(bool),
     Refused(u32),
 }
@@ -188,7 +188,7 @@ pub fn collect(records: &[u32], shapes: &[f32], cells: &[u32], w: Window, area: 
 }
 
 // Whether a block box strictly overlaps the area. It stops at its first hit: no cell after that is asked for. It refuses 5 alone.
-pub fn collides(records: &[u32], shapes: &[f32], cells: &[u32], w: Window, area: Aabb) -> Collides
+pub fn collides(records: &[u32], shapes: &[f32], cells: &[u32], w: Window, area: Aabb) -> Collision
     ensures { λ r. ⌜ hitAsked r ≡ collidesWithBlocks (lookAt (now (cells .entry)) w) (now (records .entry)) (now (shapes .entry)) area ⌝ }
 {
     let r = range_of(area);
@@ -196,7 +196,7 @@ pub fn collides(records: &[u32], shapes: &[f32], cells: &[u32], w: Window, area:
     while t.y < r.y.count {
         let p = ranges::place(r, t);
         let q = match part_at(records, cells, w, p) {
-            Part::Refused(n) => return Collides::Refused(n),
+            Part::Refused(n) => return Collision::Refused(n),
             Part::Is(s) => s,
         };
         let shape = tables::boxes_at(shapes, q.first, q.count);
@@ -205,11 +205,11 @@ pub fn collides(records: &[u32], shapes: &[f32], cells: &[u32], w: Window, area:
         while k < n {
             let b = nth_aabb(q.cube, shape, p, k);
             if b.intersects(area) {
-                return Collides::Is(true);
+                return Collision::Is(true);
             }
             k += 1;
         }
         t = ranges::next(r, t);
     }
-    Collides::Is(false)
+    Collision::Is(false)
 }
