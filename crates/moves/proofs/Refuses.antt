@@ -1,0 +1,141 @@
+-- Which refusals can come up: a look-up and a connection refuse 5 alone, collection 5 and 6, `collides` 5. Assumes nothing.
+use mathlib.Core.Path.{_≡_, refl, sym, ap, _∙_}
+use mathlib.Core.Bool.{Bool, true, false, _&&_}
+use mathlib.Core.Logic.{_⊎_, inl, inr}
+use mathlib.Core.List.{List, [], _∷_}
+use Prim.Native.Nat.{ℕ, zero, suc, _+_}
+use native.Mathlib.Omega.{arith}
+use lib.Dec.{ltb, eqb}
+use lib.ListN.{length}
+use lib.Ieee.{Float}
+use Rattle.base.specs.Choose.{choose}
+use Rattle.base.specs.Ask.{Ask, refused, found, _>>=_, Turn, next, done, onward, turning}
+use Rattle.boxes.specs.declared.Aabb.{Aabb}
+use Rattle.boxes.specs.declared.Collected.{Collected}
+use Rattle.boxes.specs.Lists.{Held, heldIn, held, listOf}
+use Rattle.cover.specs.declared.Side.{Side}
+use Rattle.cover.specs.declared.Side.the-variants.{North, East, South, West}
+use Rattle.window.specs.declared.Pos.{Pos}
+use Rattle.window.specs.declared.Window.{Window}
+use Rattle.window.specs.Window.{inside, indexOf}
+use Rattle.window.specs.Look.{Block, none, some, lookAt}
+use Rattle.ranges.specs.declared.Range.{Range}
+use Rattle.ranges.specs.Walk.{line, layer, walk}
+use Rattle.connect.specs.declared.Joined.{Joined}
+use Rattle.connect.specs.Connect.{connectsAs, joins, post, connectedState}
+use Rattle.moves.specs.Collect.{connectedShape, shapeOf, cellShape, offer, offerAll, visit, push, hit, collectBlockBoxes, collidesWithBlocks}
+use Rattle.moves.specs.Answers.{heldAsked}
+
+-- what a refusal's number can be
+pub record Refuses {A : Type 0} (P : ℕ → Type 0) (m : Ask A) : Type 0 where
+  pub only : (n : ℕ) → m ≡ refused n → P n
+
+abbrev pub Five : ℕ → Type 0
+Five n = n ≡ 5
+
+abbrev pub FiveOrSix : ℕ → Type 0
+FiveOrSix n = (n ≡ 5) ⊎ (n ≡ 6)
+
+-- ---- found, chosen, asked one after the other, asked in a loop
+module _ {P : ℕ → Type 0} where
+  finds : {A : Type 0} (a : A) → Refuses P (found a)
+  finds a = record { only = λ n e. let z : _≡_ {A = ℕ} 0 1 = cc in absurd (omega arith) }
+
+  names : {A : Type 0} (k : ℕ) → P k → Refuses {A = A} P (refused k)
+  names k p = record { only = λ n e. let q : k ≡ n = cc in rw q at p }
+
+  either : {A : Type 0} (t : Bool) (a b : Ask A) → Refuses P a → Refuses P b → Refuses P (choose t a b)
+  unfolding choose
+  either true a b h g = h
+  either false a b h g = g
+
+  after : {A B : Type 0} (m : Ask A) (k : A → Ask B) → Refuses P m → ((a : A) → Refuses P (k a)) → Refuses P (m >>= k)
+  after (refused j) k h g = names j (h .only j refl)
+  after (found a) k h g = g a
+
+  on : {S R : Type 0} (m : Ask (Turn S R)) (k : S → Ask (Turn S R)) → Refuses P m → ((a : S) → Refuses P (k a)) → Refuses P (m >>= onward k)
+  on {S} {R} m k h g = after m (onward k) h turn
+    where
+      turn : (t : Turn S R) → Refuses P (onward k t)
+      turn (next a) = g a
+      turn (done r) = finds (done r)
+
+  loops : {S R : Type 0} (f : ℕ → S → Ask (Turn S R)) → ((i : ℕ) (s : S) → Refuses P (f i s)) → (k i : ℕ) (s : S) → Refuses P (turning f k i s)
+  unfolding turning
+  loops f h zero i s = finds (next s)
+  loops f h (suc k) i s = on (f i s) (turning f k (i + 1)) (h i s) (loops f h k (i + 1))
+
+  walks : {S R : Type 0} (f : Pos → S → Ask (Turn S R)) (r : Range) → ((p : Pos) (s : S) → Refuses P (f p s)) → (s : S) → Refuses P (walk f r s)
+  unfolding walk layer line
+  walks f r h = loops (layer f r) (λ y. loops (line f r y) (λ x. loops _ (λ z. h _) (r .z .count) 0) (r .x .count) 0) (r .y .count) 0
+
+-- ---- look-ups and connections
+pub look-refuses : (cells : List ℕ) (w : Window) (p : Pos) → Refuses Five (lookAt cells w p)
+unfolding lookAt
+look-refuses cells w p = either (inside w p && ltb (indexOf w p) (length cells)) _ _ (finds _) (names 5 refl)
+
+module _ (look : Pos → Ask Block) (h : (p : Pos) → Refuses Five (look p)) (records : List ℕ) where
+  joins-refuses : (p : Pos) (kind : ℕ) (side : Side) → Refuses Five (joins look records p kind side)
+  unfolding joins
+  joins-refuses p kind side = after (look _) _ (h _) (λ b. finds _)
+
+  post-refuses : (p : Pos) (j : Joined) → Refuses Five (post look records p j)
+  unfolding post
+  post-refuses p j = after (look _) _ (h _) (λ b. finds _)
+
+  pub connected-refuses : (p : Pos) (state : ℕ) → Refuses Five (connectedState look records p state)
+  unfolding connectedState
+  connected-refuses p state =
+      let kind = connectsAs records state in
+      either (eqb kind 0) (found state) _ (finds state)
+      (after _ _ (joins-refuses p kind North) (λ n.
+      after _ _ (joins-refuses p kind East) (λ e.
+      after _ _ (joins-refuses p kind South) (λ s.
+      after _ _ (joins-refuses p kind West) (λ w.
+      either (eqb kind 4) _ _ (after _ _ (post-refuses p _) (λ b. finds _)) (finds _))))))
+
+  block-refuses : (p : Pos) (b : Block) → Refuses Five (shapeOf look records p b)
+  unfolding shapeOf connectedShape
+  block-refuses p none = finds _
+  block-refuses p (some id) = either _ _ _ (after _ _ (connected-refuses p id) (λ s. finds _)) (finds _)
+
+  cell-refuses : (p : Pos) → Refuses Five (cellShape look records p)
+  unfolding cellShape
+  cell-refuses p = after (look p) _ (h p) (block-refuses p)
+
+  -- ---- visiting, for a P that 5 is one of
+  module _ {S : Type 0} {P : ℕ → Type 0} (five : (n : ℕ) → n ≡ 5 → P n) (accept : Aabb → S → Ask (Turn S Bool)) (g : (b : Aabb) (s : S) → Refuses P (accept b s)) (area : Aabb) (shapes : List Float) where
+    offers-refuse : (bs : List Aabb) (s : S) → Refuses P (offerAll accept area bs s)
+    unfolding offerAll
+    offers-refuse [] s = finds (next s)
+    offers-refuse (b ∷ bs) s = on (offer accept area b s) (offerAll accept area bs) (either _ _ _ (g b s) (finds (next s))) (offers-refuse bs)
+
+    visit-refuses : (p : Pos) (s : S) → Refuses P (visit accept area look records shapes p s)
+    unfolding visit
+    visit-refuses p s = after (cellShape look records p) _ record { only = λ n e. five n (cell-refuses p .only n e) } (λ shape. offers-refuse _ s)
+
+push-refuses : (b : Aabb) (bs : List Aabb) → Refuses FiveOrSix (push b bs)
+push-refuses b bs = either _ _ _ (finds _) (names 6 (inr refl))
+
+pub collect-refuses : (cells : List ℕ) (w : Window) (records : List ℕ) (shapes : List Float) (area : Aabb) → Refuses FiveOrSix (collectBlockBoxes (lookAt cells w) records shapes area)
+unfolding collectBlockBoxes
+collect-refuses cells w records shapes area =
+    after _ _ (walks _ _ (visit-refuses (lookAt cells w) (look-refuses cells w) records (λ n e. inl e) push push-refuses area shapes) []) (λ t. finds _)
+
+pub collides-refuses : (cells : List ℕ) (w : Window) (records : List ℕ) (shapes : List Float) (area : Aabb) → Refuses Five (collidesWithBlocks (lookAt cells w) records shapes area)
+unfolding collidesWithBlocks
+collides-refuses cells w records shapes area =
+    after _ _ (walks _ _ (visit-refuses (lookAt cells w) (look-refuses cells w) records (λ n e. e) hit (λ b s. finds _) area shapes) false) (λ t. finds _)
+
+-- ---- what the number of a collection's refusal tells
+never-zero : FiveOrSix 0 → ⊥
+never-zero (inl e) = omega arith
+never-zero (inr e) = omega arith
+
+pub was-collected : (m : Ask (List Aabb)) (c : Collected) → Refuses FiveOrSix m → heldIn c ≡ heldAsked m → c .refusal ≡ 0 → m ≡ found (listOf (c .list))
+was-collected (refused k) c h e z = absurd (never-zero (h .only 0 (ap refused (sym (ap (λ (x : Held). x .refusal) e) ∙ z))))
+was-collected (found bs) c h e z = ap found (sym (ap (λ (x : Held). x .boxes) e))
+
+pub was-refused : (m : Ask (List Aabb)) (c : Collected) → heldIn c ≡ heldAsked m → (c .refusal ≡ 0 → ⊥) → m ≡ refused (c .refusal)
+was-refused (refused k) c e z = ap refused (sym (ap (λ (x : Held). x .refusal) e))
+was-refused (found bs) c e z = absurd (z (ap (λ (x : Held). x .refusal) e))
