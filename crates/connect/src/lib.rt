@@ -8,7 +8,7 @@ ghost use mathlib.Core.Path.{_≡_};
 ghost use mathlib.Core.Bool.{_&&_};
 ghost use Rattle.window.specs.Look.{lookAt, asked, some};
 ghost use Rattle.connect.specs.Connect.{wayTo, alongX, connectsAs, isFence, isThinOrWall, oppositeFace, gateDecides, gateJoins, registeredConnects, joins, sideWord, transition, transitions, straight, raises, raisedBy, post, postTransition, connectedState};
-ghost use Rattle.connect.specs.Answers.{yesOrNo, stateAsked};
+ghost use Rattle.connect.specs.Answers.{yesOrNo, stateAsked, connectedEntry};
 
 // Which sides join.
 pub struct Joined {
@@ -28,6 +28,12 @@ enum Told {
 pub enum Connected {
     State(u32),
     Refused(u32),
+}
+
+// What a host is handed: refusal 0 and the state, or a refusal and 0.
+pub struct StateAnswer {
+    pub refusal: u32,
+    pub state: u32,
 }
 
 fn way_to(side: Side) -> Step
@@ -294,4 +300,21 @@ pub fn connected_state(records: &[u32], cells: &[u32], w: Window, p: Pos, state:
         }
     }
     Connected::State(resolved)
+}
+
+// For hosts: tables and window are checked before any cell is asked for.
+pub fn connected_state_at(records: &[u32], shapes: &[f32], cells: &[u32], w: Window, p: Pos, state: u32) -> StateAnswer
+    ensures { λ r. ⌜ r ≡ connectedEntry (now (records .entry)) (now (shapes .entry)) (now (cells .entry)) w p state ⌝ }
+{
+    if tables::check_tables(records, shapes) != 0 {
+        return StateAnswer { refusal: 1, state: 0 };
+    }
+    if window::check_window(cells, w) != 0 {
+        return StateAnswer { refusal: 2, state: 0 };
+    }
+    let told = connected_state(records, cells, w, p, state);
+    match told {
+        Connected::Refused(n) => StateAnswer { refusal: n, state: 0 },
+        Connected::State(s) => StateAnswer { refusal: 0, state: s },
+    }
 }

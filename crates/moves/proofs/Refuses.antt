@@ -11,7 +11,10 @@ use lib.Ieee.{Float}
 use Rattle.base.specs.Choose.{choose}
 use Rattle.base.specs.Ask.{Ask, refused, found, _>>=_, Turn, next, done, onward, turning}
 use Rattle.boxes.specs.declared.Aabb.{Aabb}
+use Rattle.boxes.specs.declared.Vec3.{Vec3}
 use Rattle.boxes.specs.declared.Collected.{Collected}
+use Rattle.boxes.specs.declared.MoveResult.{MoveResult}
+use Rattle.boxes.specs.Move.{moveOver}
 use Rattle.boxes.specs.Lists.{Held, heldIn, held, listOf}
 use Rattle.cover.specs.declared.Side.{Side}
 use Rattle.cover.specs.declared.Side.the-variants.{North, East, South, West}
@@ -24,7 +27,7 @@ use Rattle.ranges.specs.Walk.{line, layer, walk}
 use Rattle.connect.specs.declared.Joined.{Joined}
 use Rattle.connect.specs.Connect.{connectsAs, joins, post, connectedState}
 use Rattle.moves.specs.Collect.{connectedShape, shapeOf, cellShape, offer, offerAll, visit, push, hit, collectBlockBoxes, collidesWithBlocks}
-use Rattle.moves.specs.Answers.{heldAsked}
+use Rattle.moves.specs.Answers.{heldAsked, sweptArea, moveAabb}
 
 -- what a refusal's number can be
 pub record Refuses {A : Type 0} (P : ℕ → Type 0) (m : Ask A) : Type 0 where
@@ -139,3 +142,14 @@ was-collected (found bs) c h e z = ap found (sym (ap (λ (x : Held). x .boxes) e
 pub was-refused : (m : Ask (List Aabb)) (c : Collected) → heldIn c ≡ heldAsked m → (c .refusal ≡ 0 → ⊥) → m ≡ refused (c .refusal)
 was-refused (refused k) c e z = ap refused (sym (ap (λ (x : Held). x .refusal) e))
 was-refused (found bs) c e z = absurd (z (ap (λ (x : Held). x .refusal) e))
+
+-- ---- the move over what was collected from the swept area
+module _ (cells : List ℕ) (w : Window) (records : List ℕ) (shapes : List Float) (aabb : Aabb) (delta : Vec3) (step : Float) (ground : Bool) (area : Aabb) (c : Collected)
+    (e : area ≡ sweptArea aabb delta step) (h : heldIn c ≡ heldAsked (collectBlockBoxes (lookAt cells w) records shapes area)) where
+  pub move-refused : (c .refusal ≡ 0 → ⊥) → refused (c .refusal) ≡ moveAabb (lookAt cells w) records shapes aabb delta step ground
+  unfolding moveAabb
+  move-refused z = rw (← e, was-refused (collectBlockBoxes (lookAt cells w) records shapes area) c h z)
+
+  pub move-done : (m : MoveResult) → c .refusal ≡ 0 → m ≡ moveOver (listOf (c .list)) aabb delta step ground → found m ≡ moveAabb (lookAt cells w) records shapes aabb delta step ground
+  unfolding moveAabb
+  move-done m z q = rw (← e, was-collected (collectBlockBoxes (lookAt cells w) records shapes area) c (collect-refuses cells w records shapes area) h z, q)

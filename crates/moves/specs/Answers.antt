@@ -24,6 +24,8 @@ use Rattle.window.specs.Window.{windowRefusal}
 use Rattle.window.specs.Look.{Block, lookAt}
 use Rattle.moves.specs.declared.Collision.{Collision}
 use Rattle.moves.specs.declared.Collision.the-variants.{Is, Refused}
+use Rattle.moves.specs.declared.Moved.{Moved}
+use Rattle.moves.specs.declared.Moved.the-variants.{To, Refused as MoveRefused}
 use Rattle.moves.specs.declared.HitAnswer.{HitAnswer}
 use Rattle.moves.specs.Collect.{collectBlockBoxes, collidesWithBlocks}
 
@@ -45,6 +47,10 @@ unfoldable pub moveAabb : (Pos → Ask Block) → List ℕ → List Float → Aa
 moveAabb look records shapes aabb delta stepHeight wasOnGround = do
   boxes ← collectBlockBoxes look records shapes (sweptArea aabb delta stepHeight)
   found (moveOver boxes aabb delta stepHeight wasOnGround)
+
+abbrev pub movedAsked : Moved → Ask MoveResult
+movedAsked (To m) = found m
+movedAsked (MoveRefused n) = refused n
 
 -- a refused move returns its box, moved zero, ground false
 abbrev pub moveAnswer : Aabb → Ask MoveResult → MoveAnswer

@@ -2,6 +2,8 @@
 use boxes::Aabb;
 use boxes::BoxList;
 use boxes::Collected;
+use boxes::MoveAnswer;
+use boxes::MoveResult;
 use boxes::Vec3;
 use connect::Connected;
 use ranges::Range;
@@ -14,7 +16,10 @@ ghost use Rattle.tables.specs.Tables.{boxAt};
 ghost use Rattle.window.specs.Look.{lookAt};
 ghost use Rattle.moves.specs.Collect.{originOf, cubeAt, toAabb, connectedShape, cellShape, rangeOf, collectBlockBoxes, collidesWithBlocks};
 ghost use Rattle.moves.specs.Parts.{partAsked, countOf, nthAabb};
-ghost use Rattle.moves.specs.Answers.{heldAsked, hitAsked};
+ghost use Rattle.moves.specs.Answers.{heldAsked, hitAsked, movedAsked, sweptArea, moveAabb, moveAnswer, collectEntry, collidesEntry, moveEntry};
+ghost use mathlib.Core.Bool.{_&&_};
+ghost use Rattle.base.specs.Ask.{refused};
+ghost use Rattle.boxes.specs.Limits.{isBox, isDelta};
 
 // What stands in a cell: a full cube, or the boxes of the shapes by the two words of a record.
 struct Shape {
@@ -30,6 +35,12 @@ enum Part {
 
 pub enum Collision {
     Is(bool),
+    Refused(u32),
+}
+
+// A move, or the number of a refusal.
+pub enum Moved {
+    To(MoveResult),
     Refused(u32),
 }
 
@@ -212,4 +223,109 @@ pub fn collides(records: &[u32], shapes: &[f32], cells: &[u32], w: Window, area:
         t = ranges::next(r, t);
     }
     Collision::Is(false)
+}
+
+// The area that a move sweeps: towards its delta, and up by the step height.
+fn swept_area(aabb: Aabb, delta: Vec3, step: f64) -> Aabb
+    ensures { λ r. ⌜ r ≡ sweptArea aabb delta step ⌝ }
+{
+    aabb.expand_towards(delta).expand_towards(Vec3::new(0.0, step, 0.0))
+}
+
+// The move of a box through the blocks of a window: step is the step height, ground whether the body was on the ground. It refuses 5 and 6 alone.
+pub fn move_through(records: &[u32], shapes: &[f32], cells: &[u32], w: Window, aabb: Aabb, delta: Vec3, step: f64, ground: bool) -> Moved
+    ensures { λ r. ⌜ movedAsked r ≡ moveAabb (lookAt (now (cells .entry)) w) (now (records .entry)) (now (shapes .entry)) aabb delta step ground ⌝ }
+{
+    let area = swept_area(aabb, delta, step);
+    let got = collect(records, shapes, cells, w, area);
+    if got.refusal != 0 {
+        return Moved::Refused(got.refusal);
+    }
+    let list = got.list;
+    Moved::To(boxes::move_over(list, aabb, delta, step, ground))
+}
+
+// For hosts: collection, with tables, window and area checked before any cell is asked for.
+pub fn collect_block_boxes(records: &[u32], shapes: &[f32], cells: &[u32], w: Window, area: Aabb) -> Collected
+    ensures { λ r. ⌜ heldIn r ≡ collectEntry (now (records .entry)) (now (shapes .entry)) (now (cells .entry)) w area ⌝ }
+{
+    if tables::check_tables(records, shapes) != 0 {
+        return Collected::refused(1);
+    }
+    if window::check_window(cells, w) != 0 {
+        return Collected::refused(2);
+    }
+    if boxes::is_box(area) {
+        return collect(records, shapes, cells, w, area);
+    }
+    Collected::refused(4)
+}
+
+// For hosts: whether a block box strictly overlaps the area.
+pub fn collides_with_blocks(records: &[u32], shapes: &[f32], cells: &[u32], w: Window, area: Aabb) -> HitAnswer
+    ensures { λ r. ⌜ r ≡ collidesEntry (now (records .entry)) (now (shapes .entry)) (now (cells .entry)) w area ⌝ }
+{
+    if tables::check_tables(records, shapes) != 0 {
+        return HitAnswer { refusal: 1, hit: false };
+    }
+    if window::check_window(cells, w) != 0 {
+        return HitAnswer { refusal: 2, hit: false };
+    }
+    if boxes::is_box(area) {
+        let told = collides(records, shapes, cells, w, area);
+        return match told {
+            Collision::Refused(n) => HitAnswer { refusal: n, hit: false },
+            Collision::Is(b) => HitAnswer { refusal: 0, hit: b },
+        };
+    }
+    HitAnswer { refusal: 4, hit: false }
+}
+
+// A refused move: its box, moved zero, ground false.
+fn refused_move(refusal: u32, aabb: Aabb) -> MoveAnswer
+    ensures { λ r. ⌜ r ≡ moveAnswer aabb (refused refusal) ⌝ }
+{
+    MoveAnswer {
+        refusal,
+        result: MoveResult {
+            aabb,
+            moved: Vec3::new(0.0, 0.0, 0.0),
+            ground: false,
+        },
+    }
+}
+
+fn is_fit(aabb: Aabb, delta: Vec3) -> bool
+    ensures { λ r. ⌜ r ≡ isBox aabb && isDelta delta ⌝ }
+{
+    if boxes::is_box(aabb) {
+        return boxes::is_delta(delta);
+    }
+    false
+}
+
+// For hosts: the move through a window. 1, 2, 3 and 4 in order, before any cell is asked for; then 5 or 6.
+pub fn move_aabb(records: &[u32], shapes: &[f32], cells: &[u32], w: Window, aabb: Aabb, delta: Vec3, step: f64, ground: bool) -> MoveAnswer
+    ensures { λ r. ⌜ r ≡ moveEntry (now (records .entry)) (now (shapes .entry)) (now (cells .entry)) w aabb delta step ground ⌝ }
+{
+    if tables::check_tables(records, shapes) != 0 {
+        return refused_move(1, aabb);
+    }
+    if window::check_window(cells, w) != 0 {
+        return refused_move(2, aabb);
+    }
+    if boxes::is_step(step) {
+        if is_fit(aabb, delta) {
+            let told = move_through(records, shapes, cells, w, aabb, delta, step, ground);
+            return match told {
+                Moved::Refused(n) => refused_move(n, aabb),
+                Moved::To(m) => MoveAnswer {
+                    refusal: 0,
+                    result: m,
+                },
+            };
+        }
+        return refused_move(4, aabb);
+    }
+    refused_move(3, aabb)
 }

@@ -1,3 +1,4 @@
+-- `moves::collect` meets its contract. Assumes nothing.
 use mathlib.Core.Path.{_≡_, sym, ap, _∙_}
 use mathlib.Core.Logic.{⊎-elim}
 use mathlib.Core.List.{[]}
@@ -12,19 +13,6 @@ use Rattle.moves.specs.Parts.{nthAabb, partAsked}
 use Rattle.moves.proofs.Collects.{Room, Walking, all, leftFrom, left-next, left-refused, kept, passed, full, empty-room, collected, not-collected, walking-start, walking-end, walking-refused, walking-next, walking-less, boxing-start}
 use Rattle.moves.proofs.collect.Statement.{statement}
 use Rattle.moves.proofs.collect.Tie as tie
-use Rattle.moves.proofs.collect.Reads as reads
-use Rattle.moves.proofs.collect.Lts as lts
-use Rattle.boxes.proofs.Aabb.intersects.Reads as intersects-reads
-use Rattle.boxes.proofs.BoxList.new.Reads as new-reads
-use Rattle.boxes.proofs.Collected.refused.Reads as refused-reads
-use Rattle.moves.proofs.count_of.Reads as count-of-reads
-use Rattle.moves.proofs.nth_aabb.Reads as nth-aabb-reads
-use Rattle.moves.proofs.part_at.Reads as part-at-reads
-use Rattle.moves.proofs.range_of.Reads as range-of-reads
-use Rattle.ranges.proofs.next.Reads as next-reads
-use Rattle.ranges.proofs.place.Reads as place-reads
-use Rattle.ranges.proofs.start.Reads as start-reads
-use Rattle.tables.proofs.boxes_at.Reads as boxes-at-reads
 
 abbrev Inv-loop2 : tie.InvT-loop2
 Inv-loop2 records shapes cells w area r list₀ t p q shape n k₀ list k = Room list × (leftFrom push (lookAt cells w) records shapes area r t (nthAabb (q .cube) shape p) n k (listOf list) ≡ all push (lookAt cells w) records shapes area r [])

@@ -1,22 +1,18 @@
+-- `moves::count_of` meets its contract. Assumes nothing.
 use Rattle.moves.specs.Parts.{countOf}
 use Rattle.base.specs.Choose.{choose}
 use borrow.Author.Tests.{eq-eqb, ne-eqb}
 use Rattle.moves.proofs.count_of.Statement.{statement}
 use Rattle.moves.proofs.count_of.Tie as tie
-use Rattle.moves.proofs.count_of.Reads as reads
-use Rattle.moves.proofs.count_of.Lts as lts
 
--- src/lib.rt:121:9
 returns : tie.Need-returns
 unfolding countOf choose
 returns c = rw (c .if1 .taken)
 
--- src/lib.rt:124:9
 returns-2 : tie.Need-returns-2
 unfolding countOf choose
 returns-2 c = rw (c .before .if1 .left, eq-eqb _ _ (c .if2 .taken))
 
--- src/lib.rt:117:1
 returns-3 : tie.Need-returns-3
 unfolding countOf choose
 returns-3 c = rw (c .before .if1 .left, ne-eqb _ _ (c .if2 .left))

@@ -1,54 +1,40 @@
+-- `moves::part_at` meets its contract. Assumes nothing.
 use Rattle.moves.specs.Collect.{cellShape, shapeOf}
 use Rattle.base.specs.Choose.{choose}
 use borrow.Author.Needs.{needs}
 use Rattle.moves.proofs.part_at.Statement.{statement}
 use Rattle.moves.proofs.part_at.Tie as tie
-use Rattle.moves.proofs.part_at.Reads as reads
-use Rattle.moves.proofs.part_at.Lts as lts
-use Rattle.moves.proofs.part_of.Reads as part-of-reads
-use Rattle.tables.proofs.is_registered.Reads as is-registered-reads
-use Rattle.window.proofs.look.Reads as look-reads
 
--- src/lib.rt:86:9
 look-requires : tie.Need-look-requires
 look-requires c κs = search needs
 
--- src/lib.rt:88:26
 enum-told : tie.Need-enum-told
 enum-told c = search needs
 
--- src/lib.rt:89:36
 enum-told-2 : tie.Need-enum-told-2
 enum-told-2 c = search needs
 
--- src/lib.rt:94:21
 enum-known-cell : tie.Need-enum-known-cell
 enum-known-cell c = search needs
 
--- src/lib.rt:95:16
 is-registered-requires : tie.Need-is-registered-requires
 is-registered-requires c κs = search needs
 
--- src/lib.rt:96:17
 part-of-requires : tie.Need-part-of-requires
 part-of-requires c κs = search needs
 
--- src/lib.rt:96:17
 returns : tie.Need-returns
 unfolding cellShape shapeOf choose
 returns c = rw (← c .before .before .before .before .before .before .look .ensures, c .before .before .before .before .cell .given .1, ← c .before .before .is-registered .ensures, c .before .if1 .taken, ← c .part-of .ensures)
 
--- src/lib.rt:83:1
 returns-2 : tie.Need-returns-2
 unfolding cellShape shapeOf choose
 returns-2 c = rw (← c .before .before .look .ensures, c .enum-told .given .1)
 
--- src/lib.rt:83:1
 returns-3 : tie.Need-returns-3
 unfolding cellShape shapeOf choose
 returns-3 c = rw (← c .before .before .look .ensures, c .enum-told2 .given .1)
 
--- src/lib.rt:83:1
 returns-4 : tie.Need-returns-4
 unfolding cellShape shapeOf choose
 returns-4 c = rw (← c .before .before .before .before .before .look .ensures, c .before .before .before .cell .given .1, ← c .before .is-registered .ensures, c .if1 .left)

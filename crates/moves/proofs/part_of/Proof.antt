@@ -1,39 +1,29 @@
+-- `moves::part_of` meets its contract. Assumes nothing.
 use Rattle.moves.specs.Collect.{connectedShape}
 use Rattle.base.specs.Choose.{choose}
 use borrow.Author.Needs.{needs}
 use Rattle.moves.proofs.part_of.Statement.{statement}
 use Rattle.moves.proofs.part_of.Tie as tie
-use Rattle.moves.proofs.part_of.Reads as reads
-use Rattle.moves.proofs.part_of.Lts as lts
-use Rattle.connect.proofs.connected_state.Reads as connected-state-reads
-use Rattle.tables.proofs.word.Reads as word-reads
 
--- src/lib.rt:67:9
 connected-state-requires : tie.Need-connected-state-requires
 connected-state-requires c κs = search needs
 
--- src/lib.rt:69:28
 enum-known-state : tie.Need-enum-known-state
 enum-known-state c = search needs
 
--- src/lib.rt:70:26
 enum-known-state-2 : tie.Need-enum-known-state-2
 enum-known-state-2 c = search needs
 
--- src/lib.rt:71:17
 word-requires : tie.Need-word-requires
 word-requires c κs = search needs
 
--- src/lib.rt:72:17
 word-requires-2 : tie.Need-word-requires-2
 word-requires-2 c κs = search needs
 
--- src/lib.rt:64:1
 returns : tie.Need-returns
 unfolding connectedShape choose
 returns c = rw (← c .before .before .before .connected-state .ensures, c .before .state .given .1)
 
--- src/lib.rt:64:1
 returns-2 : tie.Need-returns-2
 unfolding connectedShape choose
 returns-2 c = rw (← c .before .before .before .before .before .connected-state .ensures, c .before .before .before .state2 .given .1, ← c .before .word .ensures, ← c .word2 .ensures)
