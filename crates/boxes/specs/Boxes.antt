@@ -1,5 +1,5 @@
 -- Boxes, line by line as collision.rs has them. Every operation is IEEE 754's on binary64, and every definition takes any numbers.
-use mathlib.Core.Bool.{Bool, true, false, _&&_, _||_}
+use mathlib.Core.Bool.{Bool, _&&_, _||_}
 use lib.Ieee.{Float, binary64, ofBits, add, sub, div, lt, le}
 use Rattle.base.specs.Choose.{choose}
 use Rattle.floats.specs.Numbers.{zero64, leastOf, greatestOf}

@@ -1,5 +1,5 @@
 -- The move over a list that is handed in: it refuses 3, then 4, then 6, or is the move.
-use mathlib.Core.Bool.{Bool, true, false, not, _&&_}
+use mathlib.Core.Bool.{Bool, false, not, _&&_}
 use Prim.Native.Nat.{ℕ}
 use lib.Dec.{eqb, ltb}
 use lib.Ieee.{Float}

@@ -1,5 +1,5 @@
 -- The move over a list, line by line as physics.rs has `clip_sequence` and `move_aabb`, its boxes given. It takes any boxes and any numbers.
-use mathlib.Core.Bool.{Bool, true, false, _&&_, _||_}
+use mathlib.Core.Bool.{Bool, _&&_, _||_}
 use mathlib.Core.List.{List, [], _∷_}
 use lib.Ieee.{Float, binary64, add, mul, neg, lt, ne}
 use Rattle.base.specs.Choose.{choose}

@@ -105,17 +105,20 @@ fn refusal_of(aabb: Aabb, delta: Vec3, step: f64, sound: bool, count: usize) -> 
     3
 }
 
-fn refused_move(aabb: Aabb) -> MoveResult
-    ensures { λ r. ⌜ r ≡ refusedMove aabb ⌝ }
-{
-    MoveResult {
-        aabb,
-        moved: Vec3 {
-            x: 0.0,
-            y: 0.0,
-            z: 0.0,
-        },
-        ground: false,
+impl MoveResult {
+    // What a refused move returns: its box, moved zero, ground false.
+    pub fn refused(aabb: Aabb) -> MoveResult
+        ensures { λ r. ⌜ r ≡ refusedMove aabb ⌝ }
+    {
+        MoveResult {
+            aabb,
+            moved: Vec3 {
+                x: 0.0,
+                y: 0.0,
+                z: 0.0,
+            },
+            ground: false,
+        }
     }
 }
 
@@ -133,6 +136,6 @@ pub fn move_over_list(list: BoxList, aabb: Aabb, delta: Vec3, step: f64, ground:
     }
     MoveAnswer {
         refusal,
-        result: refused_move(aabb),
+        result: MoveResult::refused(aabb),
     }
 }

@@ -1,4 +1,5 @@
-// Module 2, boxes: vectors and boxes of f64 by value, overlap, and clipping, from collision.rs. Every function takes any numbers.
+// Boxes, and the move over a list. This file has the records, overlap and clipping, from collision.rs: every function takes any numbers.
+// list.rt has the capped list, passes.rt the move, and entry.rt the limits and the move that a host calls.
 mod entry;
 mod list;
 mod passes;

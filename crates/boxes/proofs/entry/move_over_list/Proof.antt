@@ -19,12 +19,12 @@ returns : tie.Need-returns
 unfolding moveOverList choose
 returns c = rw (← c .before .before .before .are-boxes .ensures, ← c .before .before .refusal-of .ensures, eq-eqb _ _ (c .before .if1 .taken), ← c .move-over .ensures)
 
-refused-move-requires : tie.Need-refused-move-requires
-refused-move-requires c κs = search needs
+refused-requires : tie.Need-refused-requires
+refused-requires c κs = search needs
 
 returns-2 : tie.Need-returns-2
 unfolding moveOverList choose
-returns-2 c = rw (← c .before .before .before .are-boxes .ensures, ← c .before .before .refusal-of .ensures, ne-eqb _ _ (c .before .if1 .left), ← c .refused-move .ensures)
+returns-2 c = rw (← c .before .before .before .are-boxes .ensures, ← c .before .before .refusal-of .ensures, ne-eqb _ _ (c .before .if1 .left), ← c .refused .ensures)
 
 pub move-over-list-spec : {M : Type 1} → statement M
 move-over-list-spec =
@@ -34,5 +34,5 @@ move-over-list-spec =
     refusal-of-requires
     move-over-requires
     returns
-    refused-move-requires
+    refused-requires
     returns-2)
