@@ -1,2 +1,3 @@
 -- The small scenes.
 pub mod Scenes
+pub mod Palette

@@ -1,15 +1,19 @@
 -- The small scenes that document 01 marks P, as one table, and the test that a scene is as the document says.
 use mathlib.Core.Bool.{Bool, true, false, Bool·beq, _&&_}
 use mathlib.Core.List.{List, [], _∷_}
-use Prim.Native.Nat.{ℕ}
+use Prim.Native.Nat.{ℕ, _+_}
 use lib.Dec.{eqb}
 use lib.ListN.{length}
 use lib.Ieee.{Float, binary64, round, neg, toBits}
+use Rattle.base.specs.Ask.{Ask, refused, found}
 use Rattle.boxes.specs.declared.Vec3.{Vec3}
 use Rattle.boxes.specs.declared.Aabb.{Aabb}
 use Rattle.boxes.specs.declared.MoveAnswer.{MoveAnswer}
 use Rattle.boxes.specs.Boxes.{vec, box, offsetBy}
 use Rattle.boxes.specs.Entry.{moveOverList}
+use Rattle.window.specs.Look.{lookAt}
+use Rattle.connect.specs.Connect.{connectedState}
+use Rattle.small_scenes.specs.Palette.{palette, cube, oakFence, netherBrickFence, plainWall, unloaded, window, middle, around}
 
 -- A move over a list: its boxes, the delta, the step height and whether the body was on the ground; then how far it moves, and its ground flag.
 -- The mover is (0,1,0)-(1,2,1).
@@ -21,9 +25,20 @@ pub record Moving : Type 0 where
   pub moved : Vec3
   pub after : Bool
 
+-- A fence or wall of the palette in the middle of a window: what lies north, east, south, west and above; then the state that it comes to.
+pub record Joining : Type 0 where
+  pub it : ℕ
+  pub north : ℕ
+  pub east : ℕ
+  pub south : ℕ
+  pub west : ℕ
+  pub above : ℕ
+  pub comes-to : ℕ
+
 -- one kind for each thing that the table speaks of
 pub data Scene : Type 0 where
   move : Moving → Scene
+  join : Joining → Scene
 
 -- n / d
 abbrev pub part : ℕ → ℕ → Float
@@ -53,8 +68,14 @@ moves r moved after =
     && (sameBox (r .result .aabb) (offsetBy mover moved)
     && Bool·beq (r .result .ground) after))
 
+-- nothing asked for is refused, and the state is this one
+abbrev pub isFound : Ask ℕ → ℕ → Bool
+isFound (found s) t = eqb s t
+isFound (refused k) t = false
+
 unfoldable pub holds : Scene → Bool
 holds (move m) = moves (moveOverList record { boxes = m .boxes; count = length (m .boxes) } mover (m .delta) (m .step) (m .ground)) (m .moved) (m .after)
+holds (join j) = isFound (connectedState (lookAt (around (j .north) (j .east) (j .south) (j .west) (j .above) (j .it)) window) palette middle (j .it)) (j .comes-to)
 
 unfoldable pub allHold : List Scene → Bool
 allHold [] = true
@@ -104,4 +125,8 @@ scenes =
     ∷ climbing (part 25 16) (vec (w 1) (w 0) (w 0))
     -- P6: the ground flag is worked out after the step
     ∷ hopping true
+    -- P7: an oak fence joins north (1) and east (2) only
+    ∷ join record { it = oakFence; north = unloaded; east = cube; south = 0; west = netherBrickFence; above = 0; comes-to = oakFence + 1 + 2 }
+    -- P8: a wall joined north (1) and south (4), unloaded above: no post (16)
+    ∷ join record { it = plainWall; north = plainWall; east = 0; south = plainWall; west = 0; above = unloaded; comes-to = plainWall + 1 + 4 }
     ∷ []
