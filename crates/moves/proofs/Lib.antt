@@ -2,3 +2,4 @@
 pub mod Boxes
 pub mod Collects
 pub mod Refuses
+pub mod Order
