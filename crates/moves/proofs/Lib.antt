@@ -1,3 +1,0 @@
--- The laws of collection.
-pub mod Boxes
-pub mod Collects
