@@ -1,15 +1,39 @@
 // Runs stored calls, one to a line of standard input, and writes each with our answer. Its stdout holds the original Rust's answers
 // (docs/VECTORS.md), so that a bit of difference anywhere fails the gate.
+mod moves;
+mod names;
 mod numbers;
+mod shapes;
 mod text;
+
 ghost use mathlib.Core.Path.{_≡_};
 ghost use lib.ListN.{length};
+
+fn answer(line: &[u8]) {
+    if text::begins(line, b"movelist") {
+        moves::run(line);
+        return;
+    }
+    if text::begins(line, b"ident") {
+        names::ident(line);
+        return;
+    }
+    if text::begins(line, b"post") {
+        names::post(line);
+        return;
+    }
+    if text::begins(line, b"cover") {
+        shapes::run(line);
+        return;
+    }
+    numbers::run(line);
+}
 
 // One line: the call as it stands, and the answer after an arrow.
 fn run(line: &[u8]) {
     text::put(line);
     text::put(b" => ");
-    numbers::run(line);
+    answer(line);
     text::put(b"\n");
 }
 
@@ -19,7 +43,7 @@ fn run_all(calls: &[u8]) {
     let most: usize = 65536;
     for _ in 0..most {
         if at < calls.len() {
-            let end = text::line_end(calls, at);
+            let end = text::next(calls, at, b'\n');
             run(text::part(calls, at, end));
             at = text::sum(end, 1);
         }

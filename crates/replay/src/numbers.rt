@@ -24,10 +24,6 @@ fn answer(line: &[u8]) -> Answer {
 
 pub(crate) fn run(line: &[u8]) {
     let a = answer(line);
-    if a.refusal != 0 {
-        crate::text::put(b"refused ");
-        crate::text::put_digit(a.refusal as u64);
-        crate::text::put(b" ");
-    }
+    crate::text::put_refusal(a.refusal);
     crate::text::put_float(a.value);
 }

@@ -23,10 +23,10 @@ pub(crate) fn part(s: &[u8], from: usize, to: usize) -> &[u8] {
     &s[0..0]
 }
 
-// Where the line that holds `from` ends.
-pub(crate) fn line_end(s: &[u8], from: usize) -> usize {
+// Where the first such byte from `from` on stands; the end where there is none.
+pub(crate) fn next(s: &[u8], from: usize, stop: u8) -> usize {
     for i in from..s.len() {
-        if s[i] == b'\n' {
+        if s[i] == stop {
             return i;
         }
     }
@@ -71,26 +71,67 @@ pub(crate) fn digit(b: u8) -> u64 {
     0
 }
 
-// The 16 hex digits from `at` on.
-pub(crate) fn hex(line: &[u8], at: usize) -> u64 {
+// The n hex digits from `at` on.
+pub(crate) fn hex(line: &[u8], at: usize, n: usize) -> u64 {
     let mut v = 0u64;
-    for i in 0..16 {
+    for i in 0..n {
         v = v % 0x1000_0000_0000_0000 * 16 + digit(byte(line, sum(at, i))) % 16;
     }
     v
 }
 
-// The k-th word of the line as an f64.
+// The k-th word of the line.
+pub(crate) fn word(line: &[u8], k: usize) -> &[u8] {
+    let at = word_at(line, k);
+    part(line, at, next(line, at, b' '))
+}
+
+// The k-th word of the line as an f64: 16 hex digits.
 pub(crate) fn float(line: &[u8], k: usize) -> f64 {
-    floats::float_of_bits(hex(line, word_at(line, k)))
+    floats::float_of_bits(hex(line, word_at(line, k), 16))
+}
+
+// The f32 with these bits. Above the infinity's, with the sign's bit off, they are a NaN's.
+fn single_of(bits: u32) -> f32 {
+    if bits % 0x8000_0000 <= 0x7f80_0000 {
+        return f32::from_bits(bits);
+    }
+    0.0 / 0.0
+}
+
+// The k-th word of the line as an f32: 8 hex digits.
+pub(crate) fn single(line: &[u8], k: usize) -> f32 {
+    single_of((hex(line, word_at(line, k), 8) % 0x1_0000_0000) as u32)
+}
+
+fn decimal(digits: &[u8]) -> u32 {
+    let mut v = 0u32;
+    for i in 0..digits.len() {
+        v = v % 100_000_000 * 10 + (digit(digits[i]) % 10) as u32;
+    }
+    v
+}
+
+// The k-th word of the line as a number of decimal digits.
+pub(crate) fn number(line: &[u8], k: usize) -> u32 {
+    decimal(word(line, k))
 }
 
 pub(crate) fn put(s: &[u8]) {
     io::write_all(1, s);
 }
 
-pub(crate) fn put_digit(d: u64) {
-    put(&[b'0' + (d % 10) as u8]);
+pub(crate) fn put_number(n: u32) {
+    io::print_decimal(1, n as u64);
+}
+
+// What stands in front of an answer where a call is refused: nothing where it is not.
+pub(crate) fn put_refusal(n: u32) {
+    if n != 0 {
+        put(b"refused ");
+        put_number(n);
+        put(b" ");
+    }
 }
 
 fn hex_digit(d: u64) -> u8 {

@@ -5,10 +5,10 @@ use Rattle.replay.proofs.text.hex.Statement.{statement}
 use Rattle.replay.proofs.text.hex.Tie as tie
 
 abbrev Inv-loop : tie.InvT-loop
-Inv-loop line at v₀ i₀ v i = i ≤ 16
+Inv-loop line at n v₀ i₀ v i = i ≤ n
 
 abbrev μ-loop : tie.MeasureT-loop
-μ-loop line at v₀ i₀ v i = 16 - i
+μ-loop line at n v₀ i₀ v i = n - i
 
 loop-holds : tie.Need-loop-holds Inv-loop μ-loop
 loop-holds c = search needs

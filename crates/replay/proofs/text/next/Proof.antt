@@ -1,16 +1,16 @@
--- `replay::text::line_end` is safe and ends. Assumes nothing.
+-- `replay::text::next` is safe and ends. Assumes nothing.
 use borrow.Author.Needs.{needs}
 use Prim.Native.Nat.{_≤_, _-_}
 use mathlib.Core.Path.{_≡_}
 use lib.ListN.{length}
-use Rattle.replay.proofs.text.line_end.Statement.{statement}
-use Rattle.replay.proofs.text.line_end.Tie as tie
+use Rattle.replay.proofs.text.next.Statement.{statement}
+use Rattle.replay.proofs.text.next.Tie as tie
 
 abbrev Inv-loop : tie.InvT-loop
-Inv-loop s from i₀ i-end i = (i-end ≡ length s) × (i₀ ≤ i)
+Inv-loop s from stop i₀ i-end i = (i-end ≡ length s) × (i₀ ≤ i)
 
 abbrev μ-loop : tie.MeasureT-loop
-μ-loop s from i₀ i-end i = i-end - i
+μ-loop s from stop i₀ i-end i = i-end - i
 
 loop-holds : tie.Need-loop-holds Inv-loop μ-loop
 loop-holds c = search needs
@@ -33,8 +33,8 @@ loop-again c = search needs
 returns-2 : tie.Need-returns-2 Inv-loop μ-loop
 returns-2 c = search needs
 
-pub line-end-spec : {M : Type 1} → statement M
-line-end-spec =
+pub next-spec : {M : Type 1} → statement M
+next-spec =
     tie.close
     (tie.spec
     Inv-loop
