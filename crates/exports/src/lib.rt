@@ -1,8 +1,14 @@
-// What a host in another language links: functions on numbers alone. A refusal hands back zero, as module 1 has it.
+// What a host in another language links: functions on numbers and lent slices of them.
+mod moves;
+
+pub use moves::boltjuniper_move_over;
 ghost use mathlib.Core.Path.{_≡_};
 ghost use Rattle.floats.specs.Numbers.{isFinite, answer};
 ghost use Rattle.floats.specs.Whole.{floorOf, ceilOf, cellOf};
 ghost use Rattle.floats.specs.Root.{hasRoot, rootOf};
+ghost use Rattle.tables.specs.Check.{tableRefusal};
+
+// Floor, ceiling and root: a refusal hands back zero, as module 1 has it.
 
 #[no_mangle]
 pub extern "C" fn boltjuniper_floor(x: f64) -> f64
@@ -33,4 +39,11 @@ pub extern "C" fn boltjuniper_cell(x: f64) -> i32
     ensures { λ r. ⌜ r ≡ cellOf x ⌝ }
 {
     floats::cell(x)
+}
+
+#[no_mangle]
+pub extern "C" fn boltjuniper_check_tables(records: &[u32], shapes: &[f32]) -> u32
+    ensures { λ r. ⌜ r ≡ tableRefusal (now (records .entry)) (now (shapes .entry)) ⌝ }
+{
+    tables::check_tables(records, shapes)
 }

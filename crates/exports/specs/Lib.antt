@@ -1,0 +1,2 @@
+-- The definitions of what a host hands over and is handed back as lent numbers.
+pub mod Moves

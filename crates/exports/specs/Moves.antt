@@ -1,0 +1,68 @@
+-- The move over a list, in lent numbers: what a host hands over, and what is written back.
+use mathlib.Core.Bool.{Bool, not}
+use mathlib.Core.List.{List, [], _∷_}
+use Prim.Native.Nat.{ℕ, _+_, _*_, _/_}
+use lib.ListN.{length, set}
+use lib.Dec.{ltb, eqb}
+use lib.Ieee.{Float, binary64, ofBits}
+use Rattle.base.specs.Choose.{choose}
+use Rattle.base.specs.Loop.{listed}
+use Rattle.floats.specs.Numbers.{zero64}
+use Rattle.boxes.specs.declared.Vec3.{Vec3}
+use Rattle.boxes.specs.declared.Aabb.{Aabb}
+use Rattle.boxes.specs.declared.MoveResult.{MoveResult}
+use Rattle.boxes.specs.declared.MoveAnswer.{MoveAnswer}
+use Rattle.boxes.specs.Boxes.{vec, box}
+use Rattle.boxes.specs.Lists.{room}
+use Rattle.boxes.specs.Move.{moveOver}
+use Rattle.boxes.specs.Entry.{answerOf}
+use Rattle.tables.specs.Tables.{floatAt}
+
+-- ---- reading: a number that is not there is +0
+
+abbrev pub vecAt : List Float → ℕ → Vec3
+vecAt numbers i = vec (floatAt numbers i) (floatAt numbers (i + 1)) (floatAt numbers (i + 2))
+
+-- min x y z, max x y z
+abbrev pub aabbAt : List Float → ℕ → Aabb
+aabbAt numbers i = box (vecAt numbers i) (vecAt numbers (i + 3))
+
+-- box k of numbers that are six to a box
+abbrev pub boxOf : List Float → ℕ → Aabb
+boxOf numbers k = aabbAt numbers (k * 6)
+
+-- how many whole boxes there are; numbers left over are no box
+abbrev pub countOf : List Float → ℕ
+countOf numbers = length numbers / 6
+
+-- ---- the move
+
+-- mover: the box that moves, and its delta, nine numbers. More than 128 boxes: 6.
+unfoldable pub moveOf : List Float → List Float → Float → ℕ → MoveAnswer
+moveOf boxes mover step ground =
+    answerOf
+    (choose (ltb room (countOf boxes)) 6 0)
+    (moveOver (listed (boxOf boxes) (countOf boxes) 0) (aabbAt mover 0) (vecAt mover 6) step (not (eqb ground 0)))
+    (aabbAt mover 0)
+
+-- ---- writing
+
+-- 1.0
+abbrev pub one64 : Float
+one64 = ofBits binary64 4607182418800017408
+
+abbrev pub flagOf : Bool → Float
+flagOf holds = choose holds one64 zero64
+
+-- the box after the move, the way that it went, and the ground flag: ten numbers
+unfoldable pub numbersOf : MoveResult → List Float
+numbersOf m =
+    m .aabb .min .x ∷ m .aabb .min .y ∷ m .aabb .min .z
+    ∷ m .aabb .max .x ∷ m .aabb .max .y ∷ m .aabb .max .z
+    ∷ m .moved .x ∷ m .moved .y ∷ m .moved .z
+    ∷ flagOf (m .ground) ∷ []
+
+-- numbers written from place i on; one whose place is not there is dropped
+unfoldable pub stored : List Float → ℕ → List Float → List Float
+stored out i [] = out
+stored out i (x ∷ xs) = stored (set out i x) (i + 1) xs
