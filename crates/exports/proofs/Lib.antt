@@ -1,3 +1,4 @@
 -- Laws of this crate's definitions, on plain values.
 pub mod Fill
 pub mod Answers
+pub mod Tops

@@ -1,7 +1,9 @@
 // What a host in another language links: functions on numbers and lent slices of them.
-mod moves;
+mod over;
+mod through;
 
-pub use moves::boltjuniper_move_over;
+pub use over::boltjuniper_move_over;
+pub use through::boltjuniper_collected_top;
 ghost use mathlib.Core.Path.{_≡_};
 ghost use Rattle.floats.specs.Numbers.{isFinite, answer};
 ghost use Rattle.floats.specs.Whole.{floorOf, ceilOf, cellOf};

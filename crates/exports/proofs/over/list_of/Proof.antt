@@ -1,4 +1,4 @@
--- `exports::moves::list_of` meets its contract. Assumes nothing.
+-- `exports::over::list_of` meets its contract. Assumes nothing.
 use native.Mathlib.Nat.{sub-zero}
 use borrow.Author.Needs.{needs}
 use mathlib.Core.Path.{_≡_, refl, ap, _∙_}
@@ -10,8 +10,8 @@ use Rattle.boxes.specs.declared.BoxList.{BoxList}
 use Rattle.boxes.specs.Lists.{noBox, emptyList}
 use Rattle.exports.specs.Moves.{boxOf}
 use Rattle.exports.proofs.Fill.{turn, whole}
-use Rattle.exports.proofs.moves.list_of.Statement.{statement}
-use Rattle.exports.proofs.moves.list_of.Tie as tie
+use Rattle.exports.proofs.over.list_of.Statement.{statement}
+use Rattle.exports.proofs.over.list_of.Tie as tie
 
 abbrev Inv-loop : tie.InvT-loop
 Inv-loop numbers n list₀ i₀ list i = (i ≤ n) × (n ≤ 128) × (length (list .boxes) ≡ 128) × (take i (list .boxes) ++ listed (boxOf numbers) (n - i) i ≡ listed (boxOf numbers) n 0)

@@ -1,9 +1,9 @@
--- `exports::moves::put` meets its contract. Assumes nothing.
+-- `exports::over::put` meets its contract. Assumes nothing.
 use mathlib.Core.Path.{sym}
 use lib.Seq.{set-out}
 use borrow.Author.Needs.{needs}
-use Rattle.exports.proofs.moves.put.Statement.{statement}
-use Rattle.exports.proofs.moves.put.Tie as tie
+use Rattle.exports.proofs.over.put.Statement.{statement}
+use Rattle.exports.proofs.over.put.Tie as tie
 
 mul-out : tie.Need-mul-out
 mul-out c = search needs

@@ -1,10 +1,10 @@
--- `exports::moves::number_at` meets its contract. Assumes nothing.
+-- `exports::over::number_at` meets its contract. Assumes nothing.
 use mathlib.Core.Path.{sym}
 use lib.ListN.{List·getD-eq-default}
 use Rattle.tables.proofs.Lists.{getD-any}
 use borrow.Author.Needs.{needs}
-use Rattle.exports.proofs.moves.number_at.Statement.{statement}
-use Rattle.exports.proofs.moves.number_at.Tie as tie
+use Rattle.exports.proofs.over.number_at.Statement.{statement}
+use Rattle.exports.proofs.over.number_at.Tie as tie
 
 mul-result : tie.Need-mul-result
 mul-result c = search needs

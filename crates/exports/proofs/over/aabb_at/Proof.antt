@@ -1,7 +1,7 @@
--- `exports::moves::aabb_at` meets its contract. Assumes nothing.
+-- `exports::over::aabb_at` meets its contract. Assumes nothing.
 use borrow.Author.Needs.{needs}
-use Rattle.exports.proofs.moves.aabb_at.Statement.{statement}
-use Rattle.exports.proofs.moves.aabb_at.Tie as tie
+use Rattle.exports.proofs.over.aabb_at.Statement.{statement}
+use Rattle.exports.proofs.over.aabb_at.Tie as tie
 
 vec-at-requires : tie.Need-vec-at-requires
 vec-at-requires c κs = search needs

@@ -1,8 +1,8 @@
--- `exports::moves::flag_of` meets its contract. Assumes nothing.
+-- `exports::over::flag_of` meets its contract. Assumes nothing.
 use borrow.Author.Needs.{needs}
 use Rattle.base.proofs.Cases.{cases}
-use Rattle.exports.proofs.moves.flag_of.Statement.{statement}
-use Rattle.exports.proofs.moves.flag_of.Tie as tie
+use Rattle.exports.proofs.over.flag_of.Statement.{statement}
+use Rattle.exports.proofs.over.flag_of.Tie as tie
 
 returns : tie.Need-returns
 returns c = search (needs, cases)

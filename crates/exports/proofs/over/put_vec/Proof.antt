@@ -1,8 +1,8 @@
--- `exports::moves::put_vec` meets its contract. Assumes nothing.
+-- `exports::over::put_vec` meets its contract. Assumes nothing.
 use Rattle.exports.specs.Moves.{stored}
 use borrow.Author.Needs.{needs}
-use Rattle.exports.proofs.moves.put_vec.Statement.{statement}
-use Rattle.exports.proofs.moves.put_vec.Tie as tie
+use Rattle.exports.proofs.over.put_vec.Statement.{statement}
+use Rattle.exports.proofs.over.put_vec.Tie as tie
 
 put-requires : tie.Need-put-requires
 put-requires c κs = search needs

@@ -1,12 +1,12 @@
--- `exports::moves::boltjuniper_move_over` meets its contract. Assumes nothing.
+-- `exports::over::boltjuniper_move_over` meets its contract. Assumes nothing.
 use mathlib.Core.Path.{ap, _∙_}
 use Rattle.boxes.specs.declared.MoveAnswer.{MoveAnswer}
 use Rattle.boxes.specs.Lists.{listOf}
 use Rattle.exports.specs.Moves.{stored, numbersOf}
 use Rattle.exports.proofs.Answers.{too-many, no-more}
 use borrow.Author.Needs.{needs}
-use Rattle.exports.proofs.moves.boltjuniper_move_over.Statement.{statement}
-use Rattle.exports.proofs.moves.boltjuniper_move_over.Tie as tie
+use Rattle.exports.proofs.over.boltjuniper_move_over.Statement.{statement}
+use Rattle.exports.proofs.over.boltjuniper_move_over.Tie as tie
 
 aabb-at-requires : tie.Need-aabb-at-requires
 aabb-at-requires c κs = search needs

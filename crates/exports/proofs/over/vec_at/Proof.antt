@@ -1,7 +1,7 @@
--- `exports::moves::vec_at` meets its contract. Assumes nothing.
+-- `exports::over::vec_at` meets its contract. Assumes nothing.
 use borrow.Author.Needs.{needs}
-use Rattle.exports.proofs.moves.vec_at.Statement.{statement}
-use Rattle.exports.proofs.moves.vec_at.Tie as tie
+use Rattle.exports.proofs.over.vec_at.Statement.{statement}
+use Rattle.exports.proofs.over.vec_at.Tie as tie
 
 number-at-requires : tie.Need-number-at-requires
 number-at-requires c κs = search needs

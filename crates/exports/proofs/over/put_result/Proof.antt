@@ -1,8 +1,8 @@
--- `exports::moves::put_result` meets its contract. Assumes nothing.
+-- `exports::over::put_result` meets its contract. Assumes nothing.
 use Rattle.exports.specs.Moves.{stored, numbersOf}
 use borrow.Author.Needs.{needs}
-use Rattle.exports.proofs.moves.put_result.Statement.{statement}
-use Rattle.exports.proofs.moves.put_result.Tie as tie
+use Rattle.exports.proofs.over.put_result.Statement.{statement}
+use Rattle.exports.proofs.over.put_result.Tie as tie
 
 put-vec-requires : tie.Need-put-vec-requires
 put-vec-requires c κs = search needs
