@@ -6,7 +6,7 @@
 use std::hint::black_box;
 use std::time::Instant;
 
-extern "C" {
+unsafe extern "C" {
     fn boltjuniper_move_over(
         boxes: *const f64,
         boxes_len: usize,

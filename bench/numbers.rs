@@ -3,7 +3,7 @@
 use std::hint::black_box;
 use std::time::Instant;
 
-extern "C" {
+unsafe extern "C" {
     fn boltjuniper_floor(x: f64) -> f64;
     fn boltjuniper_cell(x: f64) -> i32;
     fn boltjuniper_root(x: f64) -> f64;

@@ -3,7 +3,7 @@
 use std::hint::black_box;
 use std::time::Instant;
 
-extern "C" {
+unsafe extern "C" {
     fn boltjuniper_check_tables(records: *const u32, records_len: usize, shapes: *const f32, shapes_len: usize) -> u32;
 }
 

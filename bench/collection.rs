@@ -1,0 +1,232 @@
+//! Collection of block boxes: ours (the native static library of crates/exports) against the original Rust, whose text bench/original takes out
+//! of its files when the bench is built. Both look into the same window over the same tables, which were checked before; every answer is
+//! compared bit for bit first. What is handed back is the top of one box of the list, so that neither side can leave the list out.
+use std::hint::black_box;
+use std::time::Instant;
+
+unsafe extern "C" {
+    fn boltjuniper_collected_top(
+        records: *const u32, records_len: usize, shapes: *const f32, shapes_len: usize, cells: *const u32, cells_len: usize,
+        ox: i32, oy: i32, oz: i32, sx: u32, sy: u32, sz: u32,
+        x0: f64, y0: f64, z0: f64, x1: f64, y1: f64, z1: f64, k: u32,
+    ) -> f64;
+}
+
+/// The original, over stand-ins for glam's vectors, the block registry and the chunks.
+#[allow(dead_code)]
+mod original {
+    use std::ops::{Add, Sub};
+
+    #[derive(Debug, Clone, Copy, PartialEq)]
+    pub struct DVec3 {
+        pub x: f64,
+        pub y: f64,
+        pub z: f64,
+    }
+    impl DVec3 {
+        pub const ZERO: Self = Self::new(0.0, 0.0, 0.0);
+        pub const ONE: Self = Self::new(1.0, 1.0, 1.0);
+        pub const fn new(x: f64, y: f64, z: f64) -> Self {
+            Self { x, y, z }
+        }
+        pub fn min(self, o: Self) -> Self {
+            Self::new(self.x.min(o.x), self.y.min(o.y), self.z.min(o.z))
+        }
+        pub fn max(self, o: Self) -> Self {
+            Self::new(self.x.max(o.x), self.y.max(o.y), self.z.max(o.z))
+        }
+        pub fn floor(self) -> Self {
+            Self::new(self.x.floor(), self.y.floor(), self.z.floor())
+        }
+        pub fn as_ivec3(self) -> IVec3 {
+            IVec3::new(self.x as i32, self.y as i32, self.z as i32)
+        }
+    }
+    impl Add for DVec3 {
+        type Output = Self;
+        fn add(self, o: Self) -> Self {
+            Self::new(self.x + o.x, self.y + o.y, self.z + o.z)
+        }
+    }
+    impl Sub for DVec3 {
+        type Output = Self;
+        fn sub(self, o: Self) -> Self {
+            Self::new(self.x - o.x, self.y - o.y, self.z - o.z)
+        }
+    }
+    #[derive(Debug, Clone, Copy, PartialEq)]
+    pub struct IVec3 {
+        pub x: i32,
+        pub y: i32,
+        pub z: i32,
+    }
+    impl IVec3 {
+        pub const X: Self = Self::new(1, 0, 0);
+        pub const Y: Self = Self::new(0, 1, 0);
+        pub const Z: Self = Self::new(0, 0, 1);
+        pub const NEG_X: Self = Self::new(-1, 0, 0);
+        pub const NEG_Z: Self = Self::new(0, 0, -1);
+        pub const fn new(x: i32, y: i32, z: i32) -> Self {
+            Self { x, y, z }
+        }
+        pub fn as_dvec3(self) -> DVec3 {
+            DVec3::new(self.x as f64, self.y as f64, self.z as f64)
+        }
+    }
+    impl Add for IVec3 {
+        type Output = Self;
+        fn add(self, o: Self) -> Self {
+            Self::new(self.x + o.x, self.y + o.y, self.z + o.z)
+        }
+    }
+
+    pub type ShapeBox = [f32; 6];
+    pub struct BlockRegistry {
+        pub connections: ConnectionCache,
+    }
+    impl BlockRegistry {
+        pub fn get_by_runtime_id(&self, id: u32) -> Option<()> {
+            self.connections.state(id).map(|_| ())
+        }
+    }
+    #[derive(Debug, Default)]
+    pub struct ConnectionCache {
+        states: Vec<Option<ConnectionState>>,
+        transitions: Vec<ConnectionTransitions>,
+    }
+    /// So many registered states that connect as nothing.
+    pub fn plain_registry(n: usize) -> BlockRegistry {
+        let plain = ConnectionState { kind: None, full_faces: 0, gate_spans_x: None, wall_post: WallPost::Never, transition: usize::MAX };
+        BlockRegistry { connections: ConnectionCache { states: vec![Some(plain); n], transitions: Vec::new() } }
+    }
+    /// The boxes of each state, which the original has in a static table.
+    pub static SHAPES: std::sync::OnceLock<Vec<Vec<ShapeBox>>> = std::sync::OnceLock::new();
+    pub fn block_collision_aabbs(state: u32) -> impl Iterator<Item = Aabb> {
+        SHAPES.get().unwrap()[state as usize].iter().map(to_aabb)
+    }
+    pub struct Window<'a> {
+        pub registry: &'a BlockRegistry,
+        pub cells: &'a [u32],
+        pub origin: IVec3,
+        pub sizes: IVec3,
+    }
+    impl BlockSource for Window<'_> {
+        fn block_at(&self, p: IVec3) -> Option<u32> {
+            let (x, y, z) = (p.x - self.origin.x, p.y - self.origin.y, p.z - self.origin.z);
+            let s = self.sizes;
+            assert!(x >= 0 && y >= 0 && z >= 0 && x < s.x && y < s.y && z < s.z, "outside the window");
+            match self.cells[((y * s.z + z) * s.x + x) as usize] {
+                u32::MAX => None,
+                state => Some(state),
+            }
+        }
+        fn registry(&self) -> &BlockRegistry {
+            self.registry
+        }
+    }
+
+    include!("../target/bench/collection.rs");
+}
+use original::{collect_block_boxes, plain_registry, Aabb, BlockRegistry, DVec3, IVec3, Window, SHAPES};
+
+const SIZE: i32 = 8;
+
+struct Scene {
+    cells: Vec<u32>,
+    area: [f64; 6],
+}
+
+#[inline(never)]
+fn ours(records: &[u32], shapes: &[f32], s: &Scene, k: u32) -> f64 {
+    let a = s.area;
+    unsafe {
+        boltjuniper_collected_top(
+            records.as_ptr(), records.len(), shapes.as_ptr(), shapes.len(), s.cells.as_ptr(), s.cells.len(),
+            -4, -4, -4, SIZE as u32, SIZE as u32, SIZE as u32, a[0], a[1], a[2], a[3], a[4], a[5], k,
+        )
+    }
+}
+
+#[inline(never)]
+fn rusts(registry: &BlockRegistry, s: &Scene, k: u32) -> f64 {
+    let a = s.area;
+    let w = Window { registry, cells: &s.cells, origin: IVec3::new(-4, -4, -4), sizes: IVec3::new(SIZE, SIZE, SIZE) };
+    let mut out = Vec::new();
+    collect_block_boxes(&w, Aabb::new(DVec3::new(a[0], a[1], a[2]), DVec3::new(a[3], a[4], a[5])), &mut out);
+    out.get(k as usize).map_or(0.0, |b| b.max.y)
+}
+
+fn count(registry: &BlockRegistry, s: &Scene) -> usize {
+    let a = s.area;
+    let w = Window { registry, cells: &s.cells, origin: IVec3::new(-4, -4, -4), sizes: IVec3::new(SIZE, SIZE, SIZE) };
+    let mut out = Vec::new();
+    collect_block_boxes(&w, Aabb::new(DVec3::new(a[0], a[1], a[2]), DVec3::new(a[3], a[4], a[5])), &mut out);
+    out.len()
+}
+
+fn time(n: usize, mut f: impl FnMut(usize) -> f64) -> f64 {
+    let mut best = f64::MAX;
+    for _ in 0..400 {
+        let begun = Instant::now();
+        for i in 0..n {
+            black_box(f(black_box(i)));
+        }
+        best = best.min(begun.elapsed().as_nanos() as f64 / n as f64);
+    }
+    best
+}
+
+fn main() {
+    // States: 0 air, 1 a cube, 2 a slab, 3 a stair of two boxes.
+    let boxes: Vec<Vec<[f32; 6]>> = vec![
+        vec![],
+        vec![[0.0, 0.0, 0.0, 1.0, 1.0, 1.0]],
+        vec![[0.0, 0.0, 0.0, 1.0, 0.5, 1.0]],
+        vec![[0.0, 0.0, 0.0, 1.0, 0.5, 1.0], [0.5, 0.5, 0.0, 1.0, 1.0, 1.0]],
+    ];
+    let mut records = Vec::new();
+    let mut shapes: Vec<f32> = Vec::new();
+    for b in &boxes {
+        let mut r = [0u32; 20];
+        r[0] = 3;
+        r[7] = (shapes.len() / 6) as u32;
+        r[8] = b.len() as u32;
+        records.extend(r);
+        shapes.extend(b.iter().flatten());
+    }
+    SHAPES.set(boxes).unwrap();
+    let registry = plain_registry(4);
+    let mut seed = 0x9e37_79b9_7f4a_7c15u64;
+    let mut next = move || {
+        seed ^= seed << 13;
+        seed ^= seed >> 7;
+        seed ^= seed << 17;
+        seed
+    };
+    // An area of 3 by 3 columns and, with the layer below, 4 layers: 36 cells. The lower layers are filled, so that some 15 boxes overlap; and
+    // the same with more filled.
+    for (what, filled) in [("36 cells, about 15 boxes", 12), ("36 cells, about 27 boxes", 27)] {
+        let scenes: Vec<Scene> = (0..200)
+            .map(|_| {
+                let mut cells = vec![0u32; (SIZE * SIZE * SIZE) as usize];
+                let (x, z) = (-1.0 + (next() % 100) as f64 / 1000.0, -1.0 + (next() % 100) as f64 / 1000.0);
+                for n in 0..filled {
+                    let (i, j, k) = (n % 3, n / 9, n / 3 % 3);
+                    cells[(((j + 4) * SIZE + (k + 3)) * SIZE + (i + 3)) as usize] = 1 + (next() % 3) as u32;
+                }
+                Scene { cells, area: [x, 0.05, z, x + 2.5, 2.4, z + 2.5] }
+            })
+            .collect();
+        let mut boxes = 0;
+        for s in &scenes {
+            boxes += count(&registry, s);
+            for k in 0..40 {
+                assert_eq!(ours(&records, &shapes, s, k).to_bits(), rusts(&registry, s, k).to_bits());
+            }
+        }
+        let n = scenes.len();
+        let a = time(n, |i| ours(&records, &shapes, &scenes[i], 5));
+        let b = time(n, |i| rusts(&registry, &scenes[i], 5));
+        println!("{what} ({:.1}): ours {a:7.1} ns   Rust {b:7.1} ns   ratio {:.2}", boxes as f64 / n as f64, a / b);
+    }
+}
