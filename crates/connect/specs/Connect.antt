@@ -129,17 +129,21 @@ post look records p j = do
   above ← look (stepped p upwards)
   found (not (straight j) || raisedBy records j above)
 
+-- what connects as this kind
+unfoldable pub besideNeighbours : (Pos → Ask Block) → List ℕ → Pos → ℕ → ℕ → Ask ℕ
+besideNeighbours look records p kind state = do
+  north ← joins look records p kind North
+  east ← joins look records p kind East
+  south ← joins look records p kind South
+  west ← joins look records p kind West
+  let j : Joined = record { north = north; east = east; south = south; west = west }
+  choose (eqb kind 4)
+      (do
+        on ← post look records p j
+        found (postTransition records on (transitions records j state)))
+      (found (transitions records j state))
+
+-- what connects as nothing stays as it is, and asks for no cell
 unfoldable pub connectedState : (Pos → Ask Block) → List ℕ → Pos → ℕ → Ask ℕ
 connectedState look records p state =
-    choose (eqb (connectsAs records state) 0) (found state)
-    (do
-      north ← joins look records p (connectsAs records state) North
-      east ← joins look records p (connectsAs records state) East
-      south ← joins look records p (connectsAs records state) South
-      west ← joins look records p (connectsAs records state) West
-      let j : Joined = record { north = north; east = east; south = south; west = west }
-      choose (eqb (connectsAs records state) 4)
-          (do
-            on ← post look records p j
-            found (postTransition records on (transitions records j state)))
-          (found (transitions records j state)))
+    choose (eqb (connectsAs records state) 0) (found state) (besideNeighbours look records p (connectsAs records state) state)

@@ -7,7 +7,7 @@ use window::Window;
 ghost use mathlib.Core.Path.{_≡_};
 ghost use mathlib.Core.Bool.{_&&_};
 ghost use Rattle.window.specs.Look.{lookAt, asked, some};
-ghost use Rattle.connect.specs.Connect.{wayTo, alongX, connectsAs, isFence, isThinOrWall, oppositeFace, gateDecides, gateJoins, registeredConnects, joins, sideWord, transition, transitions, straight, raises, raisedBy, post, postTransition, connectedState};
+ghost use Rattle.connect.specs.Connect.{wayTo, alongX, connectsAs, isFence, isThinOrWall, oppositeFace, gateDecides, gateJoins, registeredConnects, joins, sideWord, transition, transitions, straight, raises, raisedBy, post, postTransition, besideNeighbours, connectedState};
 ghost use Rattle.connect.specs.Answers.{yesOrNo, stateAsked, connectedEntry};
 
 // Which sides join.
@@ -262,14 +262,10 @@ fn posted(records: &[u32], state: u32, on: bool) -> u32
     tables::word(records, state, 17)
 }
 
-// The state that a record at p has beside its neighbours. It refuses 5 alone, at the first cell that lies outside.
-pub fn connected_state(records: &[u32], cells: &[u32], w: Window, p: Pos, state: u32) -> Connected
-    ensures { λ r. ⌜ stateAsked r ≡ connectedState (lookAt (now (cells .entry)) w) (now (records .entry)) p state ⌝ }
+// The state at p of what connects as this kind. It stands by itself, so that a cell that connects as nothing pays for none of it.
+fn beside_neighbours(records: &[u32], cells: &[u32], w: Window, p: Pos, kind: u32, state: u32) -> Connected
+    ensures { λ r. ⌜ stateAsked r ≡ besideNeighbours (lookAt (now (cells .entry)) w) (now (records .entry)) p kind state ⌝ }
 {
-    let kind = connects_as(records, state);
-    if kind == 0 {
-        return Connected::State(state);
-    }
     let north = match joins_at(records, cells, w, p, kind, Side::North) {
         Told::Refused(n) => return Connected::Refused(n),
         Told::Is(b) => b,
@@ -300,6 +296,17 @@ pub fn connected_state(records: &[u32], cells: &[u32], w: Window, p: Pos, state:
         }
     }
     Connected::State(resolved)
+}
+
+// The state that a record at p has beside its neighbours. It refuses 5 alone, at the first cell that lies outside.
+pub fn connected_state(records: &[u32], cells: &[u32], w: Window, p: Pos, state: u32) -> Connected
+    ensures { λ r. ⌜ stateAsked r ≡ connectedState (lookAt (now (cells .entry)) w) (now (records .entry)) p state ⌝ }
+{
+    let kind = connects_as(records, state);
+    if kind == 0 {
+        return Connected::State(state);
+    }
+    beside_neighbours(records, cells, w, p, kind, state)
 }
 
 // For hosts: tables and window are checked before any cell is asked for.

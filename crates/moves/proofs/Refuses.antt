@@ -25,7 +25,7 @@ use Rattle.window.specs.Look.{Block, none, some, lookAt}
 use Rattle.ranges.specs.declared.Range.{Range}
 use Rattle.ranges.specs.Walk.{line, layer, walk}
 use Rattle.connect.specs.declared.Joined.{Joined}
-use Rattle.connect.specs.Connect.{connectsAs, joins, post, connectedState}
+use Rattle.connect.specs.Connect.{connectsAs, joins, post, besideNeighbours, connectedState}
 use Rattle.moves.specs.Collect.{connectedShape, shapeOf, cellShape, offer, offerAll, visit, push, hit, collectBlockBoxes, collidesWithBlocks}
 use Rattle.moves.specs.Answers.{heldAsked, sweptArea, moveAabb}
 
@@ -86,16 +86,18 @@ module _ (look : Pos → Ask Block) (h : (p : Pos) → Refuses Five (look p)) (r
   unfolding post
   post-refuses p j = after (look _) _ (h _) (λ b. finds _)
 
-  pub connected-refuses : (p : Pos) (state : ℕ) → Refuses Five (connectedState look records p state)
-  unfolding connectedState
-  connected-refuses p state =
-      let kind = connectsAs records state in
-      either (eqb kind 0) (found state) _ (finds state)
-      (after _ _ (joins-refuses p kind North) (λ n.
+  beside-refuses : (p : Pos) (kind state : ℕ) → Refuses Five (besideNeighbours look records p kind state)
+  unfolding besideNeighbours
+  beside-refuses p kind state =
+      after _ _ (joins-refuses p kind North) (λ n.
       after _ _ (joins-refuses p kind East) (λ e.
       after _ _ (joins-refuses p kind South) (λ s.
       after _ _ (joins-refuses p kind West) (λ w.
-      either (eqb kind 4) _ _ (after _ _ (post-refuses p _) (λ b. finds _)) (finds _))))))
+      either (eqb kind 4) _ _ (after _ _ (post-refuses p _) (λ b. finds _)) (finds _)))))
+
+  pub connected-refuses : (p : Pos) (state : ℕ) → Refuses Five (connectedState look records p state)
+  unfolding connectedState
+  connected-refuses p state = either (eqb (connectsAs records state) 0) (found state) _ (finds state) (beside-refuses p (connectsAs records state) state)
 
   block-refuses : (p : Pos) (b : Block) → Refuses Five (shapeOf look records p b)
   unfolding shapeOf connectedShape

@@ -13,112 +13,13 @@ returns : tie.Need-returns
 unfolding connectedState choose
 returns c = rw (← c .before .connects-as .ensures, eq-eqb _ _ (c .if1 .taken))
 
-joins-at-requires : tie.Need-joins-at-requires
-joins-at-requires c κs = search needs
-
-enum-known-n : tie.Need-enum-known-n
-enum-known-n c = search needs
+beside-neighbours-requires : tie.Need-beside-neighbours-requires
+beside-neighbours-requires c κs = search needs
 
 returns-2 : tie.Need-returns-2
 unfolding connectedState choose
-returns-2 c = rw (← c .before .before .before .before .before .connects-as .ensures, ne-eqb _ _ (c .before .before .before .before .if1 .left), ← c .before .before .before .joins-at .ensures, c .before .n .given .1)
-
-enum-known-b : tie.Need-enum-known-b
-enum-known-b c = search needs
-
-joins-at-requires-2 : tie.Need-joins-at-requires-2
-joins-at-requires-2 c κs = search needs
-
-enum-known-n-2 : tie.Need-enum-known-n-2
-enum-known-n-2 c = search needs
-
-returns-3 : tie.Need-returns-3
-unfolding connectedState choose
-returns-3 c = rw (← c .before .before .before .before .before .before .before .before .before .connects-as .ensures, ne-eqb _ _ (c .before .before .before .before .before .before .before .before .if1 .left), ← c .before .before .before .before .before .before .before .joins-at .ensures, c .before .before .before .before .before .b .given .1, ← c .before .before .before .joins-at2 .ensures, c .before .n2 .given .1)
-
-enum-known-b-2 : tie.Need-enum-known-b-2
-enum-known-b-2 c = search needs
-
-joins-at-requires-3 : tie.Need-joins-at-requires-3
-joins-at-requires-3 c κs = search needs
-
-enum-known-n-3 : tie.Need-enum-known-n-3
-enum-known-n-3 c = search needs
-
-returns-4 : tie.Need-returns-4
-unfolding connectedState choose
-returns-4 c = rw (← c .before .before .before .before .before .before .before .before .before .before .before .before .before .connects-as .ensures, ne-eqb _ _ (c .before .before .before .before .before .before .before .before .before .before .before .before .if1 .left), ← c .before .before .before .before .before .before .before .before .before .before .before .joins-at .ensures, c .before .before .before .before .before .before .before .before .before .b .given .1, ← c .before .before .before .before .before .before .before .joins-at2 .ensures, c .before .before .before .before .before .b2 .given .1, ← c .before .before .before .joins-at3 .ensures, c .before .n3 .given .1)
-
-enum-known-b-3 : tie.Need-enum-known-b-3
-enum-known-b-3 c = search needs
-
-joins-at-requires-4 : tie.Need-joins-at-requires-4
-joins-at-requires-4 c κs = search needs
-
-enum-known-n-4 : tie.Need-enum-known-n-4
-enum-known-n-4 c = search needs
-
-returns-5 : tie.Need-returns-5
-unfolding connectedState choose
-returns-5 c = rw (← c .before .before .before .before .before .before .before .before .before .before .before .before .before .before .before .before .before .connects-as .ensures, ne-eqb _ _ (c .before .before .before .before .before .before .before .before .before .before .before .before .before .before .before .before .if1 .left), ← c .before .before .before .before .before .before .before .before .before .before .before .before .before .before .before .joins-at .ensures, c .before .before .before .before .before .before .before .before .before .before .before .before .before .b .given .1, ← c .before .before .before .before .before .before .before .before .before .before .before .joins-at2 .ensures, c .before .before .before .before .before .before .before .before .before .b2 .given .1, ← c .before .before .before .before .before .before .before .joins-at3 .ensures, c .before .before .before .before .before .b3 .given .1, ← c .before .before .before .joins-at4 .ensures, c .before .n4 .given .1)
-
-enum-known-b-4 : tie.Need-enum-known-b-4
-enum-known-b-4 c = search needs
-
-turn-all-requires : tie.Need-turn-all-requires
-turn-all-requires c κs = search needs
-
-post-at-requires : tie.Need-post-at-requires
-post-at-requires c κs = search needs
-
-enum-known-n-5 : tie.Need-enum-known-n-5
-enum-known-n-5 c = search needs
-
-returns-6 : tie.Need-returns-6
-unfolding connectedState choose
-returns-6 c = rw (← c .before .before .before .before .before .before .before .before .before .before .before .before .before .before .before .before .before .before .before .before .before .before .before .connects-as .ensures, ne-eqb _ _ (c .before .before .before .before .before .before .before .before .before .before .before .before .before .before .before .before .before .before .before .before .before .before .if1 .left), ← c .before .before .before .before .before .before .before .before .before .before .before .before .before .before .before .before .before .before .before .before .before .joins-at .ensures, c .before .before .before .before .before .before .before .before .before .before .before .before .before .before .before .before .before .before .before .b .given .1, ← c .before .before .before .before .before .before .before .before .before .before .before .before .before .before .before .before .before .joins-at2 .ensures, c .before .before .before .before .before .before .before .before .before .before .before .before .before .before .before .b2 .given .1, ← c .before .before .before .before .before .before .before .before .before .before .before .before .before .joins-at3 .ensures, c .before .before .before .before .before .before .before .before .before .before .before .b3 .given .1, ← c .before .before .before .before .before .before .before .before .before .joins-at4 .ensures, c .before .before .before .before .before .before .before .b4 .given .1, ← c .before .before .before .before .before .turn-all .ensures, eq-eqb _ _ (c .before .before .before .before .if2 .taken), ← c .before .before .before .post-at .ensures, c .before .n5 .given .1)
-
-enum-known-on : tie.Need-enum-known-on
-enum-known-on c = search needs
-
-posted-requires : tie.Need-posted-requires
-posted-requires c κs = search needs
-
-returns-7 : tie.Need-returns-7
-unfolding connectedState choose
-returns-7 c = rw (← c .before .before .before .before .before .before .before .before .before .before .before .before .before .before .before .before .before .before .before .before .before .before .before .before .connects-as .ensures, ne-eqb _ _ (c .before .before .before .before .before .before .before .before .before .before .before .before .before .before .before .before .before .before .before .before .before .before .before .if1 .left), ← c .before .before .before .before .before .before .before .before .before .before .before .before .before .before .before .before .before .before .before .before .before .before .joins-at .ensures, c .before .before .before .before .before .before .before .before .before .before .before .before .before .before .before .before .before .before .before .before .b .given .1, ← c .before .before .before .before .before .before .before .before .before .before .before .before .before .before .before .before .before .before .joins-at2 .ensures, c .before .before .before .before .before .before .before .before .before .before .before .before .before .before .before .before .b2 .given .1, ← c .before .before .before .before .before .before .before .before .before .before .before .before .before .before .joins-at3 .ensures, c .before .before .before .before .before .before .before .before .before .before .before .before .b3 .given .1, ← c .before .before .before .before .before .before .before .before .before .before .joins-at4 .ensures, c .before .before .before .before .before .before .before .before .b4 .given .1, ← c .before .before .before .before .before .before .turn-all .ensures, eq-eqb _ _ (c .before .before .before .before .before .if2 .taken), ← c .before .before .before .before .post-at .ensures, c .before .before .on .given .1, ← c .posted .ensures)
-
-returns-8 : tie.Need-returns-8
-unfolding connectedState choose
-returns-8 c = rw (← c .before .before .before .before .before .before .before .before .before .before .before .before .before .before .before .before .before .before .before .connects-as .ensures, ne-eqb _ _ (c .before .before .before .before .before .before .before .before .before .before .before .before .before .before .before .before .before .before .if1 .left), ← c .before .before .before .before .before .before .before .before .before .before .before .before .before .before .before .before .before .joins-at .ensures, c .before .before .before .before .before .before .before .before .before .before .before .before .before .before .before .b .given .1, ← c .before .before .before .before .before .before .before .before .before .before .before .before .before .joins-at2 .ensures, c .before .before .before .before .before .before .before .before .before .before .before .b2 .given .1, ← c .before .before .before .before .before .before .before .before .before .joins-at3 .ensures, c .before .before .before .before .before .before .before .b3 .given .1, ← c .before .before .before .before .before .joins-at4 .ensures, c .before .before .before .b4 .given .1, ← c .before .turn-all .ensures, ne-eqb _ _ (c .if2 .left))
+returns-2 c = rw (← c .before .before .connects-as .ensures, ne-eqb _ _ (c .before .if1 .left), ← c .beside-neighbours .ensures)
 
 pub connected-state-spec : {M : Type 1} → statement M
 connected-state-spec =
-    tie.close
-    (tie.spec
-    connects-as-requires
-    returns
-    joins-at-requires
-    enum-known-n
-    returns-2
-    enum-known-b
-    joins-at-requires-2
-    enum-known-n-2
-    returns-3
-    enum-known-b-2
-    joins-at-requires-3
-    enum-known-n-3
-    returns-4
-    enum-known-b-3
-    joins-at-requires-4
-    enum-known-n-4
-    returns-5
-    enum-known-b-4
-    turn-all-requires
-    post-at-requires
-    enum-known-n-5
-    returns-6
-    enum-known-on
-    posted-requires
-    returns-7
-    returns-8)
+    tie.close (tie.spec connects-as-requires returns beside-neighbours-requires returns-2)
