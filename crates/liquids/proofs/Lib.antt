@@ -1,0 +1,2 @@
+-- What the proofs of liquids share.
+pub mod Gaps
