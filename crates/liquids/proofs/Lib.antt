@@ -1,2 +1,4 @@
 -- What the proofs of liquids share.
 pub mod Gaps
+pub mod Cells
+pub mod Walking

@@ -1,8 +1,15 @@
 // Module 7, liquids: what liquid a cell holds, how it flows, and what that does to items and living bodies.
+mod drift;
+mod flotation;
 mod flow;
+mod living;
 mod vectors;
 
+pub use drift::item_current;
+pub use flotation::item_flotation;
 pub use flow::liquid_flow;
+pub use living::living_liquid;
+pub use living::living_liquid_in;
 use tables::LiquidKind;
 use tables::LiquidState;
 use window::Cell;
@@ -48,6 +55,53 @@ enum Turned {
 pub enum Flows {
     Is(boxes::Vec3),
     Refused(u32),
+}
+
+// The flows of one kind of liquid, summed, and how many there were: 0, 1, or 2 for more.
+struct Stream {
+    flow: boxes::Vec3,
+    count: u32,
+}
+
+struct Streams {
+    water: Stream,
+    lava: Stream,
+}
+
+enum Gathered {
+    On(Streams),
+    Refused(u32),
+}
+
+// What the flows add to an item's velocity, and whether there is water among them.
+pub struct Current {
+    pub flow: boxes::Vec3,
+    pub water: bool,
+}
+
+// A current, or the number of a refusal.
+pub enum Currents {
+    Is(Current),
+    Refused(u32),
+}
+
+// A kind of liquid, or the number of a refusal.
+pub enum Sensed {
+    Is(LiquidKind),
+    Refused(u32),
+}
+
+// A search for water: it goes on, and knows whether there was lava; or it is done.
+enum Search {
+    On(bool),
+    Done(LiquidKind),
+    Refused(u32),
+}
+
+// Refusal 0 and the liquid, or a refusal and none.
+pub struct LiquidAnswer {
+    pub refusal: u32,
+    pub kind: LiquidKind,
 }
 
 pub(crate) fn is_water(kind: LiquidKind) -> bool
