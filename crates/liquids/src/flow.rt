@@ -172,7 +172,7 @@ fn add_flow(flow: Vec3, side: Side, d: f64) -> Vec3
 fn asks_walls(depth: u32, walled: bool) -> bool
     ensures { λ r. ⌜ r ≡ leb 8 depth && not walled ⌝ }
 {
-    if depth >= 8 {
+    if 8 <= depth {
         return !walled;
     }
     false
