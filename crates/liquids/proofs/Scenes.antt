@@ -4,7 +4,6 @@ use mathlib.Core.Path.{_≡_, refl}
 use lib.Ieee as I
 use Rattle.base.specs.Choose as C
 use Rattle.base.specs.Ask as A
-use Rattle.floats.specs.Numbers as N
 use Rattle.floats.specs.Whole as W
 use Rattle.floats.specs.Root as R
 use Rattle.tables.specs.Tables as T

@@ -1,12 +1,12 @@
 -- The Rust's `item_current`: the flows of the cells that an item's box reaches, and what they do to its velocity.
-use mathlib.Core.Bool.{Bool, true, false, not, _&&_}
+use mathlib.Core.Bool.{Bool, false, not}
 use mathlib.Core.List.{List}
 use Prim.Native.Nat.{ℕ}
 use lib.Dec.{eqb}
 use lib.IntN.{ℤ, pos, negsuc, _-ℤ_}
 use lib.Ieee.{Float, binary64, ofBits, neg}
 use Rattle.base.specs.Choose.{choose}
-use Rattle.base.specs.Ask.{Ask, refused, found, _>>=_, Turn, next, done, resume}
+use Rattle.base.specs.Ask.{Ask, found, _>>=_, Turn, next, resume}
 use Rattle.floats.specs.Whole.{cellOf}
 use Rattle.boxes.specs.declared.Vec3.{Vec3}
 use Rattle.boxes.specs.declared.Aabb.{Aabb}

@@ -2,11 +2,11 @@
 use mathlib.Core.Bool.{Bool, _&&_, _||_}
 use mathlib.Core.List.{List}
 use Prim.Native.Nat.{ℕ}
-use lib.Dec.{leb, ltb}
+use lib.Dec.{ltb}
 use lib.IntN.{pos, _-ℤ_}
 use lib.Ieee.{Float, binary64, ofInt, ofBits, add, sub, div, lt}
 use Rattle.base.specs.Choose.{choose}
-use Rattle.base.specs.Ask.{Ask, refused, found, _>>=_}
+use Rattle.base.specs.Ask.{Ask, found, _>>=_}
 use Rattle.floats.specs.Whole.{cellOf}
 use Rattle.boxes.specs.declared.Vec3.{Vec3}
 use Rattle.boxes.specs.Boxes.{plus}

@@ -1,7 +1,7 @@
 -- What liquid a cell holds and whether it stops a flow: the Rust's `liquid_at` and `blocks_liquid_flow`. `look` is its `block_at`: it answers
 -- what lies in a cell (`none` where that is not loaded), or refuses a cell outside the window. The first refusal ends the asking.
 -- The Rust's `Option<LiquidState>` is a `LiquidState` here, whose kind is `None` where there is no liquid.
-use mathlib.Core.Bool.{Bool, true, false, not, _&&_}
+use mathlib.Core.Bool.{Bool, true, false}
 use mathlib.Core.List.{List}
 use Prim.Native.Nat.{ℕ}
 use lib.Dec.{leb}

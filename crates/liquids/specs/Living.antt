@@ -5,7 +5,7 @@ use Prim.Native.Nat.{ℕ}
 use lib.Dec.{leb}
 use lib.Ieee.{Float, binary64, ofInt, ofBits, add, le}
 use Rattle.base.specs.Choose.{choose}
-use Rattle.base.specs.Ask.{Ask, refused, found, _>>=_, Turn, next, done, resume}
+use Rattle.base.specs.Ask.{Ask, found, _>>=_, Turn, next, done, resume}
 use Rattle.boxes.specs.declared.Vec3.{Vec3}
 use Rattle.boxes.specs.declared.Aabb.{Aabb}
 use Rattle.boxes.specs.Boxes.{vec, plus, minus, box}
@@ -18,7 +18,7 @@ use Rattle.ranges.specs.declared.Range.{Range}
 use Rattle.ranges.specs.Ranges.{cellsBetween}
 use Rattle.ranges.specs.Walk.{walk}
 use Rattle.liquids.specs.Vectors.{one64}
-use Rattle.liquids.specs.Liquid.{liquidAsked}
+use Rattle.liquids.specs.Liquid.{isLiquid, liquidAsked}
 use Rattle.liquids.specs.Flotation.{surfaceAt}
 
 -- 0.001, and DVec3::splat of it
@@ -50,9 +50,10 @@ wetBy None lava = next lava
 wetBy Water lava = done Water
 wetBy Lava lava = next true
 
--- one cell: the body's lowest y is not at or above the surface
+-- one cell: there is a liquid, and the body's lowest y is not at or above its surface
 unfoldable pub wetIn : Float → Pos → LiquidState → Bool → Turn Bool LiquidKind
-wetIn feet p state lava = choose (le (surfaceOf p (state .depth)) feet) (next lava) (wetBy (state .kind) lava)
+wetIn feet p state lava =
+    choose (isLiquid (state .kind)) (choose (le (surfaceOf p (state .depth)) feet) (next lava) (wetBy (state .kind) lava)) (next lava)
 
 unfoldable pub livingTurn : (Pos → Ask Block) → List ℕ → Float → Pos → Bool → Ask (Turn Bool LiquidKind)
 livingTurn look records feet p lava = do

@@ -9,7 +9,7 @@ use Rattle.base.specs.Ask.{Ask, refused, found, _>>=_}
 use Rattle.boxes.specs.declared.Vec3.{Vec3}
 use Rattle.boxes.specs.Boxes.{vec, fromFeet}
 use Rattle.tables.specs.declared.LiquidKind.{LiquidKind}
-use Rattle.tables.specs.declared.LiquidKind.the-variants.{None, Water, Lava}
+use Rattle.tables.specs.declared.LiquidKind.the-variants.{None, Water}
 use Rattle.tables.specs.Tables.{kindNumber}
 use Rattle.window.specs.declared.Pos.{Pos}
 use Rattle.window.specs.declared.Window.{Window}

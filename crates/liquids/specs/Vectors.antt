@@ -1,6 +1,6 @@
 -- The vectors of module 7, as glam has them: products with a number, and normalising. A product of zero is a product like any other, so that
 -- the sign of a zero is the Rust's.
-use mathlib.Core.Bool.{Bool, _&&_}
+use mathlib.Core.Bool.{_&&_}
 use lib.Ieee.{Float, binary64, ofBits, add, mul, div, lt}
 use Rattle.base.specs.Choose.{choose}
 use Rattle.floats.specs.Numbers.{zero64, isFinite, answer}

@@ -22,8 +22,6 @@ use tables::LiquidState;
 use window::Pos;
 use window::Window;
 ghost use mathlib.Core.Path.{_≡_};
-ghost use mathlib.Core.Bool.{not};
-ghost use lib.Dec.{eqb};
 ghost use Rattle.window.specs.Look.{lookAt};
 ghost use Rattle.liquids.specs.Current.{cellsUpTo, reachOf, sameNumber, samePos, liquidKnown, noStreams, oneMore, joined, gathered, currentTurn, directionOf, pushed, currentOf, itemCurrent};
 ghost use Rattle.liquids.specs.Answers.{heldAsked, turnedOn, currentAsked};

@@ -8,7 +8,6 @@ use crate::Turned;
 use crate::are_alike;
 use crate::blocks_liquid_flow;
 use crate::liquid_by;
-use crate::vectors::add;
 use crate::vectors::normalize_or_zero;
 use crate::vectors::scale;
 use crate::vectors::subtract;

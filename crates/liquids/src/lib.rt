@@ -17,7 +17,7 @@ use window::Pos;
 use window::Step;
 use window::Window;
 ghost use mathlib.Core.Path.{_≡_};
-ghost use Rattle.window.specs.Look.{lookAt, asked, stepped};
+ghost use Rattle.window.specs.Look.{lookAt, stepped};
 ghost use Rattle.liquids.specs.Liquid.{isWater, isLava, isLiquid, alike, noLiquid, liquidAsked, blocksLiquidFlow};
 ghost use Rattle.liquids.specs.Answers.{heldAsked, toldAsked};
 

@@ -4,6 +4,7 @@ use crate::LiquidAnswer;
 use crate::Search;
 use crate::Sensed;
 use crate::flotation::surface_at;
+use crate::is_liquid;
 use crate::liquid_at;
 use boxes::Aabb;
 use boxes::Vec3;
@@ -58,16 +59,19 @@ fn surface_of(p: Pos, depth: u32) -> f64
 fn wet_in(feet: f64, p: Pos, state: LiquidState, lava: bool) -> Search
     ensures { λ r. ⌜ searchAsked r ≡ found (wetIn feet p state lava) ⌝ }
 {
-    let surface = surface_of(p, state.depth);
-    if feet >= surface {
-        return Search::On(lava);
-    }
     let kind = state.kind;
-    match kind {
-        LiquidKind::None => Search::On(lava),
-        LiquidKind::Water => Search::Done(LiquidKind::Water),
-        LiquidKind::Lava => Search::On(true),
+    if is_liquid(kind) {
+        let surface = surface_of(p, state.depth);
+        if feet >= surface {
+            return Search::On(lava);
+        }
+        return match kind {
+            LiquidKind::None => Search::On(lava),
+            LiquidKind::Water => Search::Done(LiquidKind::Water),
+            LiquidKind::Lava => Search::On(true),
+        };
     }
+    Search::On(lava)
 }
 
 // One cell.
