@@ -1,0 +1,5 @@
+-- What the proofs of liquids share.
+pub mod Gaps
+pub mod Cells
+pub mod Walking
+pub mod Scenes

@@ -1,0 +1,21 @@
+-- `liquids::drift::current_of` meets its contract. Assumes nothing.
+use Rattle.liquids.specs.Current.{currentOf}
+use borrow.Author.Needs.{needs}
+use Rattle.liquids.proofs.drift.current_of.Statement.{statement}
+use Rattle.liquids.proofs.drift.current_of.Tie as tie
+
+zero-requires : tie.Need-zero-requires
+zero-requires c κs = search needs
+
+push-requires : tie.Need-push-requires
+push-requires c κs = search needs
+
+push-requires-2 : tie.Need-push-requires-2
+push-requires-2 c κs = search needs
+
+returns : tie.Need-returns
+unfolding currentOf
+returns c = rw (← c .before .before .before .zero .ensures, ← c .before .before .push .ensures, ← c .before .push2 .ensures)
+
+pub current-of-spec : {M : Type 1} → statement M
+current-of-spec = tie.close (tie.spec zero-requires push-requires push-requires-2 returns)

@@ -1,0 +1,63 @@
+-- `liquids::drift::current_turn` meets its contract. Assumes nothing.
+use Rattle.liquids.specs.Current.{currentTurn}
+use Rattle.base.specs.Choose.{choose}
+use borrow.Author.Needs.{needs}
+use Rattle.liquids.proofs.drift.current_turn.Statement.{statement}
+use Rattle.liquids.proofs.drift.current_turn.Tie as tie
+
+liquid-known-requires : tie.Need-liquid-known-requires
+liquid-known-requires c κs = search needs
+
+enum-known-n : tie.Need-enum-known-n
+enum-known-n c = search needs
+
+enum-known-here : tie.Need-enum-known-here
+enum-known-here c = search needs
+
+is-liquid-requires : tie.Need-is-liquid-requires
+is-liquid-requires c κs = search needs
+
+liquid-flow-requires : tie.Need-liquid-flow-requires
+liquid-flow-requires c κs = search needs
+
+enum-known-n-2 : tie.Need-enum-known-n-2
+enum-known-n-2 c = search needs
+
+enum-known-flow : tie.Need-enum-known-flow
+enum-known-flow c = search needs
+
+gather-requires : tie.Need-gather-requires
+gather-requires c κs = search needs
+
+returns : tie.Need-returns
+unfolding currentTurn choose
+returns c = rw (← c .before .before .before .before .before .before .before .before .before .liquid-known .ensures, c .before .before .before .before .before .before .before .here .given .1, ← c .before .before .before .before .before .is-liquid .ensures, c .before .before .before .before .if1 .taken, ← c .before .before .before .liquid-flow .ensures, c .before .n2 .given .1)
+
+returns-2 : tie.Need-returns-2
+unfolding currentTurn choose
+returns-2 c = rw (← c .before .before .before .before .before .before .before .before .before .before .liquid-known .ensures, c .before .before .before .before .before .before .before .before .here .given .1, ← c .before .before .before .before .before .before .is-liquid .ensures, c .before .before .before .before .before .if1 .taken, ← c .before .before .before .before .liquid-flow .ensures, c .before .before .flow .given .1, ← c .gather .ensures)
+
+returns-3 : tie.Need-returns-3
+unfolding currentTurn choose
+returns-3 c = rw (← c .before .before .before .liquid-known .ensures, c .before .n .given .1)
+
+returns-4 : tie.Need-returns-4
+unfolding currentTurn choose
+returns-4 c = rw (← c .before .before .before .before .before .liquid-known .ensures, c .before .before .before .here .given .1, ← c .before .is-liquid .ensures, c .if1 .left)
+
+pub current-turn-spec : {M : Type 1} → statement M
+current-turn-spec =
+    tie.close
+    (tie.spec
+    liquid-known-requires
+    enum-known-n
+    enum-known-here
+    is-liquid-requires
+    liquid-flow-requires
+    enum-known-n-2
+    enum-known-flow
+    gather-requires
+    returns
+    returns-2
+    returns-3
+    returns-4)

@@ -1,0 +1,28 @@
+-- `liquids::drift::push` meets its contract. Assumes nothing.
+use Rattle.liquids.specs.Current.{pushed}
+use Rattle.base.specs.Choose.{choose}
+use borrow.Author.Tests.{eq-eqb, ne-eqb}
+use borrow.Author.Needs.{needs}
+use Rattle.liquids.proofs.drift.push.Statement.{statement}
+use Rattle.liquids.proofs.drift.push.Tie as tie
+
+returns : tie.Need-returns
+unfolding pushed choose
+returns c = rw (eq-eqb _ _ (c .if1 .taken))
+
+direction-of-requires : tie.Need-direction-of-requires
+direction-of-requires c κs = search needs
+
+scale-requires : tie.Need-scale-requires
+scale-requires c κs = search needs
+
+add-requires : tie.Need-add-requires
+add-requires c κs = search needs
+
+returns-2 : tie.Need-returns-2
+unfolding pushed choose
+returns-2 c = rw (ne-eqb _ _ (c .before .before .before .if1 .left), c .add .ensures, c .before .scale .ensures, c .before .before .direction-of .ensures)
+
+pub push-spec : {M : Type 1} → statement M
+push-spec =
+    tie.close (tie.spec returns direction-of-requires scale-requires add-requires returns-2)

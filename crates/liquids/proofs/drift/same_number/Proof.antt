@@ -1,0 +1,10 @@
+-- `liquids::drift::same_number` meets its contract. Assumes nothing.
+use Rattle.liquids.proofs.Cells.{same-bits}
+use Rattle.liquids.proofs.drift.same_number.Statement.{statement}
+use Rattle.liquids.proofs.drift.same_number.Tie as tie
+
+returns : tie.Need-returns
+returns c = same-bits (c .args .a) (c .args .b) (c .fits .a) (c .fits .b)
+
+pub same-number-spec : {M : Type 1} → statement M
+same-number-spec = tie.close (tie.spec returns)

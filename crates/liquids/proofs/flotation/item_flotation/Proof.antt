@@ -1,0 +1,114 @@
+-- `liquids::flotation::item_flotation` meets its contract. Assumes nothing.
+use Rattle.liquids.specs.Flotation.{itemFlotation}
+use Rattle.base.specs.Choose.{choose}
+use borrow.Author.Needs.{needs}
+use Rattle.liquids.proofs.flotation.item_flotation.Statement.{statement}
+use Rattle.liquids.proofs.flotation.item_flotation.Tie as tie
+
+raise-requires : tie.Need-raise-requires
+raise-requires c κs = search needs
+
+cell-at-requires : tie.Need-cell-at-requires
+cell-at-requires c κs = search needs
+
+liquid-known-requires : tie.Need-liquid-known-requires
+liquid-known-requires c κs = search needs
+
+enum-known-n : tie.Need-enum-known-n
+enum-known-n c = search needs
+
+returns : tie.Need-returns
+unfolding itemFlotation choose
+returns c = rw (← c .before .before .before .before .before .raise .ensures, ← c .before .before .before .before .cell-at .ensures, ← c .before .before .before .liquid-known .ensures, c .before .n .given .1)
+
+enum-known-s : tie.Need-enum-known-s
+enum-known-s c = search needs
+
+cell-under-requires : tie.Need-cell-under-requires
+cell-under-requires c κs = search needs
+
+liquid-known-requires-2 : tie.Need-liquid-known-requires-2
+liquid-known-requires-2 c κs = search needs
+
+enum-known-n-2 : tie.Need-enum-known-n-2
+enum-known-n-2 c = search needs
+
+returns-2 : tie.Need-returns-2
+unfolding itemFlotation choose
+returns-2 c = rw (← c .before .before .before .before .before .before .before .before .before .before .raise .ensures, ← c .before .before .before .before .before .before .before .before .before .cell-at .ensures, ← c .before .before .before .before .before .before .before .before .liquid-known .ensures, c .before .before .before .before .before .before .s .given .1, ← c .before .before .before .before .cell-under .ensures, ← c .before .before .before .liquid-known2 .ensures, c .before .n2 .given .1)
+
+enum-known-s-2 : tie.Need-enum-known-s-2
+enum-known-s-2 c = search needs
+
+either-falls-requires : tie.Need-either-falls-requires
+either-falls-requires c κs = search needs
+
+returns-3 : tie.Need-returns-3
+unfolding itemFlotation choose
+returns-3 c = rw (← c .before .before .before .before .before .before .before .before .before .before .before .before .raise .ensures, ← c .before .before .before .before .before .before .before .before .before .before .before .cell-at .ensures, ← c .before .before .before .before .before .before .before .before .before .before .liquid-known .ensures, c .before .before .before .before .before .before .before .before .s .given .1, ← c .before .before .before .before .before .before .cell-under .ensures, ← c .before .before .before .before .before .liquid-known2 .ensures, c .before .before .before .s2 .given .1, ← c .before .either-falls .ensures, c .if1 .taken)
+
+raise-requires-2 : tie.Need-raise-requires-2
+raise-requires-2 c κs = search needs
+
+cell-at-requires-2 : tie.Need-cell-at-requires-2
+cell-at-requires-2 c κs = search needs
+
+water-state-requires : tie.Need-water-state-requires
+water-state-requires c κs = search needs
+
+enum-known-n-3 : tie.Need-enum-known-n-3
+enum-known-n-3 c = search needs
+
+returns-4 : tie.Need-returns-4
+unfolding itemFlotation choose
+returns-4 c = rw (← c .before .before .before .before .before .before .before .before .before .before .before .before .before .before .before .before .before .before .raise .ensures, ← c .before .before .before .before .before .before .before .before .before .before .before .before .before .before .before .before .before .cell-at .ensures, ← c .before .before .before .before .before .before .before .before .before .before .before .before .before .before .before .before .liquid-known .ensures, c .before .before .before .before .before .before .before .before .before .before .before .before .before .before .s .given .1, ← c .before .before .before .before .before .before .before .before .before .before .before .before .cell-under .ensures, ← c .before .before .before .before .before .before .before .before .before .before .before .liquid-known2 .ensures, c .before .before .before .before .before .before .before .before .before .s2 .given .1, ← c .before .before .before .before .before .before .before .either-falls .ensures, c .before .before .before .before .before .before .if1 .left, ← c .before .before .before .before .before .raise2 .ensures, ← c .before .before .before .before .cell-at2 .ensures, ← c .before .before .before .water-state .ensures, c .before .n3 .given .1)
+
+enum-known-s-3 : tie.Need-enum-known-s-3
+enum-known-s-3 c = search needs
+
+is-under-water-requires : tie.Need-is-under-water-requires
+is-under-water-requires c κs = search needs
+
+returns-5 : tie.Need-returns-5
+unfolding itemFlotation choose
+returns-5 c = rw (← c .before .before .before .before .before .before .before .before .before .before .before .before .before .before .before .before .before .before .before .before .raise .ensures, ← c .before .before .before .before .before .before .before .before .before .before .before .before .before .before .before .before .before .before .before .cell-at .ensures, ← c .before .before .before .before .before .before .before .before .before .before .before .before .before .before .before .before .before .before .liquid-known .ensures, c .before .before .before .before .before .before .before .before .before .before .before .before .before .before .before .before .s .given .1, ← c .before .before .before .before .before .before .before .before .before .before .before .before .before .before .cell-under .ensures, ← c .before .before .before .before .before .before .before .before .before .before .before .before .before .liquid-known2 .ensures, c .before .before .before .before .before .before .before .before .before .before .before .s2 .given .1, ← c .before .before .before .before .before .before .before .before .before .either-falls .ensures, c .before .before .before .before .before .before .before .before .if1 .left, ← c .before .before .before .before .before .before .before .raise2 .ensures, ← c .before .before .before .before .before .before .cell-at2 .ensures, ← c .before .before .before .before .before .water-state .ensures, c .before .before .before .s3 .given .1, ← c .before .is-under-water .ensures, c .if2 .taken)
+
+is-in-lava-requires : tie.Need-is-in-lava-requires
+is-in-lava-requires c κs = search needs
+
+returns-6 : tie.Need-returns-6
+unfolding itemFlotation choose
+returns-6 c = rw (← c .before .before .before .before .before .before .before .before .before .before .before .before .before .before .before .before .before .before .before .before .before .before .raise .ensures, ← c .before .before .before .before .before .before .before .before .before .before .before .before .before .before .before .before .before .before .before .before .before .cell-at .ensures, ← c .before .before .before .before .before .before .before .before .before .before .before .before .before .before .before .before .before .before .before .before .liquid-known .ensures, c .before .before .before .before .before .before .before .before .before .before .before .before .before .before .before .before .before .before .s .given .1, ← c .before .before .before .before .before .before .before .before .before .before .before .before .before .before .before .before .cell-under .ensures, ← c .before .before .before .before .before .before .before .before .before .before .before .before .before .before .before .liquid-known2 .ensures, c .before .before .before .before .before .before .before .before .before .before .before .before .before .s2 .given .1, ← c .before .before .before .before .before .before .before .before .before .before .before .either-falls .ensures, c .before .before .before .before .before .before .before .before .before .before .if1 .left, ← c .before .before .before .before .before .before .before .before .before .raise2 .ensures, ← c .before .before .before .before .before .before .before .before .cell-at2 .ensures, ← c .before .before .before .before .before .before .before .water-state .ensures, c .before .before .before .before .before .s3 .given .1, ← c .before .before .before .is-under-water .ensures, c .before .before .if2 .left, ← c .before .is-in-lava .ensures, c .if3 .taken)
+
+returns-7 : tie.Need-returns-7
+unfolding itemFlotation choose
+returns-7 c = rw (← c .before .before .before .before .before .before .before .before .before .before .before .before .before .before .before .before .before .before .before .before .before .before .raise .ensures, ← c .before .before .before .before .before .before .before .before .before .before .before .before .before .before .before .before .before .before .before .before .before .cell-at .ensures, ← c .before .before .before .before .before .before .before .before .before .before .before .before .before .before .before .before .before .before .before .before .liquid-known .ensures, c .before .before .before .before .before .before .before .before .before .before .before .before .before .before .before .before .before .before .s .given .1, ← c .before .before .before .before .before .before .before .before .before .before .before .before .before .before .before .before .cell-under .ensures, ← c .before .before .before .before .before .before .before .before .before .before .before .before .before .before .before .liquid-known2 .ensures, c .before .before .before .before .before .before .before .before .before .before .before .before .before .s2 .given .1, ← c .before .before .before .before .before .before .before .before .before .before .before .either-falls .ensures, c .before .before .before .before .before .before .before .before .before .before .if1 .left, ← c .before .before .before .before .before .before .before .before .before .raise2 .ensures, ← c .before .before .before .before .before .before .before .before .cell-at2 .ensures, ← c .before .before .before .before .before .before .before .water-state .ensures, c .before .before .before .before .before .s3 .given .1, ← c .before .before .before .is-under-water .ensures, c .before .before .if2 .left, ← c .before .is-in-lava .ensures, c .if3 .left)
+
+pub item-flotation-spec : {M : Type 1} → statement M
+item-flotation-spec =
+    tie.close
+    (tie.spec
+    raise-requires
+    cell-at-requires
+    liquid-known-requires
+    enum-known-n
+    returns
+    enum-known-s
+    cell-under-requires
+    liquid-known-requires-2
+    enum-known-n-2
+    returns-2
+    enum-known-s-2
+    either-falls-requires
+    returns-3
+    raise-requires-2
+    cell-at-requires-2
+    water-state-requires
+    enum-known-n-3
+    returns-4
+    enum-known-s-3
+    is-under-water-requires
+    returns-5
+    is-in-lava-requires
+    returns-6
+    returns-7)

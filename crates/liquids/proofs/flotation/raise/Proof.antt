@@ -1,0 +1,21 @@
+-- `liquids::flotation::raise` meets its contract. Assumes nothing.
+use Rattle.liquids.specs.Flotation.{raised}
+use borrow.Author.Needs.{needs}
+use Rattle.liquids.proofs.flotation.raise.Statement.{statement}
+use Rattle.liquids.proofs.flotation.raise.Tie as tie
+
+unit-y-requires : tie.Need-unit-y-requires
+unit-y-requires c κs = search needs
+
+scale-requires : tie.Need-scale-requires
+scale-requires c κs = search needs
+
+add-requires : tie.Need-add-requires
+add-requires c κs = search needs
+
+returns : tie.Need-returns
+unfolding raised
+returns c = rw (c .add .ensures, c .before .scale .ensures, c .before .before .unit-y .ensures)
+
+pub raise-spec : {M : Type 1} → statement M
+raise-spec = tie.close (tie.spec unit-y-requires scale-requires add-requires returns)

@@ -1,0 +1,45 @@
+-- `liquids::flow::settle` meets its contract. Assumes nothing.
+use Rattle.liquids.specs.Flow.{settled}
+use Rattle.base.specs.Choose.{choose}
+use borrow.Author.Needs.{needs}
+use Rattle.liquids.proofs.flow.settle.Statement.{statement}
+use Rattle.liquids.proofs.flow.settle.Tie as tie
+
+normalize-or-zero-requires : tie.Need-normalize-or-zero-requires
+normalize-or-zero-requires c κs = search needs
+
+unit-y-requires : tie.Need-unit-y-requires
+unit-y-requires c κs = search needs
+
+scale-requires : tie.Need-scale-requires
+scale-requires c κs = search needs
+
+subtract-requires : tie.Need-subtract-requires
+subtract-requires c κs = search needs
+
+normalize-or-zero-requires-2 : tie.Need-normalize-or-zero-requires-2
+normalize-or-zero-requires-2 c κs = search needs
+
+returns : tie.Need-returns
+unfolding settled choose
+returns c = rw (c .before .before .before .before .before .if1 .taken, c .normalize-or-zero2 .ensures, c .before .subtract .ensures, c .before .before .scale .ensures, c .before .before .before .unit-y .ensures, c .before .before .before .before .normalize-or-zero .ensures)
+
+normalize-or-zero-requires-3 : tie.Need-normalize-or-zero-requires-3
+normalize-or-zero-requires-3 c κs = search needs
+
+returns-2 : tie.Need-returns-2
+unfolding settled choose
+returns-2 c = rw (c .before .if1 .left, ← c .normalize-or-zero3 .ensures)
+
+pub settle-spec : {M : Type 1} → statement M
+settle-spec =
+    tie.close
+    (tie.spec
+    normalize-or-zero-requires
+    unit-y-requires
+    scale-requires
+    subtract-requires
+    normalize-or-zero-requires-2
+    returns
+    normalize-or-zero-requires-3
+    returns-2)

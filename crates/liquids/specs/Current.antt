@@ -1,0 +1,119 @@
+-- The Rust's `item_current`: the flows of the cells that an item's box reaches, and what they do to its velocity.
+use mathlib.Core.Bool.{Bool, false, not}
+use mathlib.Core.List.{List}
+use Prim.Native.Nat.{ℕ}
+use lib.Dec.{eqb}
+use lib.IntN.{ℤ, pos, negsuc, _-ℤ_}
+use lib.Ieee.{Float, binary64, ofBits, neg}
+use Rattle.base.specs.Choose.{choose}
+use Rattle.base.specs.Ask.{Ask, found, _>>=_, Turn, next, resume}
+use Rattle.floats.specs.Whole.{cellOf}
+use Rattle.boxes.specs.declared.Vec3.{Vec3}
+use Rattle.boxes.specs.declared.Aabb.{Aabb}
+use Rattle.boxes.specs.Boxes.{plus}
+use Rattle.tables.specs.declared.LiquidKind.{LiquidKind}
+use Rattle.tables.specs.declared.LiquidKind.the-variants.{None, Water, Lava}
+use Rattle.tables.specs.declared.LiquidState.{LiquidState}
+use Rattle.window.specs.declared.Pos.{Pos}
+use Rattle.window.specs.Look.{Block}
+use Rattle.ranges.specs.declared.Axis.{Axis}
+use Rattle.ranges.specs.declared.Range.{Range}
+use Rattle.ranges.specs.Ranges.{orZero}
+use Rattle.ranges.specs.Walk.{walk}
+use Rattle.liquids.specs.declared.Stream.{Stream}
+use Rattle.liquids.specs.declared.Streams.{Streams}
+use Rattle.liquids.specs.declared.Current.{Current}
+use Rattle.liquids.specs.Vectors.{zeroVec, scaled, normalised}
+use Rattle.liquids.specs.Liquid.{isLiquid, liquidAsked}
+use Rattle.liquids.specs.Flow.{liquidFlow}
+
+-- ---- cells
+
+-- the ceiling of a coordinate, as `cellOf` is its floor: the least whole number that is not below it, which is 0 less the floor of -x
+abbrev pub ceilingOf : Float → ℤ
+ceilingOf x = pos 0 -ℤ cellOf (neg x)
+
+-- lo.floor() .. hi.ceil(), the upper end excluded
+abbrev pub cellsUpTo : Float → Float → Axis
+cellsUpTo lo hi = record { first = cellOf lo; count = orZero (ceilingOf hi -ℤ cellOf lo) }
+
+unfoldable pub reachOf : Aabb → Range
+reachOf aabb =
+    record {
+      x = cellsUpTo (aabb .min .x) (aabb .max .x);
+      y = cellsUpTo (aabb .min .y) (aabb .max .y);
+      z = cellsUpTo (aabb .min .z) (aabb .max .z);
+    }
+
+abbrev pub sameNumber : ℤ → ℤ → Bool
+sameNumber (pos a) (pos b) = eqb a b
+sameNumber (pos a) (negsuc b) = false
+sameNumber (negsuc a) (pos b) = false
+sameNumber (negsuc a) (negsuc b) = eqb a b
+
+unfoldable pub samePos : Pos → Pos → Bool
+samePos p q = choose (sameNumber (p .x) (q .x)) (choose (sameNumber (p .y) (q .y)) (sameNumber (p .z) (q .z)) false) false
+
+-- if pos == foot_pos { foot_state } else { liquid_at(blocks, pos) }: the cell of the feet is not asked for twice
+unfoldable pub liquidKnown : (Pos → Ask Block) → List ℕ → Pos → LiquidState → Pos → Ask LiquidState
+liquidKnown look records foot footState p = choose (samePos p foot) (found footState) (liquidAsked look records p)
+
+-- ---- flows and counts of the two kinds; of a count it matters whether it is 0, 1 or more
+
+abbrev pub noStream : Stream
+noStream = record { flow = zeroVec; count = 0 }
+
+abbrev pub noStreams : Streams
+noStreams = record { water = noStream; lava = noStream }
+
+unfoldable pub oneMore : ℕ → ℕ
+oneMore count = choose (eqb count 0) 1 2
+
+-- flows[index] += flow; counts[index] += 1;
+unfoldable pub joined : Stream → Vec3 → Stream
+joined s flow = record { flow = plus (s .flow) flow; count = oneMore (s .count) }
+
+unfoldable pub gathered : LiquidKind → Vec3 → Streams → Streams
+gathered None flow s = s
+gathered Water flow s = record { water = joined (s .water) flow; lava = s .lava }
+gathered Lava flow s = record { water = s .water; lava = joined (s .lava) flow }
+
+-- one cell
+unfoldable pub currentTurn : (Pos → Ask Block) → List ℕ → Pos → LiquidState → Pos → Streams → Ask (Turn Streams Current)
+currentTurn look records foot footState p s = do
+  state ← liquidKnown look records foot footState p
+  choose (isLiquid (state .kind))
+      (do
+        flow ← liquidFlow look records p state
+        found (next (gathered (state .kind) flow s)))
+      (found (next s))
+
+-- ---- the current
+
+-- 0.014 and 0.0035
+abbrev pub waterPush : Float
+waterPush = ofBits binary64 4579224072313301369
+
+abbrev pub lavaPush : Float
+lavaPush = ofBits binary64 4570216873058560377
+
+-- one flow is taken as it is, several are normalised
+unfoldable pub directionOf : Stream → Vec3
+directionOf s = choose (eqb (s .count) 1) (s .flow) (normalised (s .flow))
+
+-- current += direction * acceleration, where there is any flow
+unfoldable pub pushed : Vec3 → Stream → Float → Vec3
+pushed current s acceleration = choose (eqb (s .count) 0) current (plus current (scaled (directionOf s) acceleration))
+
+-- water first; and whether there is water
+unfoldable pub currentOf : Streams → Current
+currentOf s =
+    record {
+      flow = pushed (pushed zeroVec (s .water) waterPush) (s .lava) lavaPush;
+      water = not (eqb (s .water .count) 0);
+    }
+
+unfoldable pub itemCurrent : (Pos → Ask Block) → List ℕ → Aabb → Pos → LiquidState → Ask Current
+itemCurrent look records aabb foot footState = do
+  end ← walk (currentTurn look records foot footState) (reachOf aabb) noStreams
+  resume (λ s. found (currentOf s)) end

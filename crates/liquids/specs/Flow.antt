@@ -1,0 +1,124 @@
+-- The Rust's `liquid_flow`: how a liquid in a cell flows, by what is around it.
+use mathlib.Core.Bool.{true, false, not, _&&_}
+use mathlib.Core.List.{List}
+use Prim.Native.Nat.{ℕ}
+use lib.Dec.{leb}
+use lib.IntN.{ℤ, pos, negsuc, _-ℤ_}
+use lib.Ieee.{Float, binary64, ofInt, ofBits, neg}
+use Rattle.base.specs.Choose.{choose}
+use Rattle.base.specs.Ask.{Ask, found, _>>=_}
+use Rattle.floats.specs.Numbers.{zero64}
+use Rattle.boxes.specs.declared.Vec3.{Vec3}
+use Rattle.boxes.specs.Boxes.{vec, plus, minus}
+use Rattle.cover.specs.declared.Side.{Side}
+use Rattle.cover.specs.declared.Side.the-variants.{North, East, South, West}
+use Rattle.tables.specs.declared.LiquidState.{LiquidState}
+use Rattle.window.specs.declared.Pos.{Pos}
+use Rattle.window.specs.declared.Step.{Step}
+use Rattle.window.specs.Look.{Block, stepped}
+use Rattle.liquids.specs.declared.Flowing.{Flowing}
+use Rattle.liquids.specs.Vectors.{one64, zeroVec, unitY, scaled, normalised}
+use Rattle.liquids.specs.Liquid.{alike, liquidAsked, blocksLiquidFlow}
+
+-- ---- sides: east is IVec3::X, west NEG_X, south Z, north NEG_Z
+
+-- to the cell on a side, y cells up
+abbrev pub wayTo : Side → ℤ → Step
+wayTo North y = record { x = pos 0; y = y; z = negsuc 0 }
+wayTo East y = record { x = pos 1; y = y; z = pos 0 }
+wayTo South y = record { x = pos 0; y = y; z = pos 1 }
+wayTo West y = record { x = negsuc 0; y = y; z = pos 0 }
+
+-- neighbour, neighbour - IVec3::Y and neighbour + IVec3::Y
+unfoldable pub beside : Side → Step
+beside side = wayTo side (pos 0)
+
+unfoldable pub below : Side → Step
+below side = wayTo side (negsuc 0)
+
+unfoldable pub above : Side → Step
+above side = wayTo side (pos 1)
+
+-- side.as_dvec3()
+unfoldable pub unit : Side → Vec3
+unit North = vec zero64 zero64 (neg one64)
+unit East = vec one64 zero64 zero64
+unit South = vec zero64 zero64 one64
+unit West = vec (neg one64) zero64 zero64
+
+-- ---- by how much the liquid on a side is deeper
+
+unfoldable pub effectiveDepth : ℕ → ℕ
+effectiveDepth depth = choose (leb 8 depth) 0 depth
+
+-- f64::from(other - depth), and f64::from(other - (depth - 8)) where the liquid lies one cell lower
+unfoldable pub differenceTo : ℕ → ℕ → Float
+differenceTo other depth = ofInt binary64 (pos other -ℤ pos depth)
+
+unfoldable pub differenceBelow : ℕ → ℕ → Float
+differenceBelow other depth = ofInt binary64 (pos other -ℤ (pos depth -ℤ pos 8))
+
+-- Option<f64>
+pub data Difference : Type 0 where
+  nothing : Difference
+  by : Float → Difference
+
+-- a liquid of the same kind beside; otherwise, where the side stops no flow, one of the same kind below the side
+unfoldable pub difference : (Pos → Ask Block) → List ℕ → Pos → LiquidState → Side → Ask Difference
+difference look records p state side = do
+  other ← liquidAsked look records (stepped p (beside side))
+  choose (alike (other .kind) (state .kind))
+      (found (by (differenceTo (effectiveDepth (other .depth)) (effectiveDepth (state .depth)))))
+      (do
+        stopped ← blocksLiquidFlow look records (stepped p (beside side))
+        choose stopped (found nothing)
+            (do
+              under ← liquidAsked look records (stepped p (below side))
+              choose (alike (under .kind) (state .kind))
+                  (found (by (differenceBelow (effectiveDepth (under .depth)) (effectiveDepth (state .depth)))))
+                  (found nothing)))
+
+-- ---- one side
+
+-- flow += side.as_dvec3() * difference
+unfoldable pub flowed : Vec3 → Side → Float → Vec3
+flowed flow side d = plus flow (scaled (unit side) d)
+
+abbrev pub flowedBy : Flowing → Side → Difference → Flowing
+flowedBy f side nothing = f
+flowedBy f side (by d) = record { flow = flowed (f .flow) side d; walled = f .walled }
+
+-- a falling liquid beside a wall: the side, or else the cell above it; once one is found no other is asked for
+unfoldable pub walls : (Pos → Ask Block) → List ℕ → Pos → LiquidState → Side → Flowing → Ask Flowing
+walls look records p state side f =
+    choose (leb 8 (state .depth) && not (f .walled))
+    (do
+      stopped ← blocksLiquidFlow look records (stepped p (beside side))
+      choose stopped (found record { flow = f .flow; walled = true })
+          (do
+            over ← blocksLiquidFlow look records (stepped p (above side))
+            found record { flow = f .flow; walled = over }))
+    (found f)
+
+unfoldable pub sideFlow : (Pos → Ask Block) → List ℕ → Pos → LiquidState → Side → Flowing → Ask Flowing
+sideFlow look records p state side f = do
+  d ← difference look records p state side
+  walls look records p state side (flowedBy f side d)
+
+-- ---- the four sides, east, west, south, north
+
+-- 6.0
+abbrev pub six64 : Float
+six64 = ofBits binary64 4618441417868443648
+
+-- if down_wall { flow = flow.normalize_or_zero() - DVec3::Y * 6.0; } flow.normalize_or_zero()
+unfoldable pub settled : Flowing → Vec3
+settled f = normalised (choose (f .walled) (minus (normalised (f .flow)) (scaled unitY six64)) (f .flow))
+
+unfoldable pub liquidFlow : (Pos → Ask Block) → List ℕ → Pos → LiquidState → Ask Vec3
+liquidFlow look records p state = do
+  a ← sideFlow look records p state East record { flow = zeroVec; walled = false }
+  b ← sideFlow look records p state West a
+  c ← sideFlow look records p state South b
+  d ← sideFlow look records p state North c
+  found (settled d)

@@ -1,0 +1,9 @@
+-- The definitions of module 7: liquids in cells, flow, what they do to items and living bodies, what the program's answers say, and small scenes.
+pub mod Vectors
+pub mod Liquid
+pub mod Flow
+pub mod Current
+pub mod Flotation
+pub mod Living
+pub mod Answers
+pub mod Scenes

@@ -1,0 +1,233 @@
+// What the flows of the cells that an item's box reaches do to its velocity.
+use crate::Current;
+use crate::Currents;
+use crate::Flows;
+use crate::Gathered;
+use crate::Held;
+use crate::Stream;
+use crate::Streams;
+use crate::flow::liquid_flow;
+use crate::is_liquid;
+use crate::liquid_at;
+use crate::vectors::add;
+use crate::vectors::normalize_or_zero;
+use crate::vectors::scale;
+use crate::vectors::zero;
+use boxes::Aabb;
+use boxes::Vec3;
+use ranges::Axis;
+use ranges::Range;
+use tables::LiquidKind;
+use tables::LiquidState;
+use window::Pos;
+use window::Window;
+ghost use mathlib.Core.Path.{_≡_};
+ghost use Rattle.window.specs.Look.{lookAt};
+ghost use Rattle.liquids.specs.Current.{cellsUpTo, reachOf, sameNumber, samePos, liquidKnown, noStreams, oneMore, joined, gathered, currentTurn, directionOf, pushed, currentOf, itemCurrent};
+ghost use Rattle.liquids.specs.Answers.{heldAsked, turnedOn, currentAsked};
+
+// The cells from lo.floor() up to hi.ceil(), which is excluded. The ceiling is the floor of the number turned round.
+fn cells_up_to(lo: f64, hi: f64) -> Axis
+    ensures { λ r. ⌜ r ≡ cellsUpTo lo hi ⌝ }
+{
+    let first = floats::cell(lo);
+    let turned = floats::cell(-hi);
+    let n = 0 - (turned as i64) - (first as i64);
+    if n < 0 {
+        return Axis { first, count: 0 };
+    }
+    Axis {
+        first,
+        count: n as u32,
+    }
+}
+
+fn reach_of(aabb: Aabb) -> Range
+    ensures { λ r. ⌜ r ≡ reachOf aabb ⌝ }
+{
+    let x = cells_up_to(aabb.min.x, aabb.max.x);
+    let y = cells_up_to(aabb.min.y, aabb.max.y);
+    let z = cells_up_to(aabb.min.z, aabb.max.z);
+    Range { x, y, z }
+}
+
+fn same_number(a: i32, b: i32) -> bool
+    ensures { λ r. ⌜ r ≡ sameNumber a b ⌝ }
+{
+    a == b
+}
+
+pub(crate) fn same_pos(p: Pos, q: Pos) -> bool
+    ensures { λ r. ⌜ r ≡ samePos p q ⌝ }
+{
+    if same_number(p.x, q.x) {
+        if same_number(p.y, q.y) {
+            return same_number(p.z, q.z);
+        }
+        return false;
+    }
+    false
+}
+
+// The liquid at p; the cell of the feet is known already.
+pub(crate) fn liquid_known(
+    records: &[u32],
+    cells: &[u32],
+    w: Window,
+    foot: Pos,
+    state: LiquidState,
+    p: Pos,
+) -> Held
+    ensures { λ r. ⌜ heldAsked r ≡ liquidKnown (lookAt (now (cells .entry)) w) (now (records .entry)) foot state p ⌝ }
+{
+    if same_pos(p, foot) {
+        return Held::Is(state);
+    }
+    liquid_at(records, cells, w, p)
+}
+
+fn no_streams() -> Streams
+    ensures { λ r. ⌜ r ≡ noStreams ⌝ }
+{
+    Streams {
+        water: Stream {
+            flow: Vec3 {
+                x: 0.0,
+                y: 0.0,
+                z: 0.0,
+            },
+            count: 0,
+        },
+        lava: Stream {
+            flow: Vec3 {
+                x: 0.0,
+                y: 0.0,
+                z: 0.0,
+            },
+            count: 0,
+        },
+    }
+}
+
+fn one_more(count: u32) -> u32
+    ensures { λ r. ⌜ r ≡ oneMore count ⌝ }
+{
+    if count == 0 {
+        return 1;
+    }
+    2
+}
+
+fn join(s: Stream, flow: Vec3) -> Stream
+    ensures { λ r. ⌜ r ≡ joined s flow ⌝ }
+{
+    let before = s.flow;
+    let sum = add(before, flow);
+    let count = one_more(s.count);
+    Stream { flow: sum, count }
+}
+
+fn gather(kind: LiquidKind, flow: Vec3, s: Streams) -> Streams
+    ensures { λ r. ⌜ r ≡ gathered kind flow s ⌝ }
+{
+    let water = s.water;
+    let lava = s.lava;
+    match kind {
+        LiquidKind::None => s,
+        LiquidKind::Water => {
+            let more = join(water, flow);
+            Streams { water: more, lava }
+        }
+        LiquidKind::Lava => {
+            let more = join(lava, flow);
+            Streams { water, lava: more }
+        }
+    }
+}
+
+// One cell.
+fn current_turn(
+    records: &[u32],
+    cells: &[u32],
+    w: Window,
+    foot: Pos,
+    state: LiquidState,
+    p: Pos,
+    s: Streams,
+) -> Gathered
+    ensures { λ r. ⌜ turnedOn r ≡ currentTurn (lookAt (now (cells .entry)) w) (now (records .entry)) foot state p s ⌝ }
+{
+    match liquid_known(records, cells, w, foot, state, p) {
+        Held::Refused(n) => Gathered::Refused(n),
+        Held::Is(here) => {
+            let kind = here.kind;
+            if is_liquid(kind) {
+                return match liquid_flow(records, cells, w, p, here) {
+                    Flows::Refused(n) => Gathered::Refused(n),
+                    Flows::Is(flow) => Gathered::On(gather(kind, flow, s)),
+                };
+            }
+            Gathered::On(s)
+        }
+    }
+}
+
+// One flow is taken as it is, several are normalised.
+fn direction_of(s: Stream) -> Vec3
+    ensures { λ r. ⌜ r ≡ directionOf s ⌝ }
+{
+    let flow = s.flow;
+    if s.count == 1 {
+        return flow;
+    }
+    normalize_or_zero(flow)
+}
+
+fn push(current: Vec3, s: Stream, acceleration: f64) -> Vec3
+    ensures { λ r. ⌜ r ≡ pushed current s acceleration ⌝ }
+{
+    if s.count == 0 {
+        return current;
+    }
+    let direction = direction_of(s);
+    add(current, scale(direction, acceleration))
+}
+
+// Water first.
+fn current_of(s: Streams) -> Current
+    ensures { λ r. ⌜ r ≡ currentOf s ⌝ }
+{
+    let water = s.water;
+    let lava = s.lava;
+    let a = push(zero(), water, 0.014);
+    let flow = push(a, lava, 0.0035);
+    let wet = water.count != 0;
+    Current { flow, water: wet }
+}
+
+// The current at an item's box: foot is the cell of its feet, whose liquid `state` was asked for before. It refuses 5 and 7 alone.
+pub fn item_current(
+    records: &[u32],
+    cells: &[u32],
+    w: Window,
+    aabb: Aabb,
+    foot: Pos,
+    state: LiquidState,
+) -> Currents
+    ensures { λ r. ⌜ currentAsked r ≡ itemCurrent (lookAt (now (cells .entry)) w) (now (records .entry)) aabb foot state ⌝ }
+{
+    let r = reach_of(aabb);
+    let mut s = no_streams();
+    let mut t = ranges::start(r);
+    while t.y < r.y.count {
+        let p = ranges::place(r, t);
+        match current_turn(records, cells, w, foot, state, p, s) {
+            Gathered::Refused(n) => return Currents::Refused(n),
+            Gathered::On(g) => {
+                s = g;
+                t = ranges::next(r, t);
+            }
+        }
+    }
+    Currents::Is(current_of(s))
+}

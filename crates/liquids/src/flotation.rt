@@ -1,0 +1,156 @@
+// What liquid an item floats in.
+use crate::Held;
+use crate::Sensed;
+use crate::drift::liquid_known;
+use crate::drift::same_pos;
+use crate::is_lava;
+use crate::is_liquid;
+use crate::is_water;
+use crate::liquid_at;
+use crate::vectors::add;
+use crate::vectors::scale;
+use crate::vectors::unit_y;
+use boxes::Vec3;
+use tables::LiquidKind;
+use tables::LiquidState;
+use window::Pos;
+use window::Window;
+ghost use mathlib.Core.Path.{_≡_};
+ghost use mathlib.Core.Bool.{_||_};
+ghost use Rattle.window.specs.Look.{lookAt};
+ghost use Rattle.liquids.specs.Liquid.{isFalling};
+ghost use Rattle.liquids.specs.Flotation.{raised, cellAt, cellUnder, surfaceAt, underWater, inLava, waterState, itemFlotation};
+ghost use Rattle.liquids.specs.Answers.{heldAsked, kindAsked};
+
+fn raise(position: Vec3, d: f64) -> Vec3
+    ensures { λ r. ⌜ r ≡ raised position d ⌝ }
+{
+    add(position, scale(unit_y(), d))
+}
+
+fn cell_at(v: Vec3) -> Pos
+    ensures { λ r. ⌜ r ≡ cellAt v ⌝ }
+{
+    let x = floats::cell(v.x);
+    let y = floats::cell(v.y);
+    let z = floats::cell(v.z);
+    Pos { x, y, z }
+}
+
+fn cell_under(v: Vec3) -> Pos
+    ensures { λ r. ⌜ r ≡ cellUnder v ⌝ }
+{
+    let x = floats::cell(v.x);
+    let y = floats::cell(v.y) - 1;
+    let z = floats::cell(v.z);
+    Pos { x, y, z }
+}
+
+fn is_falling(state: LiquidState) -> bool
+    ensures { λ r. ⌜ r ≡ isFalling state ⌝ }
+{
+    let kind = state.kind;
+    if is_liquid(kind) {
+        return state.depth >= 8;
+    }
+    false
+}
+
+fn either_falls(a: LiquidState, b: LiquidState) -> bool
+    ensures { λ r. ⌜ r ≡ isFalling a || isFalling b ⌝ }
+{
+    if is_falling(a) {
+        return true;
+    }
+    is_falling(b)
+}
+
+pub(crate) fn surface_at(p: Pos, depth: u32) -> f64
+    ensures { λ r. ⌜ r ≡ surfaceAt p depth ⌝ }
+{
+    let y = p.y as f64;
+    let d = depth as f64;
+    y + 1.0 - d / 9.0
+}
+
+fn is_under_water(point: Vec3, state: LiquidState) -> bool
+    ensures { λ r. ⌜ r ≡ underWater point state ⌝ }
+{
+    let kind = state.kind;
+    if is_water(kind) {
+        return point.y < surface_at(cell_at(point), state.depth);
+    }
+    false
+}
+
+fn is_in_lava(state: LiquidState) -> bool
+    ensures { λ r. ⌜ r ≡ inLava state ⌝ }
+{
+    let kind = state.kind;
+    if is_lava(kind) {
+        return state.depth < 8;
+    }
+    false
+}
+
+// The liquid at the water point; the cells of the feet and of the wire position are known already.
+fn water_state(
+    records: &[u32],
+    cells: &[u32],
+    w: Window,
+    foot: Pos,
+    state: LiquidState,
+    wire: Pos,
+    here: LiquidState,
+    p: Pos,
+) -> Held
+    ensures { λ r. ⌜ heldAsked r ≡ waterState (lookAt (now (cells .entry)) w) (now (records .entry)) foot state wire here p ⌝ }
+{
+    if same_pos(p, foot) {
+        return Held::Is(state);
+    }
+    if same_pos(p, wire) {
+        return Held::Is(here);
+    }
+    liquid_at(records, cells, w, p)
+}
+
+// What an item at this position floats in: offset and height are its body's, foot the cell of its feet with its liquid. It refuses 5 alone.
+pub fn item_flotation(
+    records: &[u32],
+    cells: &[u32],
+    w: Window,
+    offset: f64,
+    height: f64,
+    position: Vec3,
+    foot: Pos,
+    state: LiquidState,
+) -> Sensed
+    ensures { λ r. ⌜ kindAsked r ≡ itemFlotation (lookAt (now (cells .entry)) w) (now (records .entry)) offset height position foot state ⌝ }
+{
+    let wire = raise(position, offset);
+    let at = cell_at(wire);
+    let here = match liquid_known(records, cells, w, foot, state, at) {
+        Held::Refused(n) => return Sensed::Refused(n),
+        Held::Is(s) => s,
+    };
+    let below = match liquid_known(records, cells, w, foot, state, cell_under(wire)) {
+        Held::Refused(n) => return Sensed::Refused(n),
+        Held::Is(s) => s,
+    };
+    if either_falls(here, below) {
+        return Sensed::Is(LiquidKind::None);
+    }
+    let point = raise(position, offset + height);
+    let over = match water_state(records, cells, w, foot, state, at, here, cell_at(point)) {
+        Held::Refused(n) => return Sensed::Refused(n),
+        Held::Is(s) => s,
+    };
+    if is_under_water(point, over) {
+        return Sensed::Is(LiquidKind::Water);
+    }
+    if is_in_lava(here) {
+        return Sensed::Is(LiquidKind::Lava);
+    }
+    Sensed::Is(LiquidKind::None)
+}
