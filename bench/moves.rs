@@ -159,7 +159,7 @@ type Call = fn(&Scene, f64, u32, &mut [f64]) -> u32;
 fn time(scenes: &[Scene], step: f64, ground: u32, calls: [Call; 3]) -> [f64; 3] {
     let mut best = [f64::MAX; 3];
     let mut out = [0.0; 10];
-    for _ in 0..3000 {
+    for _ in 0..100_000 / scenes.len() + 400 {
         for (k, call) in calls.iter().enumerate() {
             let begun = Instant::now();
             for s in scenes {
@@ -189,15 +189,17 @@ fn main() {
         }
     }
     println!("{compared} moves, {kept} of them up a step: every answer has the Rust's bits");
-    for count in [15, 128] {
-        let scenes: Vec<Scene> = std::iter::repeat_with(|| scene(&mut random, count)).filter(|s| tries(s, 0.5625, 1)).take(64).collect();
+    // 64 scenes of 15 boxes are few enough for the processor to learn which way every branch goes; 1,024 are not, and no two ticks are alike.
+    for (count, scenes) in [(15, 1024), (15, 64), (128, 128)] {
+        let scenes: Vec<Scene> = std::iter::repeat_with(|| scene(&mut random, count)).filter(|s| tries(s, 0.5625, 1)).take(scenes).collect();
+        println!("\n{count} boxes, {} scenes:", scenes.len());
         let mut passes = [[0.0; 3]; 2];
-        for (k, (what, step)) in [("3 passes, no step tried", 0.0), ("7 passes, a step tried", 0.5625)].iter().enumerate() {
+        for (k, (what, step)) in [("no step tried, 3 passes", 0.0), ("a step tried, 7 passes", 0.5625)].iter().enumerate() {
             let [o, g, f] = time(&scenes, *step, 1, [ours, given, filled]);
-            println!("{count:>3} boxes, {what:<24} ours {o:7.1} ns   Rust, list given {g:7.1} ns, ratio {:4.2}   Rust, list filled {f:7.1} ns, ratio {:4.2}", o / g, o / f);
+            println!("{what:<24} ours {o:7.1} ns   Rust, list given {g:7.1} ns, ratio {:4.2}   Rust, list filled {f:7.1} ns, ratio {:4.2}", o / g, o / f);
             passes[k] = [o, g, f];
         }
         let [o, g, _] = [0, 1, 2].map(|k| (passes[1][k] - passes[0][k]) / 4.0);
-        println!("{count:>3} boxes, one pass more           ours {o:7.1} ns   Rust             {g:7.1} ns, ratio {:4.2}", o / g);
+        println!("{:<24} ours {o:7.1} ns   Rust             {g:7.1} ns, ratio {:4.2}", "one pass more", o / g);
     }
 }

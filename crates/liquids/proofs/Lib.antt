@@ -2,4 +2,3 @@
 pub mod Gaps
 pub mod Cells
 pub mod Walking
-pub mod Scenes

@@ -1,4 +1,4 @@
--- The definitions of module 7: liquids in cells, flow, what they do to items and living bodies, what the program's answers say, and small scenes.
+-- The definitions of module 7: liquids in cells, flow, what they do to items and living bodies, and what the program's answers say.
 pub mod Vectors
 pub mod Liquid
 pub mod Flow
@@ -6,4 +6,3 @@ pub mod Current
 pub mod Flotation
 pub mod Living
 pub mod Answers
-pub mod Scenes

@@ -1,3 +1,4 @@
 -- The small scenes.
 pub mod Scenes
 pub mod Palette
+pub mod Waters

@@ -9,11 +9,16 @@ use Rattle.base.specs.Ask.{Ask, refused, found}
 use Rattle.boxes.specs.declared.Vec3.{Vec3}
 use Rattle.boxes.specs.declared.Aabb.{Aabb}
 use Rattle.boxes.specs.declared.MoveAnswer.{MoveAnswer}
-use Rattle.boxes.specs.Boxes.{vec, box, offsetBy}
+use Rattle.boxes.specs.Boxes.{vec, box, offsetBy, fromFeet}
 use Rattle.boxes.specs.Entry.{moveOverList}
+use Rattle.tables.specs.declared.LiquidKind.{LiquidKind}
+use Rattle.tables.specs.declared.LiquidKind.the-variants.{None, Water}
+use Rattle.tables.specs.Tables.{kindNumber}
 use Rattle.window.specs.Look.{lookAt}
 use Rattle.connect.specs.Connect.{connectedState}
+use Rattle.liquids.specs.Living.{livingLiquid}
 use Rattle.small_scenes.specs.Palette.{palette, cube, oakFence, netherBrickFence, plainWall, unloaded, window, middle, around}
+use Rattle.small_scenes.specs.Waters.{waters, barrier, still, shallow, half, clear, column, flowAmong}
 
 -- A move over a list: its boxes, the delta, the step height and whether the body was on the ground; then how far it moves, and its ground flag.
 -- The mover is (0,1,0)-(1,2,1).
@@ -35,10 +40,22 @@ pub record Joining : Type 0 where
   pub above : ℕ
   pub comes-to : ℕ
 
+-- Water of depth 0 in the middle of one layer of three cells a side, rows from the north and cells from the west: how it flows.
+pub record Flowing : Type 0 where
+  pub cells : List ℕ
+  pub flows : Vec3
+
+-- A living body, 0.5 wide and 1 high, in a cell of water of depth 4 with air above, its feet this far above the cell's base: what it is in.
+pub record Wading : Type 0 where
+  pub feet : Float
+  pub within : LiquidKind
+
 -- one kind for each thing that the table speaks of
 pub data Scene : Type 0 where
   move : Moving → Scene
   join : Joining → Scene
+  flow : Flowing → Scene
+  wade : Wading → Scene
 
 -- n / d
 abbrev pub part : ℕ → ℕ → Float
@@ -73,9 +90,19 @@ abbrev pub isFound : Ask ℕ → ℕ → Bool
 isFound (found s) t = eqb s t
 isFound (refused k) t = false
 
+abbrev pub isVec : Ask Vec3 → Vec3 → Bool
+isVec (found a) v = sameVec a v
+isVec (refused k) v = false
+
+abbrev pub isKind : Ask LiquidKind → LiquidKind → Bool
+isKind (found a) kind = eqb (kindNumber a) (kindNumber kind)
+isKind (refused k) kind = false
+
 unfoldable pub holds : Scene → Bool
 holds (move m) = moves (moveOverList record { boxes = m .boxes; count = length (m .boxes) } mover (m .delta) (m .step) (m .ground)) (m .moved) (m .after)
 holds (join j) = isFound (connectedState (lookAt (around (j .north) (j .east) (j .south) (j .west) (j .above) (j .it)) window) palette middle (j .it)) (j .comes-to)
+holds (flow f) = isVec (flowAmong (f .cells)) (f .flows)
+holds (wade b) = isKind (livingLiquid (lookAt (half ∷ clear ∷ []) column) waters (fromFeet (vec (part 1 2) (b .feet) (part 1 2)) (part 1 2) (w 1))) (b .within)
 
 unfoldable pub allHold : List Scene → Bool
 allHold [] = true
@@ -129,4 +156,9 @@ scenes =
     ∷ join record { it = oakFence; north = unloaded; east = cube; south = 0; west = netherBrickFence; above = 0; comes-to = oakFence + 1 + 2 }
     -- P8: a wall joined north (1) and south (4), unloaded above: no post (16)
     ∷ join record { it = plainWall; north = plainWall; east = 0; south = plainWall; west = 0; above = unloaded; comes-to = plainWall + 1 + 4 }
+    -- P9: depth 1 to the east, the rest walled
+    ∷ flow record { cells = barrier ∷ barrier ∷ barrier ∷ barrier ∷ still ∷ shallow ∷ barrier ∷ barrier ∷ barrier ∷ []; flows = vec (w 1) (w 0) (w 0) }
+    -- P10: feet at 0.5 wet, at 0.5625 dry
+    ∷ wade record { feet = part 1 2; within = Water }
+    ∷ wade record { feet = part 9 16; within = None }
     ∷ []

@@ -1,0 +1,12 @@
+-- `step::is_yes` meets its contract. Assumes nothing.
+use mathlib.Core.Path.{refl}
+use Rattle.step.specs.Body.{isYes}
+use Rattle.step.proofs.is_yes.Statement.{statement}
+use Rattle.step.proofs.is_yes.Tie as tie
+
+returns : tie.Need-returns
+unfolding isYes
+returns c = refl
+
+pub is-yes-spec : {M : Type 1} → statement M
+is-yes-spec = tie.close (tie.spec returns)

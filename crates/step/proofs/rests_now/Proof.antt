@@ -1,0 +1,15 @@
+-- `step::rests_now` meets its contract. Assumes nothing.
+use Rattle.step.specs.Step.{restsNow}
+use borrow.Author.Needs.{needs}
+use Rattle.step.proofs.rests_now.Statement.{statement}
+use Rattle.step.proofs.rests_now.Tie as tie
+
+squared-of-requires : tie.Need-squared-of-requires
+squared-of-requires c κs = search needs
+
+returns : tie.Need-returns
+unfolding restsNow
+returns c = rw (← c .squared-of .ensures)
+
+pub rests-now-spec : {M : Type 1} → statement M
+rests-now-spec = tie.close (tie.spec squared-of-requires returns)

@@ -1,0 +1,98 @@
+-- What the program's answers say, and what a host is handed.
+use mathlib.Core.Bool.{not}
+use mathlib.Core.List.{List}
+use Prim.Native.Nat.{ℕ}
+use lib.Ieee.{Float}
+use Rattle.base.specs.Ask.{Ask, refused, found, _>>=_}
+use Rattle.floats.specs.declared.Answer.{Answer}
+use Rattle.floats.specs.Numbers.{zero64}
+use Rattle.boxes.specs.declared.Vec3.{Vec3}
+use Rattle.tables.specs.declared.LiquidKind.{LiquidKind}
+use Rattle.tables.specs.declared.LiquidKind.the-variants.{None}
+use Rattle.window.specs.declared.Window.{Window}
+use Rattle.window.specs.Look.{lookAt}
+use Rattle.moves.specs.Answers.{unless, sound}
+use Rattle.step.specs.declared.BodyNumbers.{BodyNumbers}
+use Rattle.step.specs.declared.Rules.{Rules}
+use Rattle.step.specs.declared.MotionNumbers.{MotionNumbers}
+use Rattle.step.specs.declared.Begun.{Begun}
+use Rattle.step.specs.declared.Begins.{Begins}
+use Rattle.step.specs.declared.Begins.the-variants as begins
+use Rattle.step.specs.declared.Support.{Support}
+use Rattle.step.specs.declared.Supports.{Supports}
+use Rattle.step.specs.declared.Supports.the-variants as supports
+use Rattle.step.specs.declared.Number.{Number}
+use Rattle.step.specs.declared.Number.the-variants as number
+use Rattle.step.specs.declared.Dragged.{Dragged}
+use Rattle.step.specs.declared.Dragged.the-variants as dragged
+use Rattle.step.specs.declared.Tick.{Tick}
+use Rattle.step.specs.declared.Stepped.{Stepped}
+use Rattle.step.specs.declared.Stepped.the-variants as stepped
+use Rattle.step.specs.declared.StepAnswer.{StepAnswer}
+use Rattle.step.specs.declared.MotionAnswer.{MotionAnswer}
+use Rattle.step.specs.Body.{yesNumber, bodyOf, motionOf}
+use Rattle.step.specs.Limits.{rulesFit, numbersFit, isPosition, motionFits, isFiniteMotion}
+use Rattle.step.specs.Step.{livingBlockFriction, stepBodySensed}
+
+abbrev pub supportAsked : Supports → Ask Support
+supportAsked (supports.Is s) = found s
+supportAsked (supports.Refused n) = refused n
+
+abbrev pub numberAsked : Number → Ask Float
+numberAsked (number.Is x) = found x
+numberAsked (number.Refused n) = refused n
+
+abbrev pub velocityAsked : Dragged → Ask Vec3
+velocityAsked (dragged.To v) = found v
+velocityAsked (dragged.Refused n) = refused n
+
+abbrev pub tickAsked : Stepped → Ask Tick
+tickAsked (stepped.To t) = found t
+tickAsked (stepped.Refused n) = refused n
+
+abbrev pub begunAsked : Begins → Ask Begun
+begunAsked (begins.Is b) = found b
+begunAsked (begins.Refused n) = refused n
+
+-- ---- what a host is handed
+
+-- 9 comes last: a result that is not finite
+unfoldable pub finiteTick : Tick → Ask Tick
+finiteTick t = unless (not (isFiniteMotion (t .motion))) 9 (found t)
+
+-- a refused step returns position, velocity and ground flag as given, and liquid none
+abbrev pub stepAnswer : MotionNumbers → Ask Tick → StepAnswer
+stepAnswer given (refused n) = record { motion = given; liquid = None; refusal = n }
+stepAnswer given (found t) =
+    record {
+      motion = record { feet = t .motion .feet; velocity = t .motion .velocity; ground = yesNumber (t .motion .ground) };
+      liquid = t .liquid;
+      refusal = 0;
+    }
+
+-- 1 to 4 in order, before any cell is asked for; then 5, 6 or 7 at the first such event; then 9
+unfoldable pub stepEntry : List ℕ → List Float → List ℕ → Window → Rules → BodyNumbers → MotionNumbers → ℕ → StepAnswer
+stepEntry records shapes cells w rules body given age =
+    stepAnswer given
+    (sound records shapes cells w
+    (unless (not (numbersFit records rules body (given .ground))) 3
+    (unless (not (motionFits (given .feet) (given .velocity))) 4
+    (stepBodySensed (lookAt cells w) records shapes rules (bodyOf body) (motionOf given) age >>= finiteTick))))
+
+-- step_body: the same without the liquid
+abbrev pub withoutLiquid : StepAnswer → MotionAnswer
+withoutLiquid a = record { motion = a .motion; refusal = a .refusal }
+
+-- a refused number is zero
+abbrev pub numberAnswer : Ask Float → Answer
+numberAnswer (refused n) = record { refusal = n; value = zero64 }
+numberAnswer (found x) = record { refusal = 0; value = x }
+
+-- living_block_friction: 1 to 4 in order, then 5
+unfoldable pub frictionEntry : List ℕ → List Float → List ℕ → Window → Rules → Vec3 → Answer
+frictionEntry records shapes cells w rules feet =
+    numberAnswer
+    (sound records shapes cells w
+    (unless (not (rulesFit records rules)) 3
+    (unless (not (isPosition feet)) 4
+    (livingBlockFriction (lookAt cells w) records rules feet))))

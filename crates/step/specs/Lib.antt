@@ -1,0 +1,5 @@
+-- The definitions of module 8: bodies, the step, the limits of a call, and what the program's answers say.
+pub mod Body
+pub mod Step
+pub mod Limits
+pub mod Answers

@@ -1,0 +1,141 @@
+// What a host calls: 1, 2, 3 and 4 in order, before any cell is asked for; then 5, 6 and 7 as they come; 9 last.
+use boxes::Vec3;
+use floats::Answer;
+use tables::LiquidKind;
+use window::Window;
+use crate::BodyNumbers;
+use crate::MotionAnswer;
+use crate::MotionNumbers;
+use crate::Number;
+use crate::Rules;
+use crate::StepAnswer;
+use crate::Stepped;
+use crate::Tick;
+use crate::body_of;
+use crate::limits::is_finite_motion;
+use crate::limits::is_position;
+use crate::limits::motion_fits;
+use crate::limits::numbers_fit;
+use crate::limits::rules_fit;
+use crate::motion_of;
+use crate::moving::step_through;
+use crate::sample::living_friction;
+use crate::yes_number;
+ghost use mathlib.Core.Path.{_≡_};
+ghost use Rattle.base.specs.Ask.{refused, found};
+ghost use Rattle.step.specs.Answers.{finiteTick, stepAnswer, stepEntry, withoutLiquid, numberAnswer, frictionEntry};
+
+// A refused step: position, velocity and ground flag as given, and liquid none.
+fn refused_step(refusal: u32, given: MotionNumbers) -> StepAnswer
+    ensures { λ r. ⌜ r ≡ stepAnswer given (refused refusal) ⌝ }
+{
+    let feet = given.feet;
+    let velocity = given.velocity;
+    StepAnswer {
+        motion: MotionNumbers {
+            feet,
+            velocity,
+            ground: given.ground,
+        },
+        liquid: LiquidKind::None,
+        refusal,
+    }
+}
+
+fn step_to(given: MotionNumbers, t: Tick) -> StepAnswer
+    ensures { λ r. ⌜ r ≡ stepAnswer given (found t) ⌝ }
+{
+    let feet = t.motion.feet;
+    let velocity = t.motion.velocity;
+    let liquid = t.liquid;
+    let ground = yes_number(t.motion.ground);
+    StepAnswer {
+        motion: MotionNumbers {
+            feet,
+            velocity,
+            ground,
+        },
+        liquid,
+        refusal: 0,
+    }
+}
+
+// 9 where the step is not finite.
+fn finite_step(given: MotionNumbers, t: Tick) -> StepAnswer
+    ensures { λ r. ⌜ r ≡ stepAnswer given (finiteTick t) ⌝ }
+{
+    let m = t.motion;
+    if is_finite_motion(m) {
+        return step_to(given, t);
+    }
+    refused_step(9, given)
+}
+
+// For hosts: one tick of a body, and the liquid that a living body travelled in.
+pub fn step_body_sensed(records: &[u32], shapes: &[f32], cells: &[u32], w: Window, rules: Rules, body: BodyNumbers, given: MotionNumbers, age: u64) -> StepAnswer
+    ensures { λ r. ⌜ r ≡ stepEntry (now (records .entry)) (now (shapes .entry)) (now (cells .entry)) w rules body given age ⌝ }
+{
+    if tables::check_tables(records, shapes) != 0 {
+        return refused_step(1, given);
+    }
+    if window::check_window(cells, w) != 0 {
+        return refused_step(2, given);
+    }
+    if numbers_fit(records, rules, body, given.ground) {
+        let feet = given.feet;
+        let velocity = given.velocity;
+        if motion_fits(feet, velocity) {
+            let told = step_through(records, shapes, cells, w, rules, body_of(body), motion_of(given), age);
+            return match told {
+                Stepped::Refused(n) => refused_step(n, given),
+                Stepped::To(t) => finite_step(given, t),
+            };
+        }
+        return refused_step(4, given);
+    }
+    refused_step(3, given)
+}
+
+// For hosts: one tick of a body.
+pub fn step_body(records: &[u32], shapes: &[f32], cells: &[u32], w: Window, rules: Rules, body: BodyNumbers, given: MotionNumbers, age: u64) -> MotionAnswer
+    ensures { λ r. ⌜ r ≡ withoutLiquid (stepEntry (now (records .entry)) (now (shapes .entry)) (now (cells .entry)) w rules body given age) ⌝ }
+{
+    let a = step_body_sensed(records, shapes, cells, w, rules, body, given, age);
+    let motion = a.motion;
+    MotionAnswer {
+        motion,
+        refusal: a.refusal,
+    }
+}
+
+fn refused_number(refusal: u32) -> Answer
+    ensures { λ r. ⌜ r ≡ numberAnswer (refused refusal) ⌝ }
+{
+    Answer {
+        refusal,
+        value: 0.0,
+    }
+}
+
+// For hosts: the friction under a living body.
+pub fn living_block_friction(records: &[u32], shapes: &[f32], cells: &[u32], w: Window, rules: Rules, feet: Vec3) -> Answer
+    ensures { λ r. ⌜ r ≡ frictionEntry (now (records .entry)) (now (shapes .entry)) (now (cells .entry)) w rules feet ⌝ }
+{
+    if tables::check_tables(records, shapes) != 0 {
+        return refused_number(1);
+    }
+    if window::check_window(cells, w) != 0 {
+        return refused_number(2);
+    }
+    if rules_fit(records, rules) {
+        if is_position(feet) {
+            let told = living_friction(records, cells, w, rules, feet);
+            return match told {
+                Number::Refused(n) => refused_number(n),
+                Number::Is(value) => Answer { refusal: 0, value },
+            };
+        }
+        return refused_number(4);
+    }
+    refused_number(3)
+}
