@@ -12,24 +12,21 @@ use Rattle.base.specs.Loop.{listed}
 use Rattle.boxes.specs.declared.Vec3.{Vec3}
 use Rattle.boxes.specs.declared.Aabb.{Aabb}
 use Rattle.boxes.specs.declared.MoveResult.{MoveResult}
-use Rattle.boxes.specs.declared.MoveAnswer.{MoveAnswer}
 use Rattle.boxes.specs.Lists.{room}
 use Rattle.boxes.specs.Move.{moveOver}
-use Rattle.boxes.specs.Entry.{refusedMove}
-use Rattle.exports.specs.Moves.{vecAt, aabbAt, boxOf, countOf, moveOf}
+use Rattle.exports.specs.Moves.{vecAt, aabbAt, boxOf, countOf, moveOf, numbersOf, stored, writtenBy}
 
-abbrev pub answer : ℕ → MoveResult → MoveAnswer
-answer refusal result = record { refusal = refusal; result = result }
+module _ (boxes mover : List Float) (step : Float) (ground : ℕ) (out : List Float) where
+  pub too-many : room < countOf boxes
+      → (6 ≡ moveOf boxes mover step ground .refusal) × (out ≡ writtenBy out (moveOf boxes mover step ground))
+  unfolding moveOf choose writtenBy
+  too-many h = rw (lt-ltb room (countOf boxes) h) (refl, refl)
 
-module _ (boxes mover : List Float) (step : Float) (ground : ℕ) (a : Aabb) (m : MoveResult) where
-  pub too-many : room < countOf boxes → a ≡ aabbAt mover 0 → m ≡ refusedMove a → answer 6 m ≡ moveOf boxes mover step ground
-  unfolding moveOf choose
-  too-many h ea em = rw (lt-ltb room (countOf boxes) h, em, ea)
-
-  pub no-more : (d : Vec3) (l : List Aabb) → countOf boxes ≤ room → a ≡ aabbAt mover 0 → d ≡ vecAt mover 6
-      → l ≡ listed (boxOf boxes) (min (countOf boxes) room) 0 → m ≡ moveOver l a d step (not (eqb ground 0))
-      → answer 0 m ≡ moveOf boxes mover step ground
-  unfolding moveOf choose
-  no-more d l h ea ed el em =
+  pub no-more : (a : Aabb) (d : Vec3) (l : List Aabb) (m : MoveResult) (after : List Float) → countOf boxes ≤ room
+      → a ≡ aabbAt mover 0 → d ≡ vecAt mover 6
+      → l ≡ listed (boxOf boxes) (min (countOf boxes) room) 0 → m ≡ moveOver l a d step (not (eqb ground 0)) → after ≡ stored out 0 (numbersOf m)
+      → (0 ≡ moveOf boxes mover step ground .refusal) × (after ≡ writtenBy out (moveOf boxes mover step ground))
+  unfolding moveOf choose writtenBy
+  no-more a d l m after h ea ed el em eo =
       let q : min (countOf boxes) room ≡ countOf boxes = omega arith in
-      rw (le-ltb room (countOf boxes) h, em, el, ea, ed, q)
+      rw (le-ltb room (countOf boxes) h, eo, em, el, ea, ed, q) (refl, refl)

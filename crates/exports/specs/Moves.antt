@@ -66,3 +66,7 @@ numbersOf m =
 unfoldable pub stored : List Float → ℕ → List Float → List Float
 stored out i [] = out
 stored out i (x ∷ xs) = stored (set out i x) (i + 1) xs
+
+-- what stands in the lent place afterwards: a refusal writes nothing
+unfoldable pub writtenBy : List Float → MoveAnswer → List Float
+writtenBy out a = choose (eqb (a .refusal) 0) (stored out 0 (numbersOf (a .result))) out

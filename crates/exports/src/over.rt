@@ -10,8 +10,7 @@ ghost use lib.ListN.{set};
 ghost use Rattle.base.specs.Loop.{listed};
 ghost use Rattle.tables.specs.Tables.{floatAt};
 ghost use Rattle.boxes.specs.Lists.{room, listOf};
-ghost use Rattle.boxes.specs.Entry.{refusedMove};
-ghost use Rattle.exports.specs.Moves.{vecAt, aabbAt, boxOf, countOf, moveOf, flagOf, numbersOf, stored};
+ghost use Rattle.exports.specs.Moves.{vecAt, aabbAt, boxOf, countOf, moveOf, flagOf, numbersOf, stored, writtenBy};
 
 fn number_at(numbers: &[f64], i: usize) -> f64
     ensures { λ r. ⌜ r ≡ floatAt (now (numbers .entry)) i ⌝ }
@@ -93,22 +92,9 @@ fn put_result(out: &mut [f64], m: MoveResult)
     put(out, 9, flag_of(m.ground));
 }
 
-fn refused_move(aabb: Aabb) -> MoveResult
-    ensures { λ r. ⌜ r ≡ refusedMove aabb ⌝ }
-{
-    MoveResult {
-        aabb,
-        moved: Vec3 {
-            x: 0.0,
-            y: 0.0,
-            z: 0.0,
-        },
-        ground: false,
-    }
-}
-
 // The move of a box over boxes, for any numbers: `boxes` has six numbers to a box, `mover` the box and its delta, nine numbers, and `ground`
-// is not 0 where the body was on the ground. It writes ten numbers, and returns the refusal: 6 for more than 128 boxes, or 0.
+// is not 0 where the body was on the ground. It writes ten numbers and returns 0; for more than 128 boxes it writes nothing and
+// returns 6.
 #[no_mangle]
 pub extern "C" fn boltjuniper_move_over(
     boxes: &[f64],
@@ -118,14 +104,13 @@ pub extern "C" fn boltjuniper_move_over(
     out: &mut [f64],
 ) -> u32
     ensures { λ r. ⌜ r ≡ moveOf (now (boxes .entry)) (now (mover .entry)) step ground .refusal ⌝ }
-    ensures { λ _. ⌜ now (out .exit) ≡ stored (now (out .entry)) 0 (numbersOf (moveOf (now (boxes .entry)) (now (mover .entry)) step ground .result)) ⌝ }
+    ensures { λ _. ⌜ now (out .exit) ≡ writtenBy (now (out .entry)) (moveOf (now (boxes .entry)) (now (mover .entry)) step ground) ⌝ }
 {
-    let aabb = aabb_at(mover, 0);
-    let delta = vec_at(mover, 6);
     if boxes.len() / 6 > 128 {
-        put_result(out, refused_move(aabb));
         return 6;
     }
+    let aabb = aabb_at(mover, 0);
+    let delta = vec_at(mover, 6);
     put_result(
         out,
         boxes::move_over(list_of(boxes), aabb, delta, step, ground != 0),

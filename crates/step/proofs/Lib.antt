@@ -1,2 +1,3 @@
 -- The laws of the step.
 pub mod Samples
+pub mod Laws

@@ -71,13 +71,15 @@ stepAnswer given (found t) =
     }
 
 -- 1 to 4 in order, before any cell is asked for; then 5, 6 or 7 at the first such event; then 9
-unfoldable pub stepEntry : List ℕ → List Float → List ℕ → Window → Rules → BodyNumbers → MotionNumbers → ℕ → StepAnswer
-stepEntry records shapes cells w rules body given age =
-    stepAnswer given
-    (sound records shapes cells w
+abbrev pub stepAsked : List ℕ → List Float → List ℕ → Window → Rules → BodyNumbers → MotionNumbers → ℕ → Ask Tick
+stepAsked records shapes cells w rules body given age =
+    sound records shapes cells w
     (unless (not (numbersFit records rules body (given .ground))) 3
     (unless (not (motionFits (given .feet) (given .velocity))) 4
-    (stepBodySensed (lookAt cells w) records shapes rules (bodyOf body) (motionOf given) age >>= finiteTick))))
+    (stepBodySensed (lookAt cells w) records shapes rules (bodyOf body) (motionOf given) age >>= finiteTick)))
+
+unfoldable pub stepEntry : List ℕ → List Float → List ℕ → Window → Rules → BodyNumbers → MotionNumbers → ℕ → StepAnswer
+stepEntry records shapes cells w rules body given age = stepAnswer given (stepAsked records shapes cells w rules body given age)
 
 -- step_body: the same without the liquid
 abbrev pub withoutLiquid : StepAnswer → MotionAnswer

@@ -1,0 +1,35 @@
+-- What the step's contract comes to: demand 1's hand-back, and demand 2's one answer. Assumes nothing.
+use mathlib.Core.Path.{_≡_, refl, sym, _∙_}
+use mathlib.Core.List.{List}
+use Prim.Native.Nat.{ℕ, _<_}
+use native.Mathlib.Omega.{arith}
+use lib.Ieee.{Float}
+use Rattle.base.specs.Ask.{Ask, refused, found}
+use Rattle.tables.specs.declared.LiquidKind.{LiquidKind}
+use Rattle.tables.specs.declared.LiquidKind.the-variants.{None}
+use Rattle.window.specs.declared.Window.{Window}
+use Rattle.step.specs.declared.BodyNumbers.{BodyNumbers}
+use Rattle.step.specs.declared.Rules.{Rules}
+use Rattle.step.specs.declared.MotionNumbers.{MotionNumbers}
+use Rattle.step.specs.declared.Tick.{Tick}
+use Rattle.step.specs.declared.StepAnswer.{StepAnswer}
+use Rattle.step.specs.Answers.{stepAnswer, stepAsked, stepEntry}
+
+answer-hands-back : (given : MotionNumbers) (asked : Ask Tick) → 0 < stepAnswer given asked .refusal
+    → (stepAnswer given asked .motion ≡ given) × (stepAnswer given asked .liquid ≡ None)
+answer-hands-back given (refused n) h = (refl, refl)
+answer-hands-back given (found t) h = absurd (omega arith)
+
+module _ (records : List ℕ) (shapes : List Float) (cells : List ℕ) (w : Window) (rules : Rules) (body : BodyNumbers) (given : MotionNumbers) (age : ℕ) where
+  -- what fits the contract
+  abbrev pub Fits : StepAnswer → Type 0
+  Fits a = a ≡ stepEntry records shapes cells w rules body given age
+
+  -- two steps that fit it are equal in each bit
+  pub one-step : (a b : StepAnswer) → Fits a → Fits b → a ≡ b
+  one-step a b f g = f ∙ sym g
+
+  -- a refused step hands back position, velocity and ground flag as given, and liquid none
+  pub hands-back : (a : StepAnswer) → Fits a → 0 < a .refusal → (a .motion ≡ given) × (a .liquid ≡ None)
+  unfolding stepEntry
+  hands-back a f h = rw f (answer-hands-back given (stepAsked records shapes cells w rules body given age) (rw f at h))
