@@ -190,7 +190,7 @@ fn main() {
     }
     println!("{compared} moves, {kept} of them up a step: every answer has the Rust's bits");
     // 64 scenes of 15 boxes are few enough for the processor to learn which way every branch goes; 1,024 are not, and no two ticks are alike.
-    for (count, scenes) in [(15, 1024), (15, 64), (128, 128)] {
+    for (count, scenes) in [(15, 1024), (15, 64), (128, 128), (128, 64)] {
         let scenes: Vec<Scene> = std::iter::repeat_with(|| scene(&mut random, count)).filter(|s| tries(s, 0.5625, 1)).take(scenes).collect();
         println!("\n{count} boxes, {} scenes:", scenes.len());
         let mut passes = [[0.0; 3]; 2];
