@@ -4,3 +4,4 @@ pub mod Loops
 pub mod Asks
 pub mod Values
 pub mod Every
+pub mod Fill

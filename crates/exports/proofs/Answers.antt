@@ -8,13 +8,13 @@ use lib.Dec.{eqb}
 use lib.Ieee.{Float}
 use borrow.Author.Tests.{lt-ltb, le-ltb}
 use Rattle.base.specs.Choose.{choose}
-use Rattle.base.specs.Loop.{listed}
+use Rattle.base.specs.Loop.{listed, stored}
 use Rattle.boxes.specs.declared.Vec3.{Vec3}
 use Rattle.boxes.specs.declared.Aabb.{Aabb}
 use Rattle.boxes.specs.declared.MoveResult.{MoveResult}
 use Rattle.boxes.specs.Lists.{room}
 use Rattle.boxes.specs.Move.{moveOver}
-use Rattle.exports.specs.Moves.{vecAt, aabbAt, boxOf, countOf, moveOf, numbersOf, stored, writtenBy}
+use Rattle.exports.specs.Moves.{vecAt, aabbAt, boxOf, countOf, moveOf, numbersOf, writtenBy}
 
 module _ (boxes mover : List Float) (step : Float) (ground : ℕ) (out : List Float) where
   pub too-many : room < countOf boxes

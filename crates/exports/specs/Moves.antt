@@ -2,11 +2,11 @@
 use mathlib.Core.Bool.{Bool, not}
 use mathlib.Core.List.{List, [], _∷_}
 use Prim.Native.Nat.{ℕ, _+_, _*_, _/_}
-use lib.ListN.{length, set}
+use lib.ListN.{length}
 use lib.Dec.{ltb, eqb}
 use lib.Ieee.{Float, binary64, ofBits}
 use Rattle.base.specs.Choose.{choose}
-use Rattle.base.specs.Loop.{listed}
+use Rattle.base.specs.Loop.{listed, stored}
 use Rattle.floats.specs.Numbers.{zero64}
 use Rattle.boxes.specs.declared.Vec3.{Vec3}
 use Rattle.boxes.specs.declared.Aabb.{Aabb}
@@ -61,11 +61,6 @@ numbersOf m =
     ∷ m .aabb .max .x ∷ m .aabb .max .y ∷ m .aabb .max .z
     ∷ m .moved .x ∷ m .moved .y ∷ m .moved .z
     ∷ flagOf (m .ground) ∷ []
-
--- numbers written from place i on; one whose place is not there is dropped
-unfoldable pub stored : List Float → ℕ → List Float → List Float
-stored out i [] = out
-stored out i (x ∷ xs) = stored (set out i x) (i + 1) xs
 
 -- what stands in the lent place afterwards: a refusal writes nothing
 unfoldable pub writtenBy : List Float → MoveAnswer → List Float

@@ -7,10 +7,10 @@ ghost use mathlib.Core.Path.{_≡_};
 ghost use mathlib.Core.List.{[], _∷_};
 ghost use Prim.Native.Nat.{_≤_, min};
 ghost use lib.ListN.{set};
-ghost use Rattle.base.specs.Loop.{listed};
+ghost use Rattle.base.specs.Loop.{listed, stored};
 ghost use Rattle.tables.specs.Tables.{floatAt};
 ghost use Rattle.boxes.specs.Lists.{room, listOf};
-ghost use Rattle.exports.specs.Moves.{vecAt, aabbAt, boxOf, countOf, moveOf, flagOf, numbersOf, stored, writtenBy};
+ghost use Rattle.exports.specs.Moves.{vecAt, aabbAt, boxOf, countOf, moveOf, flagOf, numbersOf, writtenBy};
 
 fn number_at(numbers: &[f64], i: usize) -> f64
     ensures { λ r. ⌜ r ≡ floatAt (now (numbers .entry)) i ⌝ }

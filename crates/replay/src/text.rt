@@ -91,17 +91,9 @@ pub(crate) fn float(line: &[u8], k: usize) -> f64 {
     floats::float_of_bits(hex(line, word_at(line, k), 16))
 }
 
-// The f32 with these bits. Above the infinity's, with the sign's bit off, they are a NaN's.
-fn single_of(bits: u32) -> f32 {
-    if bits % 0x8000_0000 <= 0x7f80_0000 {
-        return f32::from_bits(bits);
-    }
-    0.0 / 0.0
-}
-
 // The k-th word of the line as an f32: 8 hex digits.
 pub(crate) fn single(line: &[u8], k: usize) -> f32 {
-    single_of((hex(line, word_at(line, k), 8) % 0x1_0000_0000) as u32)
+    tables::single_of((hex(line, word_at(line, k), 8) % 0x1_0000_0000) as u32)
 }
 
 fn decimal(digits: &[u8]) -> u32 {

@@ -3,7 +3,7 @@ use mathlib.Core.Bool.{true, false, not, false≢true}
 use mathlib.Core.Path.{_≡_, refl, sym, ap, _∙_, subst}
 use Prim.Native.Nat.{ℕ, _%_, _<_, _≤_}
 use lib.Dec.{T}
-use lib.Ieee.{Float, nan, inf, fin, binary32, binary64, ofBits, isNan, nanBits, div}
+use lib.Ieee.{Float, nan, inf, fin, binary32, ofBits, isNan, nanBits, div}
 use lib.Ieee.Bits.{nanBits-is, nanBits-above}
 use borrow.Author.Tests.{lt-ltb, le-ltb}
 
@@ -16,12 +16,12 @@ is-nan nan h = refl
 is-nan (inf s) h = absurd (false≢true h)
 is-nan (fin s m e) h = absurd (false≢true h)
 
-zero-by-zero : div binary64 (ofBits binary64 0) (ofBits binary64 0) ≡ nan
+zero-by-zero : div binary32 (ofBits binary32 0) (ofBits binary32 0) ≡ nan
 unfolding div ofBits
 zero-by-zero = refl
 
 -- 0.0 / 0.0 is the NaN
-pub nan-bits : (n : ℕ) → 0x7f800000 < n % 0x80000000 → div binary64 (ofBits binary64 0) (ofBits binary64 0) ≡ ofBits binary32 n
+pub nan-bits : (n : ℕ) → 0x7f800000 < n % 0x80000000 → div binary32 (ofBits binary32 0) (ofBits binary32 0) ≡ ofBits binary32 n
 nan-bits n h =
     zero-by-zero
     ∙ sym (is-nan (ofBits binary32 n) (sym (nanBits-is binary32 n) ∙ nanBits-above binary32 n ∙ lt-ltb 0x7f800000 (n % 0x80000000) h))

@@ -62,12 +62,12 @@ pub fn blocks_motion(records: &[u32], state: u32) -> bool
     word(records, state, 0) / 2 % 2 == 1
 }
 
-// The number with these f32 bits. Above the infinity's, with the sign's bit off, they are a NaN's.
-fn float_of(bits: u32) -> f64
+// The f32 with these bits. Above the infinity's, with the sign's bit off, they are a NaN's.
+pub fn single_of(bits: u32) -> f32
     ensures { λ r. ⌜ r ≡ ofBits binary32 bits ⌝ }
 {
     if bits % 0x8000_0000 <= 0x7f80_0000 {
-        return std::num::f32_to_f64_with_nan(f32::from_bits(bits));
+        return f32::from_bits(bits);
     }
     0.0 / 0.0
 }
@@ -76,7 +76,7 @@ fn float_of(bits: u32) -> f64
 pub fn friction(records: &[u32], state: u32) -> f64
     ensures { λ r. ⌜ r ≡ frictionAt (now (records .entry)) state ⌝ }
 {
-    float_of(word(records, state, 1))
+    std::num::f32_to_f64_with_nan(single_of(word(records, state, 1)))
 }
 
 fn kind_of(number: u32) -> LiquidKind

@@ -135,7 +135,8 @@ fn size_fits(n: u32) -> bool
     (1 <= n) & (n <= 64)
 }
 
-fn sizes_fit(s: Sizes) -> bool
+// Sizes are 1 to 64 each.
+pub fn sizes_fit(s: Sizes) -> bool
     ensures { λ r. ⌜ r ≡ sizesFit s ⌝ }
 {
     size_fits(s.x) & size_fits(s.y) & size_fits(s.z)

@@ -9,7 +9,7 @@ use Rattle.base.specs.Loop.{listed}
 use Rattle.boxes.specs.declared.BoxList.{BoxList}
 use Rattle.boxes.specs.Lists.{noBox, emptyList}
 use Rattle.exports.specs.Moves.{boxOf}
-use Rattle.exports.proofs.Fill.{turn, whole}
+use Rattle.base.proofs.Fill.{turn, whole}
 use Rattle.exports.proofs.over.list_of.Statement.{statement}
 use Rattle.exports.proofs.over.list_of.Tie as tie
 

@@ -1,5 +1,6 @@
 -- `exports::over::put_result` meets its contract. Assumes nothing.
-use Rattle.exports.specs.Moves.{stored, numbersOf}
+use Rattle.base.specs.Loop.{stored}
+use Rattle.exports.specs.Moves.{numbersOf}
 use borrow.Author.Needs.{needs}
 use Rattle.exports.proofs.over.put_result.Statement.{statement}
 use Rattle.exports.proofs.over.put_result.Tie as tie

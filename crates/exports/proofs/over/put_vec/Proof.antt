@@ -1,5 +1,5 @@
 -- `exports::over::put_vec` meets its contract. Assumes nothing.
-use Rattle.exports.specs.Moves.{stored}
+use Rattle.base.specs.Loop.{stored}
 use borrow.Author.Needs.{needs}
 use Rattle.exports.proofs.over.put_vec.Statement.{statement}
 use Rattle.exports.proofs.over.put_vec.Tie as tie

@@ -1,9 +1,8 @@
--- `replay::text::single_of` is safe and ends. Assumes nothing.
-use Prim.Native.Nat.{_≤_, _-_}
-use Rattle.tables.proofs.Bits.{no-nan-bits}
+-- `tables::single_of` meets its contract. Assumes nothing.
 use borrow.Author.Needs.{needs}
-use Rattle.replay.proofs.text.single_of.Statement.{statement}
-use Rattle.replay.proofs.text.single_of.Tie as tie
+use Rattle.tables.proofs.Bits.{no-nan-bits, nan-bits}
+use Rattle.tables.proofs.single_of.Statement.{statement}
+use Rattle.tables.proofs.single_of.Tie as tie
 
 float-from-bits-result : tie.Need-float-from-bits-result
 float-from-bits-result c = no-nan-bits (c .before .args .bits) (c .if1 .taken)
@@ -12,7 +11,7 @@ returns : tie.Need-returns
 returns c = search needs
 
 returns-2 : tie.Need-returns-2
-returns-2 c = search needs
+returns-2 c = nan-bits (c .before .args .bits) (c .if1 .left)
 
 pub single-of-spec : {M : Type 1} → statement M
 single-of-spec = tie.close (tie.spec float-from-bits-result returns returns-2)

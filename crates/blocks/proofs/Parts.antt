@@ -1,0 +1,90 @@
+-- Blocks, the sum that wraps, how many words a block of each kind has, and how many blocks a part has. Assumes nothing.
+use mathlib.Core.Bool.{Bool, true, false, not, _||_}
+use mathlib.Core.List.{List, []}
+use mathlib.Core.Path.{_≡_, refl, sym, ap, _∙_}
+use Prim.Native.Nat.{ℕ, suc, _+_, _-_, _*_, _/_, _%_, _≤_, _<_, min}
+use native.Mathlib.Nat.{div-le-self, mod-add-mod, mod-lt}
+use native.Mathlib.Omega.{arith}
+use lib.Dec.{eqb}
+use lib.ListN.{length, take, drop, length-take}
+use borrow.Author.Tests.{lt-ltb, le-ltb}
+use Rattle.base.specs.Choose.{choose}
+use Rattle.idents.specs.Bytes.{bytes, equal}
+use Rattle.idents.proofs.Bytes.{unequal}
+use Rattle.blocks.specs.declared.Part.{Part}
+use Rattle.blocks.specs.Blocks.{blockOf, marked, sumOf, perBlock, blocksOf, endOf, bodyPart, recordPart, boxPart, windowPart}
+
+-- ---- a block of a file, as the program takes it
+
+pub block-there : (file : List ℕ) (b : ℕ) → b < length file / 512 → take (b * 512 + 512 - b * 512) (drop (b * 512) file) ≡ blockOf file b
+unfolding blockOf choose
+block-there file b h =
+    let e : b * 512 + 512 - b * 512 ≡ 512 = omega arith in
+    rw (lt-ltb b (length file / 512) h, e)
+
+pub block-missing : (file : List ℕ) (b : ℕ) → length file / 512 ≤ b → [] ≡ blockOf file b
+unfolding blockOf choose
+block-missing file b h = rw (le-ltb b (length file / 512) h)
+
+-- ---- the mark
+
+pub unmarked : (block : List ℕ) → length block < 4 → false ≡ marked block
+unfolding marked
+unmarked block h = sym (unequal (take 4 block) (bytes "SCN1") (λ e. shorter (length block) h (sym (length-take 4 block) ∙ e)))
+  where
+    shorter : (n : ℕ) → n < 4 → min 4 n ≡ 4 → ⊥
+    shorter n h e = omega arith
+
+-- ---- one word more in a sum that wraps
+
+pub sum-turn : (f : ℕ → ℕ) (k s a : ℕ) → s ≡ sumOf f k % 4294967296 → a ≡ f k → (s + a) % 4294967296 ≡ sumOf f (k + 1) % 4294967296
+unfolding sumOf
+sum-turn f k s a e q =
+    let n : k + 1 ≡ suc k = omega arith in
+    rw (n, e, q) (mod-add-mod (sumOf f k) 4294967296 (f k))
+
+-- ---- how many words a block of a kind has: 6 to 123
+
+pub record Per (n : ℕ) : Type 0 where
+  pub least : 6 ≤ n
+  pub most : n ≤ 123
+
+pub per-block : (kind : ℕ) → Per (perBlock kind)
+unfolding perBlock choose
+per-block kind = go (eqb kind 1) (eqb kind 2) (eqb kind 3) (eqb kind 4)
+  where
+    go : (a b c d : Bool) → Per (choose a 48 (choose b 120 (choose c 120 (choose d 6 123))))
+    go true b c d = record { least = omega arith; most = omega arith }
+    go false true c d = record { least = omega arith; most = omega arith }
+    go false false true d = record { least = omega arith; most = omega arith }
+    go false false false true = record { least = omega arith; most = omega arith }
+    go false false false false = record { least = omega arith; most = omega arith }
+
+-- the same of what the program found
+pub per-found : (r kind : ℕ) → r ≡ perBlock kind → Per r
+per-found r kind e = let p = per-block kind in rw e p
+
+-- ---- how many blocks: no more than there are words, and one
+
+pub blocks-most : (p : Part) → blocksOf p ≤ p .words + 1
+unfolding blocksOf choose
+blocks-most p = go (eqb (p .words % perBlock (p .kind)) 0) (p .words / perBlock (p .kind)) (div-le-self (p .words) (perBlock (p .kind)))
+  where
+    go : (b : Bool) (q : ℕ) → q ≤ p .words → q + choose b 0 1 ≤ p .words + 1
+    go true q h = omega arith
+    go false q h = omega arith
+
+-- ---- where the parts begin fits 32 bits
+
+body-blocks : blocksOf bodyPart ≡ 1
+unfolding blocksOf perBlock choose
+body-blocks = refl
+
+pub boxes-first : (s : ℕ) → s < 65536 → endOf (recordPart s) < 2000000
+boxes-first s h = let o = body-blocks in let m = blocks-most (recordPart s) in omega arith
+
+pub window-first : (s b : ℕ) → s < 65536 → b < 65536 → endOf (boxPart s b) < 3000000
+window-first s b h k = let a = boxes-first s h in let m = blocks-most (boxPart s b) in omega arith
+
+pub cells-first : (s b : ℕ) → s < 65536 → b < 65536 → endOf (windowPart s b) < 4000000
+cells-first s b h k = let a = window-first s b h k in let m = blocks-most (windowPart s b) in omega arith

@@ -1,0 +1,65 @@
+use borrow.Author.Tests.{eq-eqb}
+-- `blocks::block_fits` meets its contract. Assumes nothing.
+use borrow.Author.Tests.{eq-eqb, ne-eqb}
+use Rattle.blocks.specs.Blocks.{blockFits}
+use borrow.Author.Needs.{needs}
+use Rattle.blocks.proofs.block_fits.Statement.{statement}
+use Rattle.blocks.proofs.block_fits.Tie as tie
+
+is-marked-requires : tie.Need-is-marked-requires
+is-marked-requires c κs = search needs
+
+word-requires : tie.Need-word-requires
+word-requires c κs = search needs
+
+word-requires-2 : tie.Need-word-requires-2
+word-requires-2 c κs = search needs
+
+cast-if3 : tie.Need-cast-if3
+cast-if3 c = search needs
+
+rest-zero-requires : tie.Need-rest-zero-requires
+rest-zero-requires c κs = search needs
+
+word-requires-3 : tie.Need-word-requires-3
+word-requires-3 c κs = search needs
+
+check-of-requires : tie.Need-check-of-requires
+check-of-requires c κs = search needs
+
+returns : tie.Need-returns
+unfolding blockFits
+returns c = rw (← c .before .before .before .before .before .before .before .before .before .is-marked .ensures, c .before .before .before .before .before .before .before .before .if1 .taken, ← c .before .before .before .before .before .before .before .word .ensures, eq-eqb _ _ (c .before .before .before .before .before .before .if2 .taken), ← c .before .before .before .before .before .word2 .ensures, eq-eqb _ _ (c .before .before .before .before .if3 .taken), ← c .before .before .before .rest-zero .ensures, c .before .before .if4 .taken, ← c .before .word3 .ensures, ← c .check-of .ensures)
+
+returns-2 : tie.Need-returns-2
+unfolding blockFits
+returns-2 c = rw (← c .before .before .before .before .before .before .before .is-marked .ensures, c .before .before .before .before .before .before .if1 .taken, ← c .before .before .before .before .before .word .ensures, eq-eqb _ _ (c .before .before .before .before .if2 .taken), ← c .before .before .before .word2 .ensures, eq-eqb _ _ (c .before .before .if3 .taken), ← c .before .rest-zero .ensures, c .if4 .left)
+
+returns-3 : tie.Need-returns-3
+unfolding blockFits
+returns-3 c = rw (← c .before .before .before .before .before .is-marked .ensures, c .before .before .before .before .if1 .taken, ← c .before .before .before .word .ensures, eq-eqb _ _ (c .before .before .if2 .taken), ← c .before .word2 .ensures, ne-eqb _ _ (c .if3 .left))
+
+returns-4 : tie.Need-returns-4
+unfolding blockFits
+returns-4 c = rw (← c .before .before .before .is-marked .ensures, c .before .before .if1 .taken, ← c .before .word .ensures, ne-eqb _ _ (c .if2 .left))
+
+returns-5 : tie.Need-returns-5
+unfolding blockFits
+returns-5 c = rw (← c .before .is-marked .ensures, c .if1 .left)
+
+pub block-fits-spec : {M : Type 1} → statement M
+block-fits-spec =
+    tie.close
+    (tie.spec
+    is-marked-requires
+    word-requires
+    word-requires-2
+    cast-if3
+    rest-zero-requires
+    word-requires-3
+    check-of-requires
+    returns
+    returns-2
+    returns-3
+    returns-4
+    returns-5)

@@ -1,0 +1,89 @@
+-- How a scene file is laid out: words, blocks, and the parts that the blocks are of. Document 01's words stand in quotes.
+use mathlib.Core.Bool.{Bool, _&&_, _||_}
+use mathlib.Core.List.{List, []}
+use Prim.Native.Nat.{ℕ, zero, suc, _+_, _*_, _/_, _%_}
+use lib.Dec.{eqb, ltb}
+use lib.ListN.{length, getD, take, drop}
+use Rattle.base.specs.Choose.{choose}
+use Rattle.base.specs.Every.{every}
+use Rattle.idents.specs.Bytes.{bytes, equal}
+use Rattle.blocks.specs.declared.Part.{Part}
+
+-- ---- blocks: "blocks of 512 bytes, little-endian words"
+
+-- block b of a file; nothing where it is not there whole
+unfoldable pub blockOf : List ℕ → ℕ → List ℕ
+blockOf file b = choose (ltb b (length file / 512)) (take 512 (drop (b * 512) file)) []
+
+-- word k of a block; a byte that is not there is 0
+unfoldable pub wordAt : List ℕ → ℕ → ℕ
+wordAt block k =
+    getD block (k * 4) 0 + getD block (k * 4 + 1) 0 * 256 + getD block (k * 4 + 2) 0 * 65536 + getD block (k * 4 + 3) 0 * 16777216
+
+-- "Word 0 is the four bytes 53 43 4E 31"
+unfoldable pub marked : List ℕ → Bool
+marked block = equal (take 4 block) (bytes "SCN1")
+
+-- f 0, f 1 and so on, as many as the number says, added up
+unfoldable pub sumOf : (ℕ → ℕ) → ℕ → ℕ
+sumOf f zero = 0
+sumOf f (suc n) = sumOf f n + f n
+
+-- "the check: the sum of words 0 to 126, wrapping at 2^32"
+unfoldable pub checkOf : List ℕ → ℕ
+checkOf block = sumOf (wordAt block) 127 % 4294967296
+
+-- "3 to 125 payload; 126 zero" and "unused words zero": each word from 3 to 126 is one of those in use, or zero
+unfoldable pub restZero : List ℕ → ℕ → Bool
+restZero block used = every 124 (λ i. ltb i used || eqb (wordAt block (3 + i)) 0)
+
+-- "word 1 the kind; word 2 the block's number from 0", and "127 the check"
+unfoldable pub blockFits : List ℕ → ℕ → ℕ → ℕ → Bool
+blockFits block number kind used =
+    marked block
+    && eqb (wordAt block 1) kind
+    && eqb (wordAt block 2) number
+    && restZero block used
+    && eqb (wordAt block 127) (checkOf block)
+
+-- ---- parts: the blocks of one kind, one after the other
+
+-- the payload words in use in a full block: the body's 48, "six records each" of 20 words, "20 boxes each" of six, the window's six, "123 cells each"
+unfoldable pub perBlock : ℕ → ℕ
+perBlock kind = choose (eqb kind 1) 48 (choose (eqb kind 2) 120 (choose (eqb kind 3) 120 (choose (eqb kind 4) 6 123)))
+
+-- as many blocks as the words fill, and one more for what is left over
+unfoldable pub blocksOf : Part → ℕ
+blocksOf p = p .words / perBlock (p .kind) + choose (eqb (p .words % perBlock (p .kind)) 0) 0 1
+
+-- the block after the last
+abbrev pub endOf : Part → ℕ
+endOf p = p .first + blocksOf p
+
+-- how many words are in use in a part's block j: all of a full one, and what is left over in the last
+unfoldable pub usedIn : Part → ℕ → ℕ
+usedIn p j = choose (ltb j (p .words / perBlock (p .kind))) (perBlock (p .kind)) (p .words % perBlock (p .kind))
+
+unfoldable pub partFits : List ℕ → Part → Bool
+partFits file p = every (blocksOf p) (λ j. blockFits (blockOf file (p .first + j)) (p .first + j) (p .kind) (usedIn p j))
+
+-- word i of a part
+unfoldable pub partWord : List ℕ → Part → ℕ → ℕ
+partWord file p i = wordAt (blockOf file (p .first + i / perBlock (p .kind))) (3 + i % perBlock (p .kind))
+
+-- ---- "Kinds in order: one 1 (body), 2, 3, one 4, 5"
+
+abbrev pub bodyPart : Part
+bodyPart = record { first = 0; kind = 1; words = 48 }
+
+abbrev pub recordPart : ℕ → Part
+recordPart states = record { first = endOf bodyPart; kind = 2; words = states * 20 }
+
+abbrev pub boxPart : ℕ → ℕ → Part
+boxPart states boxes = record { first = endOf (recordPart states); kind = 3; words = boxes * 6 }
+
+abbrev pub windowPart : ℕ → ℕ → Part
+windowPart states boxes = record { first = endOf (boxPart states boxes); kind = 4; words = 6 }
+
+abbrev pub cellPart : ℕ → ℕ → ℕ → Part
+cellPart states boxes cells = record { first = endOf (windowPart states boxes); kind = 5; words = cells }

@@ -1,0 +1,26 @@
+use borrow.Author.Needs.{needs}
+use Rattle.scene.proofs.numbers.velocity.Statement.{statement}
+use Rattle.scene.proofs.numbers.velocity.Tie as tie
+use Rattle.scene.proofs.numbers.velocity.Reads as reads
+use Rattle.scene.proofs.numbers.velocity.Lts as lts
+use Rattle.scene.proofs.numbers.body_float.Reads as body-float-reads
+
+-- src/numbers.rt:57:9
+body-float-requires : tie.Need-body-float-requires
+body-float-requires c κs = search needs
+
+-- src/numbers.rt:58:9
+body-float-requires-2 : tie.Need-body-float-requires-2
+body-float-requires-2 c κs = search needs
+
+-- src/numbers.rt:59:9
+body-float-requires-3 : tie.Need-body-float-requires-3
+body-float-requires-3 c κs = search needs
+
+-- src/numbers.rt:54:1
+returns : tie.Need-returns
+returns c = ?
+
+pub velocity-spec : {M : Type 1} → statement M
+velocity-spec =
+    tie.close (tie.spec body-float-requires body-float-requires-2 body-float-requires-3 returns)

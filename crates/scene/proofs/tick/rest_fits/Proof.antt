@@ -1,0 +1,26 @@
+use borrow.Author.Needs.{needs}
+use Rattle.scene.proofs.tick.rest_fits.Statement.{statement}
+use Rattle.scene.proofs.tick.rest_fits.Tie as tie
+use Rattle.scene.proofs.tick.rest_fits.Reads as reads
+use Rattle.scene.proofs.tick.rest_fits.Lts as lts
+use Rattle.scene.proofs.numbers.flap_fits.Reads as flap-fits-reads
+use Rattle.scene.proofs.tick.blocks_fit.Reads as blocks-fit-reads
+
+-- src/tick.rt:59:8
+flap-fits-requires : tie.Need-flap-fits-requires
+flap-fits-requires c κs = search needs
+
+-- src/tick.rt:60:9
+blocks-fit-requires : tie.Need-blocks-fit-requires
+blocks-fit-requires c κs = search needs
+
+-- src/tick.rt:60:9
+returns : tie.Need-returns
+returns c = ?
+
+-- src/tick.rt:56:1
+returns-2 : tie.Need-returns-2
+returns-2 c = ?
+
+pub rest-fits-spec : {M : Type 1} → statement M
+rest-fits-spec = tie.close (tie.spec flap-fits-requires blocks-fit-requires returns returns-2)

@@ -1,0 +1,78 @@
+-- The answer of a tick as bytes: what `onetick` prints.
+use mathlib.Core.Bool.{Bool}
+use mathlib.Core.List.{List, [], _∷_, _++_}
+use Prim.Native.Nat.{ℕ, _+_, _-_, _*_, _/_, _%_, _^_}
+use lib.Dec.{eqb, ltb}
+use lib.ListN.{length}
+use lib.Ieee.{Float, binary64, toBits}
+use Rattle.base.specs.Choose.{choose}
+use Rattle.base.specs.Loop.{listed, stored}
+use Rattle.boxes.specs.declared.Vec3.{Vec3}
+use Rattle.tables.specs.declared.LiquidKind.{LiquidKind}
+use Rattle.tables.specs.declared.LiquidKind.the-variants.{None, Water, Lava}
+use Rattle.idents.specs.Bytes.{bytes}
+use Rattle.step.specs.declared.StepAnswer.{StepAnswer}
+use Rattle.scene.specs.Scene.{tickOf}
+
+-- a newline
+abbrev pub newline : List ℕ
+newline = 10 ∷ []
+
+-- 0 to 9, a to f
+unfoldable pub hexDigit : ℕ → ℕ
+hexDigit d = choose (ltb d 10) (48 + d) (87 + d)
+
+-- digit k of 16, the highest first
+unfoldable pub hexAt : ℕ → ℕ → ℕ
+hexAt bits k = hexDigit (bits / 2 ^ (60 - k * 4) % 16)
+
+-- "f64 bits, 16 hex digits"
+unfoldable pub hexOf : Float → List ℕ
+hexOf x = listed (hexAt (toBits binary64 x)) 16 0
+
+-- pieces of text, one after the other
+unfoldable pub joinedText : List (List ℕ) → List ℕ
+joinedText [] = []
+joinedText (p ∷ ps) = p ++ joinedText ps
+
+-- "x y z"
+unfoldable pub vecText : Vec3 → List ℕ
+vecText v = joinedText (hexOf (v .x) ∷ bytes " " ∷ hexOf (v .y) ∷ bytes " " ∷ hexOf (v .z) ∷ newline ∷ [])
+
+-- "ground 0 or 1"
+unfoldable pub groundText : ℕ → List ℕ
+groundText ground = choose (eqb ground 0) (bytes "0") (bytes "1")
+
+-- "none, water or lava"
+abbrev pub liquidText : LiquidKind → List ℕ
+liquidText None = bytes "none"
+liquidText Water = bytes "water"
+liquidText Lava = bytes "lava"
+
+-- the four lines
+unfoldable pub linesOf : StepAnswer → List ℕ
+linesOf a =
+    joinedText
+    (bytes "feet " ∷ vecText (a .motion .feet)
+    ∷ bytes "velocity " ∷ vecText (a .motion .velocity)
+    ∷ bytes "ground " ∷ groundText (a .motion .ground) ∷ newline
+    ∷ bytes "liquid " ∷ liquidText (a .liquid) ∷ newline ∷ [])
+
+-- "or `refused N`": a refusal's number has one digit
+unfoldable pub refusedText : ℕ → List ℕ
+refusedText n = joinedText (bytes "refused " ∷ (48 + n % 10 ∷ []) ∷ newline ∷ [])
+
+unfoldable pub textOf : StepAnswer → List ℕ
+textOf a = choose (eqb (a .refusal) 0) (linesOf a) (refusedText (a .refusal))
+
+-- ---- in a lent buffer: nothing is written to one that is too short for every answer, and what lies behind the text is kept
+
+abbrev pub room : ℕ
+room = 160
+
+unfoldable pub written : List ℕ → List ℕ → List ℕ
+written out text = choose (ltb (length out) room) out (stored out 0 text)
+
+-- how many bytes the answer has
+unfoldable pub writtenCount : List ℕ → List ℕ → ℕ
+writtenCount out text = choose (ltb (length out) room) 0 (length text)
