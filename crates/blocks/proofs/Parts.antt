@@ -3,9 +3,9 @@ use mathlib.Core.Bool.{Bool, true, false, not, _||_}
 use mathlib.Core.List.{List, []}
 use mathlib.Core.Path.{_≡_, refl, sym, ap, _∙_}
 use Prim.Native.Nat.{ℕ, suc, _+_, _-_, _*_, _/_, _%_, _≤_, _<_, min}
-use native.Mathlib.Nat.{div-le-self, mod-add-mod, mod-lt}
+use native.Mathlib.Nat.{div-le-self, mod-add-mod, mod-lt, div-add-mod', mul-le-mul}
 use native.Mathlib.Omega.{arith}
-use lib.Dec.{eqb}
+use lib.Dec.{T, eqb, eqb→eq}
 use lib.ListN.{length, take, drop, length-take}
 use borrow.Author.Tests.{lt-ltb, le-ltb}
 use Rattle.base.specs.Choose.{choose}
@@ -88,3 +88,23 @@ window-first s b h k = let a = boxes-first s h in let m = blocks-most (boxPart s
 
 pub cells-first : (s b : ℕ) → s < 65536 → b < 65536 → endOf (windowPart s b) < 4000000
 cells-first s b h k = let a = window-first s b h k in let m = blocks-most (windowPart s b) in omega arith
+
+-- ---- how many words 128 blocks hold
+
+pub words-most : (p : Part) → p .words ≤ blocksOf p * perBlock (p .kind)
+unfolding blocksOf choose
+words-most p = go (eqb (p .words % perBlock (p .kind)) 0) (eqb→eq (p .words % perBlock (p .kind)) 0) (div-add-mod' (p .words) (perBlock (p .kind))) (mod-lt (p .words) (positive (per-block (p .kind) .least)))
+  where
+    positive : {n : ℕ} → 6 ≤ n → 0 < n
+    positive h = omega arith
+    go : (b : Bool) → (T b → p .words % perBlock (p .kind) ≡ 0) → p .words / perBlock (p .kind) * perBlock (p .kind) + p .words % perBlock (p .kind) ≡ p .words
+        → p .words % perBlock (p .kind) < perBlock (p .kind) → p .words ≤ (p .words / perBlock (p .kind) + choose b 0 1) * perBlock (p .kind)
+    go true e d m = let z = e tt in omega arith
+    go false e d m = omega arith
+
+pub room : (p : Part) → endOf p ≤ 128 → p .words ≤ 15744
+room p h =
+    let b : blocksOf p ≤ 128 = omega arith in
+    let m : blocksOf p * perBlock (p .kind) ≤ 15744 = mul-le-mul {n₂ = 128} {m₂ = 123} b (per-block (p .kind) .most) in
+    let w = words-most p in
+    omega arith

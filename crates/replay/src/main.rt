@@ -3,6 +3,7 @@
 mod moves;
 mod names;
 mod numbers;
+mod scenes;
 mod shapes;
 mod text;
 
@@ -61,4 +62,5 @@ fn main() {
     let mut space = room();
     let n = io::read_full(0, &mut space);
     run_all(text::part(&space, 0, n));
+    scenes::run_all();
 }

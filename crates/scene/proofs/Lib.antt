@@ -1,1 +1,4 @@
 -- Laws of this crate's definitions, on plain values.
+pub mod Scenes
+pub mod Signs
+pub mod Pieces

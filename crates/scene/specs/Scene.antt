@@ -126,16 +126,22 @@ countsAsked counted.Unfit = refused 8
 
 -- ---- which files are scenes
 
--- "1 to 128 blocks", "no block more than counts need", and each as its part has it
-unfoldable pub blocksFit : List ℕ → Counts → Bool
-blocksFit file n =
-    leb (endOf (cellPart (n .states) (n .boxes) (n .cells))) 128
-    && eqb (length file) (endOf (cellPart (n .states) (n .boxes) (n .cells)) * 512)
-    && partFits file bodyPart
+-- each block as its part has it
+unfoldable pub partsFit : List ℕ → Counts → Bool
+partsFit file n =
+    partFits file bodyPart
     && partFits file (recordPart (n .states))
     && partFits file (boxPart (n .states) (n .boxes))
     && partFits file (windowPart (n .states) (n .boxes))
     && partFits file (cellPart (n .states) (n .boxes) (n .cells))
+
+-- how many blocks the counts need
+abbrev pub blocksFor : Counts → ℕ
+blocksFor n = endOf (cellPart (n .states) (n .boxes) (n .cells))
+
+-- "1 to 128 blocks", "no block more than counts need"
+unfoldable pub blocksFit : List ℕ → Counts → Bool
+blocksFit file n = leb (blocksFor n) 128 && (eqb (length file) (blocksFor n * 512) && partsFit file n)
 
 unfoldable pub isScene : List ℕ → Bool
 isScene file = countsFit file && (flapFits file && blocksFit file (countsOf file))

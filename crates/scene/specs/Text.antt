@@ -40,8 +40,8 @@ unfoldable pub vecText : Vec3 → List ℕ
 vecText v = joinedText (hexOf (v .x) ∷ bytes " " ∷ hexOf (v .y) ∷ bytes " " ∷ hexOf (v .z) ∷ newline ∷ [])
 
 -- "ground 0 or 1"
-unfoldable pub groundText : ℕ → List ℕ
-groundText ground = choose (eqb ground 0) (bytes "0") (bytes "1")
+unfoldable pub groundDigit : ℕ → ℕ
+groundDigit ground = choose (eqb ground 0) 48 49
 
 -- "none, water or lava"
 abbrev pub liquidText : LiquidKind → List ℕ
@@ -55,12 +55,12 @@ linesOf a =
     joinedText
     (bytes "feet " ∷ vecText (a .motion .feet)
     ∷ bytes "velocity " ∷ vecText (a .motion .velocity)
-    ∷ bytes "ground " ∷ groundText (a .motion .ground) ∷ newline
+    ∷ bytes "ground " ∷ (groundDigit (a .motion .ground) ∷ []) ∷ newline
     ∷ bytes "liquid " ∷ liquidText (a .liquid) ∷ newline ∷ [])
 
 -- "or `refused N`": a refusal's number has one digit
 unfoldable pub refusedText : ℕ → List ℕ
-refusedText n = joinedText (bytes "refused " ∷ (48 + n % 10 ∷ []) ∷ newline ∷ [])
+refusedText n = joinedText (bytes "refused " ∷ ((48 + n % 10) ∷ []) ∷ newline ∷ [])
 
 unfoldable pub textOf : StepAnswer → List ℕ
 textOf a = choose (eqb (a .refusal) 0) (linesOf a) (refusedText (a .refusal))

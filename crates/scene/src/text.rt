@@ -8,7 +8,7 @@ ghost use Prim.Native.Nat.{_-_, _*_, _%_};
 ghost use lib.ListN.{set, length};
 ghost use Rattle.base.specs.Loop.{stored};
 ghost use Rattle.scene.specs.Scene.{tickOf};
-ghost use Rattle.scene.specs.Text.{hexDigit, hexAt, hexOf, vecText, groundText, liquidText, linesOf, refusedText, textOf, written, writtenCount};
+ghost use Rattle.scene.specs.Text.{hexDigit, hexAt, hexOf, vecText, groundDigit, liquidText, linesOf, refusedText, textOf, written, writtenCount};
 
 fn put(out: &mut [u8], i: usize, b: u8)
     ensures { λ _. ⌜ now (out .exit) ≡ set (now (out .entry)) i b ⌝ }
@@ -82,14 +82,10 @@ fn put_vec(out: &mut [u8], at: u8, v: Vec3)
     put_text(out, third + 16, b"\n");
 }
 
-fn put_ground(out: &mut [u8], at: u32, ground: u32)
-    ensures { λ _. ⌜ now (out .exit) ≡ stored (now (out .entry)) at (groundText ground) ⌝ }
+fn ground_digit(ground: u32) -> u8
+    ensures { λ r. ⌜ r ≡ groundDigit ground ⌝ }
 {
-    if ground == 0 {
-        put_text(out, at, b"0");
-        return;
-    }
-    put_text(out, at, b"1");
+    if ground == 0 { 48 } else { 49 }
 }
 
 // The liquid from place `at` on; it returns how many bytes that is.
@@ -123,10 +119,11 @@ fn put_lines(out: &mut [u8], a: StepAnswer) -> usize
     put_text(out, 56, b"velocity ");
     put_vec(out, 65, a.motion.velocity);
     put_text(out, 116, b"ground ");
-    put_ground(out, 123, a.motion.ground);
+    put(out, 123, ground_digit(a.motion.ground));
     put_text(out, 124, b"\n");
     put_text(out, 125, b"liquid ");
-    let n = put_liquid(out, 132, a.liquid);
+    let kind = a.liquid;
+    let n = put_liquid(out, 132, kind);
     put_text(out, 132 + n, b"\n");
     133 + n as usize
 }

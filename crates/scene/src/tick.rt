@@ -3,6 +3,7 @@ use boxes::Vec3;
 use step::MotionNumbers;
 use step::StepAnswer;
 use tables::LiquidKind;
+use window::Window;
 use crate::Counted;
 use crate::Counts;
 use blocks::Part;
@@ -22,31 +23,75 @@ use crate::numbers::given_in;
 use crate::numbers::rules_in;
 use crate::numbers::window_in;
 ghost use mathlib.Core.Path.{_≡_};
-ghost use Prim.Native.Nat.{min};
+ghost use Prim.Native.Nat.{_*_, min};
 ghost use lib.ListN.{take, length};
 ghost use lib.Ieee.{ofBits, binary32};
 ghost use mathlib.Core.Bool.{_&&_};
 ghost use Rattle.base.specs.Choose.{choose};
 ghost use Rattle.base.specs.Loop.{listed};
-ghost use Rattle.blocks.specs.Blocks.{partWord};
-ghost use Rattle.scene.specs.Scene.{flapFits, blocksFit, isScene, malformed, stepIn, tickOf};
+ghost use Rattle.blocks.specs.Blocks.{partWord, partFits, bodyPart, recordPart, boxPart, windowPart, cellPart};
+ghost use Rattle.scene.specs.Scene.{flapFits, windowIn, partsFit, blocksFor, blocksFit, isScene, malformed, stepIn, tickOf};
 
-// As many blocks as the counts need, and each as its part has it.
+fn body_fits(file: &[u8]) -> bool
+    ensures { λ r. ⌜ r ≡ partFits (now (file .entry)) bodyPart ⌝ }
+{
+    part_fits(file, body_part())
+}
+
+fn records_fit(file: &[u8], states: u16) -> bool
+    ensures { λ r. ⌜ r ≡ partFits (now (file .entry)) (recordPart states) ⌝ }
+{
+    part_fits(file, record_part(states))
+}
+
+fn boxes_fit(file: &[u8], states: u16, boxes: u16) -> bool
+    ensures { λ r. ⌜ r ≡ partFits (now (file .entry)) (boxPart states boxes) ⌝ }
+{
+    part_fits(file, box_part(states, boxes))
+}
+
+fn window_fits(file: &[u8], states: u16, boxes: u16) -> bool
+    ensures { λ r. ⌜ r ≡ partFits (now (file .entry)) (windowPart states boxes) ⌝ }
+{
+    part_fits(file, window_part(states, boxes))
+}
+
+fn cells_fit(file: &[u8], states: u16, boxes: u16, cells: u32) -> bool
+    ensures { λ r. ⌜ r ≡ partFits (now (file .entry)) (cellPart states boxes cells) ⌝ }
+{
+    part_fits(file, cell_part(states, boxes, cells))
+}
+
+// Each block as its part has it.
+fn parts_fit(file: &[u8], n: Counts) -> bool
+    ensures { λ r. ⌜ r ≡ partsFit (now (file .entry)) n ⌝ }
+{
+    if body_fits(file) {
+        if records_fit(file, n.states) {
+            if boxes_fit(file, n.states, n.boxes) {
+                if window_fits(file, n.states, n.boxes) {
+                    return cells_fit(file, n.states, n.boxes, n.cells);
+                }
+            }
+        }
+    }
+    false
+}
+
+// How many blocks the counts need.
+fn blocks_for(n: Counts) -> usize
+    ensures { λ r. ⌜ r ≡ blocksFor n ⌝ }
+{
+    end_of(cell_part(n.states, n.boxes, n.cells))
+}
+
 fn blocks_fit(file: &[u8], n: Counts) -> bool
     ensures { λ r. ⌜ r ≡ blocksFit (now (file .entry)) n ⌝ }
 {
-    let blocks = end_of(cell_part(n.states, n.boxes, n.cells));
+    let blocks = blocks_for(n);
     if blocks <= 128 {
         if file.len() == blocks * 512 {
-            if part_fits(file, body_part()) {
-                if part_fits(file, record_part(n.states)) {
-                    if part_fits(file, box_part(n.states, n.boxes)) {
-                        if part_fits(file, window_part(n.states, n.boxes)) {
-                            return part_fits(file, cell_part(n.states, n.boxes, n.cells));
-                        }
-                    }
-                }
-            }
+            return parts_fit(file, n);
         }
     }
     false
@@ -94,6 +139,7 @@ fn no_singles() -> [f32; 15744]
 // The words of a part, one after the other.
 fn words_of(file: &[u8], p: Part) -> [u32; 15744]
     ensures { λ r. ⌜ take (min (p .words) 15744) r ≡ listed (partWord (now (file .entry)) p) (min (p .words) 15744) 0 ⌝ }
+    ensures { λ r. ⌜ 15744 ≡ length r ⌝ }
 {
     let n = held(p.words);
     let mut words = no_words();
@@ -114,6 +160,7 @@ fn single_at(file: &[u8], p: Part, i: u32) -> f32
 // The same words as f32.
 fn singles_of(file: &[u8], p: Part) -> [f32; 15744]
     ensures { λ r. ⌜ take (min (p .words) 15744) r ≡ listed (λ i. ofBits binary32 (partWord (now (file .entry)) p i)) (min (p .words) 15744) 0 ⌝ }
+    ensures { λ r. ⌜ 15744 ≡ length r ⌝ }
 {
     let n = held(p.words);
     let mut singles = no_singles();
@@ -123,6 +170,33 @@ fn singles_of(file: &[u8], p: Part) -> [f32; 15744]
         i += 1;
     }
     singles
+}
+
+fn records_of(file: &[u8], n: Counts) -> [u32; 15744]
+    ensures { λ r. ⌜ take (min (n .states * 20) 15744) r ≡ listed (partWord (now (file .entry)) (recordPart (n .states))) (min (n .states * 20) 15744) 0 ⌝ }
+    ensures { λ r. ⌜ 15744 ≡ length r ⌝ }
+{
+    words_of(file, record_part(n.states))
+}
+
+fn shapes_of(file: &[u8], n: Counts) -> [f32; 15744]
+    ensures { λ r. ⌜ take (min (n .boxes * 6) 15744) r ≡ listed (λ i. ofBits binary32 (partWord (now (file .entry)) (boxPart (n .states) (n .boxes)) i)) (min (n .boxes * 6) 15744) 0 ⌝ }
+    ensures { λ r. ⌜ 15744 ≡ length r ⌝ }
+{
+    singles_of(file, box_part(n.states, n.boxes))
+}
+
+fn cells_of(file: &[u8], n: Counts) -> [u32; 15744]
+    ensures { λ r. ⌜ take (min (n .cells) 15744) r ≡ listed (partWord (now (file .entry)) (cellPart (n .states) (n .boxes) (n .cells))) (min (n .cells) 15744) 0 ⌝ }
+    ensures { λ r. ⌜ 15744 ≡ length r ⌝ }
+{
+    words_of(file, cell_part(n.states, n.boxes, n.cells))
+}
+
+fn window_of(file: &[u8], n: Counts) -> Window
+    ensures { λ r. ⌜ r ≡ windowIn (now (file .entry)) (windowPart (n .states) (n .boxes)) ⌝ }
+{
+    window_in(file, window_part(n.states, n.boxes))
 }
 
 // 8: there is no motion to hand back.
@@ -145,21 +219,26 @@ fn tick_with(file: &[u8], n: Counts) -> StepAnswer
     ensures { λ r. ⌜ r ≡ choose (flapFits (now (file .entry)) && blocksFit (now (file .entry)) n) (stepIn (now (file .entry)) n) malformed ⌝ }
 {
     if rest_fits(file, n) {
-        let records = words_of(file, record_part(n.states));
-        let shapes = singles_of(file, box_part(n.states, n.boxes));
-        let cells = words_of(file, cell_part(n.states, n.boxes, n.cells));
+        let records = records_of(file, n);
+        let shapes = shapes_of(file, n);
+        let cells = cells_of(file, n);
         let words = held(n.states as u32 * 20);
         let numbers = held(n.boxes as u32 * 6);
         let count = held(n.cells);
+        let w = window_of(file, n);
+        let rules = rules_in(file);
+        let body = body_in(file);
+        let given = given_in(file);
+        let age = age_in(file);
         return step::step_body_sensed(
             &records[..words],
             &shapes[..numbers],
             &cells[..count],
-            window_in(file, window_part(n.states, n.boxes)),
-            rules_in(file),
-            body_in(file),
-            given_in(file),
-            age_in(file),
+            w,
+            rules,
+            body,
+            given,
+            age,
         );
     }
     refused_scene()

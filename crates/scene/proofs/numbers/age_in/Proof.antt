@@ -1,3 +1,4 @@
+use Rattle.scene.specs.Scene.{ageIn, joined}
 use borrow.Author.Needs.{needs}
 use Rattle.scene.proofs.numbers.age_in.Statement.{statement}
 use Rattle.scene.proofs.numbers.age_in.Tie as tie
@@ -20,7 +21,8 @@ join-requires c κs = search needs
 
 -- src/numbers.rt:126:1
 returns : tie.Need-returns
-returns c = ?
+unfolding ageIn joined
+returns c = rw (← c .before .before .body-word .ensures, ← c .before .body-word2 .ensures, ← c .join .ensures)
 
 pub age-in-spec : {M : Type 1} → statement M
 age-in-spec = tie.close (tie.spec body-word-requires body-word-requires-2 join-requires returns)

@@ -1,3 +1,4 @@
+use Rattle.scene.specs.Scene.{bodyFloat}
 use borrow.Author.Needs.{needs}
 use Rattle.scene.proofs.numbers.body_float.Statement.{statement}
 use Rattle.scene.proofs.numbers.body_float.Tie as tie
@@ -33,7 +34,8 @@ float-of-bits-requires c κs = search needs
 
 -- src/numbers.rt:36:1
 returns : tie.Need-returns
-returns c = ?
+unfolding bodyFloat
+returns c = rw (← c .before .before .before .body-word .ensures, ← c .before .before .body-word2 .ensures, ← c .before .join .ensures, ← c .float-of-bits .ensures)
 
 pub body-float-spec : {M : Type 1} → statement M
 body-float-spec =

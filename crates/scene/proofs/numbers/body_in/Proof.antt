@@ -1,3 +1,4 @@
+use Rattle.scene.specs.Scene.{bodyIn}
 use borrow.Author.Needs.{needs}
 use Rattle.scene.proofs.numbers.body_in.Statement.{statement}
 use Rattle.scene.proofs.numbers.body_in.Tie as tie
@@ -56,7 +57,8 @@ body-word-requires-4 c κs = search needs
 
 -- src/numbers.rt:76:1
 returns : tie.Need-returns
-returns c = ?
+unfolding bodyIn
+returns c = rw (← c .before .before .before .before .before .before .before .before .before .before .before .body-float .ensures, ← c .before .before .before .before .before .before .before .before .before .before .body-float2 .ensures, ← c .before .before .before .before .before .before .before .before .before .body-float3 .ensures, ← c .before .before .before .before .before .before .before .before .body-float4 .ensures, ← c .before .before .before .before .before .before .before .body-float5 .ensures, ← c .before .before .before .before .before .before .body-float6 .ensures, ← c .before .before .before .before .before .body-float7 .ensures, ← c .before .before .before .before .body-float8 .ensures, ← c .before .before .before .body-word .ensures, ← c .before .before .body-word2 .ensures, ← c .before .body-word3 .ensures, ← c .body-word4 .ensures)
 
 pub body-in-spec : {M : Type 1} → statement M
 body-in-spec =

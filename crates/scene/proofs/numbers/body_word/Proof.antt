@@ -16,7 +16,7 @@ part-word-requires c κs = search needs
 
 -- src/numbers.rt:22:1
 returns : tie.Need-returns
-returns c = ?
+returns c = rw (← c .before .body-part .ensures, ← c .part-word .ensures)
 
 pub body-word-spec : {M : Type 1} → statement M
 body-word-spec = tie.close (tie.spec body-part-requires part-word-requires returns)

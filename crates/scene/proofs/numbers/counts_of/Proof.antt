@@ -1,76 +1,68 @@
+-- `scene::numbers::counts_of` meets its contract. Assumes nothing.
+use Rattle.scene.proofs.Scenes.{counts-fit, counts-unfit}
+use Rattle.scene.specs.Scene.{countsFit, windowIn}
+use Rattle.blocks.specs.declared.Part.{Part}
+use mathlib.Core.Path.{sym, ap, _∙_}
+use borrow.Author.Tests.{le-leb, lt-leb}
+use Rattle.base.specs.Choose.{choose}
+use Rattle.scene.specs.Scene.{countsFit, sizesIn, countsIn}
+use Rattle.window.proofs.Check.{sizes-small, layer-count, cell-count}
+use native.Mathlib.Omega.{arith}
+use mathlib.Core.Path.{sym, _∙_}
 use borrow.Author.Needs.{needs}
 use Rattle.scene.proofs.numbers.counts_of.Statement.{statement}
 use Rattle.scene.proofs.numbers.counts_of.Tie as tie
-use Rattle.scene.proofs.numbers.counts_of.Reads as reads
-use Rattle.scene.proofs.numbers.counts_of.Lts as lts
-use Rattle.blocks.proofs.window_part.Reads as window-part-reads
-use Rattle.scene.proofs.numbers.body_word.Reads as body-word-reads
-use Rattle.scene.proofs.numbers.sizes_in.Reads as sizes-in-reads
-use Rattle.window.proofs.sizes_fit.Reads as sizes-fit-reads
 
--- src/numbers.rt:188:9
 body-word-requires : tie.Need-body-word-requires
 body-word-requires c κs = search needs
 
--- src/numbers.rt:189:9
 body-word-requires-2 : tie.Need-body-word-requires-2
 body-word-requires-2 c κs = search needs
 
--- src/numbers.rt:193:52
 cast-window-part : tie.Need-cast-window-part
 cast-window-part c = search needs
 
--- src/numbers.rt:193:67
 cast-window-part-2 : tie.Need-cast-window-part-2
 cast-window-part-2 c = search needs
 
--- src/numbers.rt:193:40
 window-part-requires : tie.Need-window-part-requires
 window-part-requires c κs = search needs
 
--- src/numbers.rt:193:21
 sizes-in-requires : tie.Need-sizes-in-requires
 sizes-in-requires c κs = search needs
 
--- src/numbers.rt:194:20
 sizes-fit-requires : tie.Need-sizes-fit-requires
 sizes-fit-requires c κs = search needs
 
--- src/numbers.rt:196:33
 cast-t12 : tie.Need-cast-t12
 cast-t12 c = search needs
 
--- src/numbers.rt:197:32
 cast-t13 : tie.Need-cast-t13
 cast-t13 c = search needs
 
--- src/numbers.rt:198:32
 mul-t14 : tie.Need-mul-t14
-mul-t14 c = ?
+mul-t14 c = let s = c .before .before .before .sizes-in .result in omega (arith, layer-count s (sizes-small s (sym (c .before .before .sizes-fit .ensures) ∙ c .before .if4 .taken)))
 
--- src/numbers.rt:198:32
 mul-t15 : tie.Need-mul-t15
-mul-t15 c = ?
+mul-t15 c = let s = c .before .before .before .before .sizes-in .result in omega (arith, cell-count s (sizes-small s (sym (c .before .before .before .sizes-fit .ensures) ∙ c .before .before .if4 .taken)))
 
--- src/numbers.rt:195:21
 returns : tie.Need-returns
-returns c = ?
+returns c = counts-fit (c .before .before .before .before .before .before .before .before .before .before .before .before .args .file .now) (c .before .before .before .before .before .before .before .before .before .before .body-word .result) (c .before .before .before .before .before .before .before .before .before .body-word2 .result) (c .before .before .before .before .sizes-in .result) (c .before .before .before .before .before .before .before .before .before .before .body-word .ensures) (c .before .before .before .before .before .before .before .before .before .body-word2 .ensures) (c .before .before .before .before .sizes-in .ensures ∙ ap (λ (p : Part). windowIn (c .before .before .before .before .before .before .before .before .before .before .before .before .args .file .now) p .sizes) (c .before .before .before .before .before .window-part .ensures)) (c .before .before .before .before .before .before .before .before .if1 .taken) (c .before .before .before .before .before .before .before .if2 .taken) (c .before .before .before .before .before .before .if3 .taken) (sym (c .before .before .before .sizes-fit .ensures) ∙ c .before .before .if4 .taken)
 
--- src/numbers.rt:185:1
 returns-2 : tie.Need-returns-2
-returns-2 c = ?
+returns-2 c = counts-unfit (c .before .before .before .before .before .before .before .before .before .before .args .file .now) (c .before .before .before .before .before .before .before .before .body-word .result) (c .before .before .before .before .before .before .before .body-word2 .result) (c .before .before .sizes-in .result) (c .before .before .before .before .before .before .before .before .body-word .ensures) (c .before .before .before .before .before .before .before .body-word2 .ensures) (c .before .before .sizes-in .ensures ∙ ap (λ (p : Part). windowIn (c .before .before .before .before .before .before .before .before .before .before .args .file .now) p .sizes) (c .before .before .before .window-part .ensures)) (c .before .before .before .before .before .before .if1 .taken) (c .before .before .before .before .before .if2 .taken) (c .before .before .before .before .if3 .taken) (sym (c .before .sizes-fit .ensures) ∙ c .if4 .left)
 
--- src/numbers.rt:185:1
 returns-3 : tie.Need-returns-3
-returns-3 c = ?
+unfolding countsFit choose
+returns-3 c = rw (← c .before .before .before .before .body-word .ensures, ← c .before .before .before .body-word2 .ensures, le-leb _ _ (c .before .before .if1 .taken), le-leb _ _ (c .before .if2 .taken), lt-leb _ _ (c .if3 .left))
 
--- src/numbers.rt:185:1
 returns-4 : tie.Need-returns-4
-returns-4 c = ?
+unfolding countsFit choose
+returns-4 c = rw (← c .before .before .before .body-word .ensures, le-leb _ _ (c .before .if1 .taken), lt-leb _ _ (c .if2 .left))
 
--- src/numbers.rt:185:1
 returns-5 : tie.Need-returns-5
-returns-5 c = ?
+unfolding countsFit choose
+returns-5 c = rw (← c .before .before .body-word .ensures, lt-leb _ _ (c .if1 .left))
 
 pub counts-of-spec : {M : Type 1} → statement M
 counts-of-spec =

@@ -1,3 +1,4 @@
+use Rattle.scene.specs.Scene.{givenIn}
 use borrow.Author.Needs.{needs}
 use Rattle.scene.proofs.numbers.given_in.Statement.{statement}
 use Rattle.scene.proofs.numbers.given_in.Tie as tie
@@ -21,7 +22,8 @@ body-word-requires c κs = search needs
 
 -- src/numbers.rt:63:1
 returns : tie.Need-returns
-returns c = ?
+unfolding givenIn
+returns c = rw (← c .before .before .position .ensures, ← c .before .velocity .ensures, ← c .body-word .ensures)
 
 pub given-in-spec : {M : Type 1} → statement M
 given-in-spec = tie.close (tie.spec position-requires velocity-requires body-word-requires returns)

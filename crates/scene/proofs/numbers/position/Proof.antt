@@ -1,3 +1,4 @@
+use Rattle.scene.specs.Scene.{bodyVec}
 use borrow.Author.Needs.{needs}
 use Rattle.scene.proofs.numbers.position.Statement.{statement}
 use Rattle.scene.proofs.numbers.position.Tie as tie
@@ -19,7 +20,8 @@ body-float-requires-3 c κs = search needs
 
 -- src/numbers.rt:45:1
 returns : tie.Need-returns
-returns c = ?
+unfolding bodyVec
+returns c = rw (← c .before .before .body-float .ensures, ← c .before .body-float2 .ensures, ← c .body-float3 .ensures)
 
 pub position-spec : {M : Type 1} → statement M
 position-spec =

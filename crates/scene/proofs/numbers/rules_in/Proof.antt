@@ -1,3 +1,4 @@
+use Rattle.scene.specs.Scene.{rulesIn}
 use borrow.Author.Needs.{needs}
 use Rattle.scene.proofs.numbers.rules_in.Statement.{statement}
 use Rattle.scene.proofs.numbers.rules_in.Tie as tie
@@ -32,7 +33,8 @@ body-word-requires c κs = search needs
 
 -- src/numbers.rt:107:1
 returns : tie.Need-returns
-returns c = ?
+unfolding rulesIn
+returns c = rw (← c .before .before .before .before .before .body-float .ensures, ← c .before .before .before .before .body-float2 .ensures, ← c .before .before .before .body-float3 .ensures, ← c .before .before .body-float4 .ensures, ← c .before .body-float5 .ensures, ← c .body-word .ensures)
 
 pub rules-in-spec : {M : Type 1} → statement M
 rules-in-spec =

@@ -1,3 +1,4 @@
+use Rattle.scene.specs.Scene.{windowIn}
 use borrow.Author.Needs.{needs}
 use Rattle.scene.proofs.numbers.sizes_in.Statement.{statement}
 use Rattle.scene.proofs.numbers.sizes_in.Tie as tie
@@ -19,7 +20,8 @@ part-word-requires-3 c κs = search needs
 
 -- src/numbers.rt:167:1
 returns : tie.Need-returns
-returns c = ?
+unfolding windowIn
+returns c = rw (← c .before .before .part-word .ensures, ← c .before .part-word2 .ensures, ← c .part-word3 .ensures)
 
 pub sizes-in-spec : {M : Type 1} → statement M
 sizes-in-spec =

@@ -1,3 +1,4 @@
+use Rattle.scene.specs.Scene.{bodyVec}
 use borrow.Author.Needs.{needs}
 use Rattle.scene.proofs.numbers.velocity.Statement.{statement}
 use Rattle.scene.proofs.numbers.velocity.Tie as tie
@@ -19,7 +20,8 @@ body-float-requires-3 c κs = search needs
 
 -- src/numbers.rt:54:1
 returns : tie.Need-returns
-returns c = ?
+unfolding bodyVec
+returns c = rw (← c .before .before .body-float .ensures, ← c .before .body-float2 .ensures, ← c .body-float3 .ensures)
 
 pub velocity-spec : {M : Type 1} → statement M
 velocity-spec =

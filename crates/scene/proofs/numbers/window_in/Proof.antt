@@ -1,3 +1,4 @@
+use Rattle.scene.specs.Scene.{windowIn}
 use borrow.Author.Needs.{needs}
 use Rattle.scene.proofs.numbers.window_in.Statement.{statement}
 use Rattle.scene.proofs.numbers.window_in.Tie as tie
@@ -16,7 +17,8 @@ sizes-in-requires c κs = search needs
 
 -- src/numbers.rt:176:1
 returns : tie.Need-returns
-returns c = ?
+unfolding windowIn
+returns c = rw (← c .before .origin-in .ensures, ← c .sizes-in .ensures)
 
 pub window-in-spec : {M : Type 1} → statement M
 window-in-spec = tie.close (tie.spec origin-in-requires sizes-in-requires returns)

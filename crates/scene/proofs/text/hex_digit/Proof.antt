@@ -1,24 +1,24 @@
+-- `scene::text::hex_digit` meets its contract. Assumes nothing.
+use Rattle.scene.specs.Text.{hexDigit}
+use borrow.Author.Tests.{lt-ltb, le-ltb}
+use Rattle.base.specs.Choose.{choose}
 use borrow.Author.Needs.{needs}
 use Rattle.scene.proofs.text.hex_digit.Statement.{statement}
 use Rattle.scene.proofs.text.hex_digit.Tie as tie
-use Rattle.scene.proofs.text.hex_digit.Reads as reads
-use Rattle.scene.proofs.text.hex_digit.Lts as lts
 
--- src/text.rt:37:17
 add-result : tie.Need-add-result
 add-result c = search needs
 
--- src/text.rt:37:33
 add-result-2 : tie.Need-add-result-2
 add-result-2 c = search needs
 
--- src/text.rt:33:1
 returns : tie.Need-returns
-returns c = ?
+unfolding hexDigit choose
+returns c = rw (lt-ltb _ _ (c .if1 .taken))
 
--- src/text.rt:33:1
 returns-2 : tie.Need-returns-2
-returns-2 c = ?
+unfolding hexDigit choose
+returns-2 c = rw (le-ltb _ _ (c .if1 .left))
 
 pub hex-digit-spec : {M : Type 1} → statement M
 hex-digit-spec = tie.close (tie.spec add-result add-result-2 returns returns-2)

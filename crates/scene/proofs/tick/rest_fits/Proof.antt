@@ -16,11 +16,11 @@ blocks-fit-requires c κs = search needs
 
 -- src/tick.rt:60:9
 returns : tie.Need-returns
-returns c = ?
+returns c = rw (← c .before .before .flap-fits .ensures, c .before .if1 .taken, ← c .blocks-fit .ensures)
 
 -- src/tick.rt:56:1
 returns-2 : tie.Need-returns-2
-returns-2 c = ?
+returns-2 c = rw (← c .before .flap-fits .ensures, c .if1 .left)
 
 pub rest-fits-spec : {M : Type 1} → statement M
 rest-fits-spec = tie.close (tie.spec flap-fits-requires blocks-fit-requires returns returns-2)

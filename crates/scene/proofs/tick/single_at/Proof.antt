@@ -16,7 +16,7 @@ single-of-requires c κs = search needs
 
 -- src/tick.rt:108:1
 returns : tie.Need-returns
-returns c = ?
+returns c = rw (← c .before .part-word .ensures, ← c .single-of .ensures)
 
 pub single-at-spec : {M : Type 1} → statement M
 single-at-spec = tie.close (tie.spec part-word-requires single-of-requires returns)

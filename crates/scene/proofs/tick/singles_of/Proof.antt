@@ -1,60 +1,60 @@
+-- `scene::tick::singles_of` meets its contract. Assumes nothing.
+use lib.Ieee.{Float, ofBits, binary32}
+use borrow.Author.Needs.{needs}
+use Rattle.blocks.specs.Blocks.{partWord}
+use Rattle.base.proofs.Fill.{turn, whole}
+use Rattle.base.specs.Loop.{listed}
+use native.Mathlib.Omega.{arith}
+use lib.Ieee.{ofBits, binary32}
+use lib.ListN.{length, take, length-set}
+use Prim.Native.Nat.{ℕ, _-_, _≤_, min}
+use native.Mathlib.Nat.{sub-zero}
+use mathlib.Core.List.{_++_}
+use mathlib.Core.Path.{_≡_, refl, sym, ap, _∙_}
 use Rattle.scene.proofs.tick.singles_of.Statement.{statement}
 use Rattle.scene.proofs.tick.singles_of.Tie as tie
-use Rattle.scene.proofs.tick.singles_of.Reads as reads
-use Rattle.scene.proofs.tick.singles_of.Lts as lts
-use Rattle.scene.proofs.tick.held.Reads as held-reads
-use Rattle.scene.proofs.tick.no_singles.Reads as no-singles-reads
-use Rattle.scene.proofs.tick.single_at.Reads as single-at-reads
 
 abbrev Inv-loop : tie.InvT-loop
-Inv-loop file p n singles₀ i₀ singles i = ?
+Inv-loop file p n singles₀ i₀ singles i = (i ≤ n) × (n ≤ 15744) × (length singles ≡ 15744) × (take i singles ++ listed (λ k. ofBits binary32 (partWord file p k)) (n - i) i ≡ listed (λ k. ofBits binary32 (partWord file p k)) n 0)
 
 abbrev μ-loop : tie.MeasureT-loop
-μ-loop file p n singles₀ i₀ singles i = ?
+μ-loop file p n singles₀ i₀ singles i = n - i
 
--- src/tick.rt:118:9
 held-requires : tie.Need-held-requires Inv-loop μ-loop
-held-requires c κs = ?
+held-requires c κs = search needs
 
--- src/tick.rt:119:23
 no-singles-requires : tie.Need-no-singles-requires Inv-loop μ-loop
-no-singles-requires c κs = ?
+no-singles-requires c κs = search needs
 
--- src/tick.rt:121:5
 loop-holds : tie.Need-loop-holds Inv-loop μ-loop
-loop-holds c = ?
+loop-holds c = (search needs, let e = c .before .held .ensures in omega arith, sym (c .no-singles .ensures), ap (λ (k : ℕ). listed (λ i. ofBits binary32 (partWord (c .before .before .before .args .file .now) (c .before .before .before .args .p) i)) k 0) (sub-zero (c .before .held .result)))
 
--- src/tick.rt:122:41
 cast-single-at : tie.Need-cast-single-at Inv-loop μ-loop
-cast-single-at c = ?
+cast-single-at c = search needs
 
--- src/tick.rt:122:22
 single-at-requires : tie.Need-single-at-requires Inv-loop μ-loop
-single-at-requires c κs = ?
+single-at-requires c κs = search needs
 
--- src/tick.rt:122:9
 mul-singles : tie.Need-mul-singles Inv-loop μ-loop
-mul-singles c = ?
+mul-singles c = search needs
 
--- src/tick.rt:122:9
 array-write-singles : tie.Need-array-write-singles Inv-loop μ-loop
-array-write-singles c = ?
+array-write-singles c = search needs
 
--- src/tick.rt:123:9
 add-i : tie.Need-add-i Inv-loop μ-loop
-add-i c = ?
+add-i c = search needs
 
--- src/tick.rt:121:5
 loop-less : tie.Need-loop-less Inv-loop μ-loop
-loop-less c = ?
+loop-less c = search needs
 
--- src/tick.rt:121:5
 loop-again : tie.Need-loop-again Inv-loop μ-loop
-loop-again c = ?
+loop-again c = (search needs, search needs, simp length-set (c .before .before .loop .inv .2), turn (λ i. ofBits binary32 (partWord (c .before .before .before .before .before .before .args .file .now) (c .before .before .before .before .before .before .args .p) i)) (c .before .before .before .before .held .result) (c .before .before .loop .i) (c .before .before .loop .singles) _ (c .single-at .result) (c .single-at .ensures) (search needs) (search needs) (c .before .before .loop .inv .3))
 
--- src/tick.rt:115:1
 returns : tie.Need-returns Inv-loop μ-loop
-returns c = ?
+returns c =
+    let f : ℕ → Float = λ i. ofBits binary32 (partWord (c .before .before .before .before .before .args .file .now) (c .before .before .before .before .before .args .p) i) in
+    let whole-part = whole f (c .before .before .before .held .result) (c .before .loop .i) (c .before .loop .singles) _ (search needs) (c .before .loop .inv .0) (c .before .loop .inv .3) in
+    (rw (c .before .before .before .held .ensures) at whole-part, sym (c .before .loop .inv .2))
 
 pub singles-of-spec : {M : Type 1} → statement M
 singles-of-spec =

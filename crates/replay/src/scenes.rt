@@ -1,0 +1,77 @@
+// The scene files of data/, by number: each with what `onetick` prints of it, its lines joined by `; `.
+ghost use mathlib.Core.Path.{_≡_};
+ghost use lib.ListN.{length};
+
+fn digit(n: u32) -> u8 {
+    b'0' + (n % 10) as u8
+}
+
+// The four digits of a number.
+fn digits(n: u32) -> [u8; 4]
+    ensures { λ r. ⌜ 4 ≡ length r ⌝ }
+{
+    [digit(n / 1000), digit(n / 100), digit(n / 10), digit(n)]
+}
+
+fn name(n: u32) -> [u8; 8]
+    ensures { λ r. ⌜ 8 ≡ length r ⌝ }
+{
+    [digit(n / 1000), digit(n / 100), digit(n / 10), digit(n), b'.', b's', b'c', b'n']
+}
+
+// Room for the longest scene and one byte more, and for every answer.
+fn file_room() -> [u8; 65537]
+    ensures { λ r. ⌜ 65537 ≡ length r ⌝ }
+{
+    [0; 65537]
+}
+
+fn answer_room() -> [u8; 160]
+    ensures { λ r. ⌜ 160 ≡ length r ⌝ }
+{
+    [0; 160]
+}
+
+// The lines of an answer, joined.
+fn put_joined(text: &[u8]) {
+    let mut at = 0usize;
+    for i in 0..text.len() {
+        if text[i] == b'\n' {
+            crate::text::put(crate::text::part(text, at, i));
+            at = i + 1;
+            if at < text.len() {
+                crate::text::put(b"; ");
+            }
+        }
+    }
+}
+
+fn put_answer(fd: i32) {
+    let mut file = file_room();
+    let n = io::read_full(fd, &mut file);
+    let mut out = answer_room();
+    let m = scene::answer(crate::text::part(&file, 0, n), &mut out);
+    put_joined(crate::text::part(&out, 0, m));
+}
+
+fn run(n: u32) {
+    let label = digits(n);
+    crate::text::put(&label);
+    crate::text::put(b" ");
+    let path = name(n);
+    let fd = os::open_read(&path);
+    if fd < 0 {
+        crate::text::put(b"missing");
+    } else {
+        put_answer(fd);
+        libc::close(fd);
+    }
+    crate::text::put(b"\n");
+}
+
+pub(crate) fn run_all() {
+    let most: u32 = 701;
+    for n in 0..most {
+        run(n);
+    }
+}
