@@ -1,9 +1,12 @@
 -- Pieces of text stored one behind the other. Assumes nothing.
-use mathlib.Core.List.{List, [], _∷_, _++_, append-nil}
-use mathlib.Core.Path.{_≡_, refl, sym, ap, _∙_}
+use mathlib.Core.Bool.{Bool, true, false}
+use mathlib.Core.List.{List, [], _∷_}
+use mathlib.Core.Path.{_≡_, refl, ap, _∙_}
 use Prim.Native.Nat.{ℕ, _+_, _≤_}
 use native.Mathlib.Omega.{arith}
+use lib.Dec.{eqb, ltb}
 use lib.ListN.{length, set, length-set}
+use Rattle.base.specs.Choose.{choose}
 use Rattle.base.specs.Loop.{listed, stored}
 use Rattle.base.proofs.Fill.{stored-then}
 use Rattle.boxes.specs.declared.Vec3.{Vec3}
@@ -11,7 +14,7 @@ use Rattle.tables.specs.declared.LiquidKind.{LiquidKind}
 use Rattle.tables.specs.declared.LiquidKind.the-variants.{None, Water, Lava}
 use Rattle.idents.specs.Bytes.{bytes}
 use Rattle.step.specs.declared.StepAnswer.{StepAnswer}
-use Rattle.scene.specs.Text.{newline, hexOf, joinedText, vecText, groundDigit, liquidText, linesOf}
+use Rattle.scene.specs.Text.{newline, hexOf, joinedText, vecText, groundDigit, liquidText, linesOf, refusedText, textOf, room, writtenCount}
 
 -- each piece where the one before it ends
 abbrev pub storedAll : List ℕ → ℕ → List (List ℕ) → List ℕ
@@ -70,3 +73,20 @@ pub liquid-most : (k : LiquidKind) → length (liquidText k) ≤ 5
 liquid-most None = omega arith
 liquid-most Water = omega arith
 liquid-most Lava = omega arith
+
+-- no answer is longer than the room for one
+lines-most : (a : StepAnswer) → length (linesOf a) ≤ 160
+lines-most a = let e = lines-length a in let m = liquid-most (a .liquid) in omega arith
+
+refused-length : (n : ℕ) → length (refusedText n) ≡ 10
+unfolding refusedText joinedText
+refused-length n = refl
+
+pub written-most : (out : List ℕ) (a : StepAnswer) → writtenCount out (textOf a) ≤ 160
+unfolding writtenCount textOf choose
+written-most out a = go (ltb (length out) room) (eqb (a .refusal) 0) (lines-most a) (refused-length (a .refusal))
+  where
+    go : (b t : Bool) → length (linesOf a) ≤ 160 → length (refusedText (a .refusal)) ≡ 10 → choose b 0 (length (choose t (linesOf a) (refusedText (a .refusal)))) ≤ 160
+    go true t h e = omega arith
+    go false true h e = h
+    go false false h e = omega arith
