@@ -8,7 +8,8 @@ use lib.ListN.{length, getD, take, drop}
 use lib.Ieee.{Float}
 use borrow.Author.Tests.{le-leb, lt-leb}
 use Rattle.base.specs.Choose.{choose}
-use Rattle.tables.specs.Tables.{boxesAt}
+use Rattle.floats.specs.Numbers.{zero64}
+use Rattle.tables.specs.Tables.{boxesAt, boxOf, boxAt}
 
 -- within the list the default is not looked at
 pub getD-any : {A : Type 0} (l : List A) (i : ℕ) (d e : A) → i < length l → getD l i d ≡ getD l i e
@@ -34,3 +35,15 @@ module _ (l : List Float) (a b p q : ℕ) (s : p ≡ a) (t : q ≡ b) where
   pub short-part : length l < p * 6 + q * 6 → [] ≡ boxesAt l a b
   unfolding boxesAt choose
   short-part h = rw (← s, ← t, lt-leb (p + q) (length l / 6) (short p q (length l) h))
+
+-- ---- a box whose last number is there, and so all of them
+pub whole-box : (l : List Float) (i k : ℕ) (d : Float) → i ≡ k → i * 6 + 5 < length l
+    → boxOf (getD l (i * 6) d) (getD l (i * 6 + 1) d) (getD l (i * 6 + 2) d) (getD l (i * 6 + 3) d) (getD l (i * 6 + 4) d) (getD l (i * 6 + 5) d) ≡ boxAt l k
+whole-box l i k d e h =
+    let n0 = getD-any l (i * 6) d zero64 (omega arith) in
+    let n1 = getD-any l (i * 6 + 1) d zero64 (omega arith) in
+    let n2 = getD-any l (i * 6 + 2) d zero64 (omega arith) in
+    let n3 = getD-any l (i * 6 + 3) d zero64 (omega arith) in
+    let n4 = getD-any l (i * 6 + 4) d zero64 (omega arith) in
+    let n5 = getD-any l (i * 6 + 5) d zero64 (omega arith) in
+    rw (← e, n0, n1, n2, n3, n4, n5)

@@ -2,7 +2,7 @@
 ghost use mathlib.Core.Path.{_≡_};
 ghost use lib.ListN.{getD};
 ghost use lib.Ieee.{ofBits, binary32};
-ghost use Rattle.tables.specs.Tables.{wordAt, isRegistered, blocksMotion, frictionAt, kindOf, liquidOf, liquidAt, boxesAt, stateBoxes, floatAt, boxAt};
+ghost use Rattle.tables.specs.Tables.{wordAt, isRegistered, blocksMotion, frictionAt, kindOf, liquidOf, liquidAt, boxesAt, stateBoxes, floatAt, boxOf, boxAt};
 ghost use Rattle.tables.specs.Check.{tableRefusal};
 
 mod check;
@@ -151,8 +151,36 @@ pub fn float_at(shape: &[f32], i: usize) -> f64
     0.0
 }
 
-// Box k of a shape.
-pub fn box_at(shape: &[f32], k: u32) -> ShapeBox
+// A box of these numbers. Where each min is at or below its max no number is a NaN, and a plain cast serves.
+fn box_of(x0: f32, y0: f32, z0: f32, x1: f32, y1: f32, z1: f32) -> ShapeBox
+    ensures { λ r. ⌜ r ≡ boxOf x0 y0 z0 x1 y1 z1 ⌝ }
+{
+    if x0 <= x1 {
+        if y0 <= y1 {
+            if z0 <= z1 {
+                return ShapeBox {
+                    x0: x0 as f64,
+                    y0: y0 as f64,
+                    z0: z0 as f64,
+                    x1: x1 as f64,
+                    y1: y1 as f64,
+                    z1: z1 as f64,
+                };
+            }
+        }
+    }
+    ShapeBox {
+        x0: std::num::f32_to_f64_with_nan(x0),
+        y0: std::num::f32_to_f64_with_nan(y0),
+        z0: std::num::f32_to_f64_with_nan(z0),
+        x1: std::num::f32_to_f64_with_nan(x1),
+        y1: std::num::f32_to_f64_with_nan(y1),
+        z1: std::num::f32_to_f64_with_nan(z1),
+    }
+}
+
+// A box whose numbers are not all there.
+fn cut_box(shape: &[f32], k: u32) -> ShapeBox
     ensures { λ r. ⌜ r ≡ boxAt (now (shape .entry)) k ⌝ }
 {
     let i = wide(k) * 6;
@@ -170,6 +198,24 @@ pub fn box_at(shape: &[f32], k: u32) -> ShapeBox
         y1,
         z1,
     }
+}
+
+// Box k of a shape. One test says that all its numbers are there.
+pub fn box_at(shape: &[f32], k: u32) -> ShapeBox
+    ensures { λ r. ⌜ r ≡ boxAt (now (shape .entry)) k ⌝ }
+{
+    let i = wide(k) * 6;
+    if i + 5 < shape.len() {
+        return box_of(
+            shape[i],
+            shape[i + 1],
+            shape[i + 2],
+            shape[i + 3],
+            shape[i + 4],
+            shape[i + 5],
+        );
+    }
+    cut_box(shape, k)
 }
 
 // The table check: 0 where every rule and limit of the lent tables holds, and 1 where one breaks.
