@@ -91,7 +91,7 @@ fn part_of(records: &[u32], cells: &[u32], w: Window, p: Pos, id: u32) -> Part
     }
 }
 
-// What stands in the cell at p.
+// What stands in the cell at p. A record that connects as nothing has its own boxes, and is done with here.
 fn part_at(records: &[u32], cells: &[u32], w: Window, p: Pos) -> Part
     ensures { λ r. ⌜ partAsked r ≡ cellShape (lookAt (now (cells .entry)) w) (now (records .entry)) p ⌝ }
 {
@@ -104,7 +104,15 @@ fn part_at(records: &[u32], cells: &[u32], w: Window, p: Pos) -> Part
             count: 1,
         }),
         Cell::State(id) => {
-            if tables::is_registered(records, id) {
+            let h = tables::head_at(records, id);
+            if h.registered {
+                if h.kind == 0 {
+                    return Part::Is(Shape {
+                        cube: false,
+                        first: h.first,
+                        count: h.count,
+                    });
+                }
                 return part_of(records, cells, w, p, id);
             }
             Part::Is(Shape {
