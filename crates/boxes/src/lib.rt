@@ -287,7 +287,7 @@ fn meets(al: f64, ah: f64, bl: f64, bh: f64) -> bool
     if al < bh { ah > bl } else { false }
 }
 
-// A choice that is no branch once it is inlined: both numbers are at hand.
+// One of two numbers that are both at hand.
 fn either(first: bool, a: f64, b: f64) -> f64
     ensures { λ r. ⌜ r ≡ choose first a b ⌝ }
 {
@@ -309,9 +309,9 @@ fn far() -> f64
     1.0 / 0.0
 }
 
-// The way d along an axis, stopped at the box where the mover doesn't pass it by on one of the two other axes. It serves x, y and z. All tests
-// of a box are made and none is branched on, since no processor can guess how they go from box to box; the gap is infinite where one says
-// that the way is free.
+// The way d along an axis, stopped at the box where the mover doesn't pass it by on one of the two other axes. It serves x, y and z. The tests
+// of a box stand side by side and not one behind the other, since a processor can't guess how they go from box to box (docs/SPEED.md); the gap
+// is infinite where one says that the way is free.
 fn clipped(first: Sides, second: Sides, along: Sides, d: f64) -> f64
     ensures { λ r. ⌜ r ≡ clipOn first second along d ⌝ }
 {
