@@ -199,6 +199,9 @@ fn main() {
             println!("{what:<24} ours {o:7.1} ns   Rust, list given {g:7.1} ns, ratio {:4.2}   Rust, list filled {f:7.1} ns, ratio {:4.2}", o / g, o / f);
             passes[k] = [o, g, f];
         }
+        let bare: Vec<Scene> = scenes.iter().map(|s| Scene { numbers: Vec::new(), boxes: Vec::new(), mover: s.mover.clone() }).collect();
+        let [o, g, f] = time(&bare, 0.0, 1, [ours, given, filled]);
+        println!("{:<24} ours {o:7.1} ns   Rust, list given {g:7.1} ns               Rust, list filled {f:7.1} ns", "no box, 3 passes");
         let [o, g, _] = [0, 1, 2].map(|k| (passes[1][k] - passes[0][k]) / 4.0);
         println!("{:<24} ours {o:7.1} ns   Rust             {g:7.1} ns, ratio {:4.2}", "one pass more", o / g);
     }

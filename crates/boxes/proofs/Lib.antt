@@ -5,3 +5,4 @@ pub mod Shape
 pub mod Limits
 pub mod Beyond
 pub mod Numbers
+pub mod Clips

@@ -1,9 +1,7 @@
 -- The capped list: room for 128 boxes and a count. Its meaning is the list of its first `count` boxes; what lies beyond means nothing.
-use mathlib.Core.List.{List, [], _∷_, _++_}
+use mathlib.Core.List.{List}
 use Prim.Native.Nat.{ℕ}
-use lib.Dec.{ltb}
 use lib.ListN.{length, take, replicate}
-use Rattle.base.specs.Choose.{choose}
 use Rattle.floats.specs.Numbers.{zero64}
 use Rattle.boxes.specs.Boxes.{vec, box}
 use Rattle.boxes.specs.declared.Aabb.{Aabb}
@@ -35,7 +33,3 @@ heldIn r = record { refusal = r .refusal; count = r .list .count; boxes = listOf
 -- the count is the length of the list
 abbrev pub held : ℕ → List Aabb → Held
 held k bs = record { refusal = k; count = length bs; boxes = bs }
-
--- one box more, or 6 and an empty list where there is no room
-abbrev pub pushOf : List Aabb → Aabb → Held
-pushOf bs b = choose (ltb (length bs) room) (held 0 (bs ++ (b ∷ []))) (held 6 [])

@@ -1,8 +1,7 @@
 -- A box and a mover on one axis, as the code hands them on. No contract of a public function cites this file.
-use mathlib.Core.Bool.{Bool, _&&_, _||_}
-use lib.Ieee.{Float, lt, le}
+use mathlib.Core.Bool.{Bool, _||_}
+use lib.Ieee.{Float}
 use Rattle.base.specs.Choose.{choose}
-use Rattle.floats.specs.Numbers.{zero64}
 use Rattle.boxes.specs.declared.Aabb.{Aabb}
 use Rattle.boxes.specs.declared.Sides.{Sides}
 use Rattle.boxes.specs.Boxes.{apart, stopAt}
@@ -18,13 +17,6 @@ onZ b mover = record { lo = b .min .z; hi = b .max .z; from = mover .min .z; to 
 
 abbrev pub apartOn : Sides → Bool
 apartOn s = apart (s .lo) (s .hi) (s .from) (s .to)
-
--- the mover comes to the box from below, and from above
-abbrev pub ahead : Sides → Float → Bool
-ahead s d = lt zero64 d && le (s .to) (s .lo)
-
-abbrev pub behind : Sides → Float → Bool
-behind s d = lt d zero64 && le (s .hi) (s .from)
 
 abbrev pub stopOn : Sides → Float → Float
 stopOn s d = stopAt (s .lo) (s .hi) (s .from) (s .to) d

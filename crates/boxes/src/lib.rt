@@ -13,7 +13,10 @@ pub use passes::clip_sequence;
 pub use passes::move_over;
 ghost use mathlib.Core.Path.{_≡_};
 ghost use Rattle.boxes.specs.Boxes.{vec, box, fromFeet, offsetBy, below0, above0, downOf, upOf, expandTowards, inflateBy, meet, overlap, feetOf, clipX, clipY, clipZ};
-ghost use Rattle.boxes.specs.Sides.{onX, onY, onZ, apartOn, ahead, behind, stopOn, clipOn};
+ghost use Rattle.boxes.specs.Sides.{onX, onY, onZ, apartOn, clipOn};
+ghost use Rattle.base.specs.Choose.{choose};
+ghost use lib.Ieee.{inf};
+ghost use mathlib.Core.Bool.{false};
 
 pub struct Vec3 {
     pub x: f64,
@@ -284,46 +287,45 @@ fn meets(al: f64, ah: f64, bl: f64, bh: f64) -> bool
     if al < bh { ah > bl } else { false }
 }
 
-fn are_apart(s: Sides) -> bool
-    ensures { λ r. ⌜ r ≡ apartOn s ⌝ }
+// One of two numbers that are both at hand.
+fn either(first: bool, a: f64, b: f64) -> f64
+    ensures { λ r. ⌜ r ≡ choose first a b ⌝ }
 {
-    if s.to <= s.lo { true } else { s.from >= s.hi }
+    if first { a } else { b }
 }
 
-fn is_ahead(s: Sides, d: f64) -> bool
-    ensures { λ r. ⌜ r ≡ ahead s d ⌝ }
+// Where the mover passes the box by on this axis the way is free; otherwise there is a gap.
+fn past(s: Sides, free: f64, gap: f64) -> f64
+    ensures { λ r. ⌜ r ≡ choose (apartOn s) free gap ⌝ }
 {
-    if d > 0.0 { s.to <= s.lo } else { false }
+    let before = s.to <= s.lo;
+    let after = s.from >= s.hi;
+    either(before, free, either(after, free, gap))
 }
 
-fn is_behind(s: Sides, d: f64) -> bool
-    ensures { λ r. ⌜ r ≡ behind s d ⌝ }
+fn far() -> f64
+    ensures { λ r. ⌜ r ≡ inf false ⌝ }
 {
-    if d < 0.0 { s.from >= s.hi } else { false }
+    1.0 / 0.0
 }
 
-// The way d along the axis of s, stopped at the box.
-fn stopped(s: Sides, d: f64) -> f64
-    ensures { λ r. ⌜ r ≡ stopOn s d ⌝ }
-{
-    if is_ahead(s, d) {
-        return floats::lesser(d, s.lo - s.to);
-    }
-    if is_behind(s, d) {
-        return floats::greater(d, s.hi - s.from);
-    }
-    d
-}
-
-// The same, where the mover doesn't pass the box by on one of the two other axes. It serves x, y and z.
+// The way d along an axis, stopped at the box where the mover doesn't pass it by on one of the two other axes. It serves x, y and z. The tests
+// of a box stand side by side and not one behind the other, since a processor can't guess how they go from box to box (docs/SPEED.md); the gap
+// is infinite where one says that the way is free.
 fn clipped(first: Sides, second: Sides, along: Sides, d: f64) -> f64
     ensures { λ r. ⌜ r ≡ clipOn first second along d ⌝ }
 {
-    if are_apart(first) {
-        return d;
+    if d > 0.0 {
+        let free = far();
+        let ahead = along.to <= along.lo;
+        let gap = either(ahead, along.lo - along.to, free);
+        return floats::lesser(d, past(first, free, past(second, free, gap)));
     }
-    if are_apart(second) {
-        return d;
+    if d < 0.0 {
+        let free = -far();
+        let behind = along.from >= along.hi;
+        let gap = either(behind, along.hi - along.from, free);
+        return floats::greater(d, past(first, free, past(second, free, gap)));
     }
-    stopped(along, d)
+    d
 }

@@ -5,7 +5,7 @@ use crate::BoxList;
 use crate::Collected;
 use crate::Vec3;
 ghost use mathlib.Core.Path.{_≡_};
-ghost use Rattle.boxes.specs.Lists.{room, noBox, emptyList, listOf, heldIn, held, pushOf};
+ghost use Rattle.boxes.specs.Lists.{room, noBox, emptyList, heldIn, held};
 ghost use Prim.Native.Nat.{min};
 ghost use mathlib.Core.List.{[]};
 
@@ -40,20 +40,6 @@ impl BoxList {
         let b = no_box();
         let boxes = [b; 128];
         BoxList { boxes, count: 0 }
-    }
-
-    // One box more. A 129th is 6.
-    pub fn push(self, b: Aabb) -> Collected
-        ensures { λ r. ⌜ heldIn r ≡ pushOf (listOf self) b ⌝ }
-    {
-        let n = self.count;
-        if n >= 128 {
-            return Collected::refused(6);
-        }
-        let mut list = self;
-        list.boxes[n] = b;
-        list.count = n + 1;
-        Collected { list, refusal: 0 }
     }
 }
 

@@ -11,13 +11,31 @@ use lib.Ieee.{Float}
 use borrow.Author.Tests.{eq-eqb, ne-eqb, leb-true}
 use Rattle.base.specs.Choose.{choose}
 use Rattle.base.specs.Loop.{listed}
+use Rattle.base.specs.Ask.{Ask, found, _>>=_}
 use Rattle.boxes.specs.declared.Aabb.{Aabb}
 use Rattle.cover.specs.Cover.{boxCount}
-use Rattle.tables.specs.Tables.{boxesAt}
+use Rattle.tables.specs.declared.Head.{Head}
+use Rattle.tables.specs.Tables.{wordAt, isRegistered, headAt, boxesAt}
 use Rattle.window.specs.declared.Pos.{Pos}
+use Rattle.window.specs.Look.{Block, some}
+use Rattle.connect.specs.Connect.{connectsAs, connectedState}
 use Rattle.moves.specs.declared.Shape.{Shape}
-use Rattle.moves.specs.Collect.{CellShape, cube, boxes, aabbsOf}
+use Rattle.moves.specs.Collect.{CellShape, cube, boxes, aabbsOf, connectedShape, shapeOf}
 use Rattle.moves.specs.Parts.{shapeIn, countOf, nthAabb}
+
+-- a record that is registered
+pub head-registered : (records : List ℕ) (id : ℕ) (h : Head) → h ≡ headAt records id → isRegistered records id ≡ h .registered
+unfolding isRegistered
+head-registered records id h e = sym (ap (λ (x : Head). x .registered) e)
+
+-- and that connects as nothing has its own boxes
+pub plain-shape : (look : Pos → Ask Block) (records : List ℕ) (p : Pos) (id : ℕ) (h : Head) → h ≡ headAt records id → h .registered ≡ true → h .kind ≡ 0
+    → shapeOf look records p (some id) ≡ found (boxes (h .first) (h .count))
+unfolding shapeOf connectedShape connectedState connectsAs choose
+plain-shape look records p id h e r k =
+    let t : isRegistered records id ≡ true = head-registered records id h e ∙ r in
+    let w : wordAt records id 4 ≡ 0 = sym (ap (λ (x : Head). x .kind) e) ∙ k in
+    rw (t, w, e)
 
 -- a part that is there whole has `count` boxes, and another none
 part-count : (shapes : List Float) (first count : ℕ) → boxCount (boxesAt shapes first count) ≡ choose (eqb (length (boxesAt shapes first count)) 0) 0 count

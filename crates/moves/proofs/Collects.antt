@@ -12,7 +12,7 @@ use lib.Ieee.{Float}
 use borrow.Author.Tests.{lt-ltb, le-ltb}
 use Rattle.base.specs.Choose.{choose}
 use Rattle.base.specs.Loop.{listed}
-use Rattle.base.specs.Ask.{Ask, refused, found, _>>=_, Turn, next, done, onward}
+use Rattle.base.specs.Ask.{Ask, refused, found, _>>=_, Turn, next, done, onward, turning}
 use Rattle.boxes.specs.declared.Aabb.{Aabb}
 use Rattle.boxes.specs.declared.BoxList.{BoxList}
 use Rattle.boxes.specs.Boxes.{overlap}
@@ -20,125 +20,135 @@ use Rattle.boxes.specs.Lists.{room, listOf, emptyList, noBox, Held, held}
 use Rattle.window.specs.declared.Pos.{Pos}
 use Rattle.window.specs.Look.{Block}
 use Rattle.ranges.specs.declared.Range.{Range}
-use Rattle.ranges.specs.declared.At.{At}
-use Rattle.ranges.specs.Ranges.{placeOf, nextOf, startOf}
-use Rattle.ranges.specs.Walk.{walk}
-use Rattle.ranges.proofs.Walks.{rest, rest-end, rest-refused, rest-done, rest-next, rest-start, Within, start-within, left, next-within, next-less}
-use Rattle.moves.specs.Collect.{CellShape, aabbsOf, cellShape, offer, offerAll, visit, push, pushed, hit, isHit, rangeOf, collectBlockBoxes, collidesWithBlocks}
+use Rattle.ranges.specs.Ranges.{placeAt}
+use Rattle.ranges.specs.Walk.{line, layer, walk}
+use Rattle.moves.specs.Collect.{CellShape, cellShape, offer, offerAll, visit, push, pushed, hit, isHit, rangeOf, collectBlockBoxes, collidesWithBlocks}
 use Rattle.tables.specs.Tables.{boxesAt}
 use Rattle.moves.specs.declared.Shape.{Shape}
 use Rattle.moves.specs.Parts.{shapeIn, countOf, nthAabb}
 use Rattle.moves.specs.Answers.{heldAsked}
 use Rattle.moves.proofs.Boxes.{listed-all}
 
--- ---- a cell, whatever it answers, and the cells after it
-module _ {S R : Type 0} (f : Pos → S → Ask (Turn S R)) (r : Range) (t : At) (s : S) (hy : t .y < r .y .count) (hx : t .x < r .x .count) (hz : t .z < r .z .count) where
-  pub rest-turn : (m : Ask (Turn S R)) → f (placeOf r t) s ≡ m → rest f r t s ≡ (m >>= onward (rest f r (nextOf r t)))
-  rest-turn (refused k) e = rest-refused f r t s hy hx hz k e
-  rest-turn (found (next a)) e = rest-next f r t s a hy hx hz e
-  rest-turn (found (done b)) e = rest-done f r t s hy hx hz b e
+-- ---- one after the other
+then-then : {S R : Type 0} (m : Ask (Turn S R)) (k l : S → Ask (Turn S R)) → ((m >>= onward k) >>= onward l) ≡ (m >>= onward (λ s. k s >>= onward l))
+then-then (refused n) k l = refl
+then-then (found (next a)) k l = refl
+then-then (found (done b)) k l = refl
 
--- ---- the boxes of a cell
-module _ {S : Type 0} (accept : Aabb → S → Ask (Turn S Bool)) (area : Aabb) where
-  pub cell-refused : (look : Pos → Ask Block) (records : List ℕ) (shapes : List Float) (p : Pos) (s : S) (k : ℕ) → cellShape look records p ≡ refused k → visit accept area look records shapes p s ≡ refused k
-  unfolding visit
-  cell-refused look records shapes p s k e = rw e
+then-nothing : {S R : Type 0} (m : Ask (Turn S R)) → (m >>= onward (λ s. found (next s))) ≡ m
+then-nothing (refused n) = refl
+then-nothing (found (next a)) = refl
+then-nothing (found (done b)) = refl
 
-  pub cell-found : (look : Pos → Ask Block) (records : List ℕ) (shapes : List Float) (p : Pos) (s : S) (shape : CellShape) (bs : List Aabb)
-      → cellShape look records p ≡ found shape → aabbsOf shapes p shape ≡ bs → visit accept area look records shapes p s ≡ offerAll accept area bs s
-  unfolding visit
-  cell-found look records shapes p s shape bs e h = rw e (ap (λ (l : List Aabb). offerAll accept area l s) h)
+-- ---- a loop from turn i on, and what comes after it
+module _ {S R : Type 0} (f : ℕ → S → Ask (Turn S R)) (n : ℕ) (after : S → Ask (Turn S R)) where
+  unfoldable pub from : ℕ → S → Ask (Turn S R)
+  from i s = turning f (n - i) i s >>= onward after
 
-  -- after the last box, and a box
-  pub boxes-end : (g : ℕ → Aabb) (n k : ℕ) (s : S) → n ≤ k → offerAll accept area (listed g (n - k) k) s ≡ found (next s)
-  unfolding listed offerAll
-  boxes-end g n k s h = let q : n - k ≡ 0 = omega arith in rw q
+  from-start : (s : S) → from 0 s ≡ (turning f n 0 s >>= onward after)
+  unfolding from
+  from-start s = let z : n - 0 ≡ n = omega arith in rw z
 
-  pub boxes-turn : (g : ℕ → Aabb) (n k : ℕ) (s : S) (b : Aabb) → k < n → b ≡ g k → offerAll accept area (listed g (n - k) k) s ≡ (offer accept area b s >>= onward (offerAll accept area (listed g (n - (k + 1)) (k + 1))))
-  unfolding listed offerAll
-  boxes-turn g n k s b h e = let q : n - k ≡ suc (n - (k + 1)) = omega arith in rw (q, e)
+  from-turn : (i : ℕ) (s : S) → i < n → from i s ≡ (f i s >>= onward (from (i + 1)))
+  unfolding from turning
+  from-turn i s h = let q : n - i ≡ suc (n - (i + 1)) = omega arith in rw q (then-then (f i s) (turning f (n - (i + 1)) (i + 1)) after)
 
--- ---- what the inner loop has left: the boxes of the cell from k on, and the cells after it
-module _ {S : Type 0} (accept : Aabb → S → Ask (Turn S Bool)) (look : Pos → Ask Block) (records : List ℕ) (shapes : List Float) (area : Aabb) (r : Range) (t : At) (g : ℕ → Aabb) (n : ℕ) where
-  abbrev pub visiting : Pos → S → Ask (Turn S Bool)
+  pub from-end : (i : ℕ) (s : S) → n ≤ i → from i s ≡ after s
+  unfolding from turning
+  from-end i s h = let q : n - i ≡ 0 = omega arith in rw q
+
+-- ---- the boxes of a list are offered one by one
+offers : {S : Type 0} (accept : Aabb → S → Ask (Turn S Bool)) (area : Aabb) (g : ℕ → Aabb) (n i : ℕ) (s : S) → offerAll accept area (listed g n i) s ≡ turning (λ k. offer accept area (g k)) n i s
+unfolding listed offerAll turning
+offers accept area g zero i s = refl
+offers {S = S} accept area g (suc n) i s = ap (λ (k : S → Ask (Turn S Bool)). offer accept area (g i) s >>= onward k) (λ j a. offers accept area g n (i + 1) a j)
+
+-- ---- what is left of a walk, in each of the four loops: layers, the lines of a layer, the cells of a line, the boxes of a cell
+module _ {S : Type 0} (accept : Aabb → S → Ask (Turn S Bool)) (look : Pos → Ask Block) (records : List ℕ) (shapes : List Float) (area : Aabb) (r : Range) where
+  abbrev visiting : Pos → S → Ask (Turn S Bool)
   visiting = visit accept area look records shapes
 
-  unfoldable pub leftFrom : ℕ → S → Ask (Turn S Bool)
-  leftFrom k s = offerAll accept area (listed g (n - k) k) s >>= onward (rest visiting r (nextOf r t))
+  abbrev pub all : S → Ask (Turn S Bool)
+  all = walk visiting r
 
-  module _ (whole : Ask (Turn S Bool)) where
-    -- the cell is begun
-    pub left-begin : (s : S) (shape : CellShape) → t .y < r .y .count → t .x < r .x .count → t .z < r .z .count → cellShape look records (placeOf r t) ≡ found shape
-        → aabbsOf shapes (placeOf r t) shape ≡ listed g n 0 → rest visiting r t s ≡ whole → leftFrom 0 s ≡ whole
-    unfolding leftFrom
-    left-begin s shape hy hx hz e l inv =
-        let z : n - 0 ≡ n = omega arith in
-        ap (λ (k : ℕ). offerAll accept area (listed g k 0) s >>= onward (rest visiting r (nextOf r t))) z
-        ∙ sym (rest-turn visiting r t s hy hx hz (offerAll accept area (listed g n 0) s) (cell-found accept area look records shapes (placeOf r t) s shape (listed g n 0) e l))
-        ∙ inv
+  unfoldable pub layersFrom : ℕ → S → Ask (Turn S Bool)
+  layersFrom = from (layer visiting r) (r .y .count) (λ s. found (next s))
 
-    -- its boxes are through
-    pub left-end : (k : ℕ) (s : S) → n ≤ k → leftFrom k s ≡ whole → rest visiting r (nextOf r t) s ≡ whole
-    unfolding leftFrom
-    left-end k s h inv = rw (boxes-end accept area g n k s h) at inv
+  unfoldable pub linesFrom : ℕ → ℕ → S → Ask (Turn S Bool)
+  linesFrom y = from (line visiting r y) (r .x .count) (layersFrom (y + 1))
 
-    -- a box, by what it is offered to
-    turned : (k : ℕ) (s : S) (b : Aabb) (m : Ask (Turn S Bool)) → k < n → b ≡ g k → offer accept area b s ≡ m → leftFrom k s ≡ whole
-        → ((m >>= onward (offerAll accept area (listed g (n - (k + 1)) (k + 1)))) >>= onward (rest visiting r (nextOf r t))) ≡ whole
-    unfolding leftFrom
-    turned k s b m h e o inv =
-        ap (λ (z : Ask (Turn S Bool)). (z >>= onward (offerAll accept area (listed g (n - (k + 1)) (k + 1)))) >>= onward (rest visiting r (nextOf r t))) (sym o)
-        ∙ sym (ap (λ (z : Ask (Turn S Bool)). z >>= onward (rest visiting r (nextOf r t))) (boxes-turn accept area g n k s b h e))
-        ∙ inv
+  unfoldable pub cellsFrom : ℕ → ℕ → ℕ → S → Ask (Turn S Bool)
+  cellsFrom y x = from (λ z. visiting (placeAt r x y z)) (r .z .count) (linesFrom y (x + 1))
 
-    pub left-next : (k : ℕ) (s a : S) (b : Aabb) → k < n → b ≡ g k → offer accept area b s ≡ found (next a) → leftFrom k s ≡ whole → leftFrom (k + 1) a ≡ whole
-    unfolding leftFrom
-    left-next k s a b h e o inv = turned k s b (found (next a)) h e o inv
+  unfoldable pub boxesFrom : ℕ → ℕ → ℕ → (ℕ → Aabb) → ℕ → ℕ → S → Ask (Turn S Bool)
+  boxesFrom y x z g n = from (λ k. offer accept area (g k)) n (cellsFrom y x (z + 1))
 
-    pub left-refused : (k : ℕ) (s : S) (b : Aabb) (j : ℕ) → k < n → b ≡ g k → offer accept area b s ≡ refused j → leftFrom k s ≡ whole → refused j ≡ whole
-    left-refused k s b j h e o inv = turned k s b (refused j) h e o inv
+  -- begun
+  pub walk-begins : (s : S) → layersFrom 0 s ≡ all s
+  unfolding layersFrom walk
+  walk-begins s = from-start (layer visiting r) (r .y .count) (λ a. found (next a)) s ∙ then-nothing (turning (layer visiting r) (r .y .count) 0 s)
 
-    pub left-done : (k : ℕ) (s : S) (b : Aabb) (v : Bool) → k < n → b ≡ g k → offer accept area b s ≡ found (done v) → leftFrom k s ≡ whole → found (done v) ≡ whole
-    left-done k s b v h e o inv = turned k s b (found (done v)) h e o inv
+  pub layer-begins : (y : ℕ) (s : S) → y < r .y .count → layersFrom y s ≡ linesFrom y 0 s
+  unfolding layersFrom linesFrom layer
+  layer-begins y s h = from-turn (layer visiting r) (r .y .count) (λ a. found (next a)) y s h ∙ sym (from-start (line visiting r y) (r .x .count) (layersFrom (y + 1)) s)
 
--- ---- where the outer loop stands
-pub record Walking {S : Type 0} (accept : Aabb → S → Ask (Turn S Bool)) (look : Pos → Ask Block) (records : List ℕ) (shapes : List Float) (area : Aabb) (r : Range) (s₀ s : S) (t : At) : Type 0 where
-  pub within : Within r t
-  pub left : rest (visit accept area look records shapes) r t s ≡ walk (visit accept area look records shapes) r s₀
+  pub line-begins : (y x : ℕ) (s : S) → x < r .x .count → linesFrom y x s ≡ cellsFrom y x 0 s
+  unfolding linesFrom cellsFrom line
+  line-begins y x s h = from-turn (line visiting r y) (r .x .count) (layersFrom (y + 1)) x s h ∙ sym (from-start (λ z. visiting (placeAt r x y z)) (r .z .count) (linesFrom y (x + 1)) s)
 
-module _ {S : Type 0} (accept : Aabb → S → Ask (Turn S Bool)) (look : Pos → Ask Block) (records : List ℕ) (shapes : List Float) (area : Aabb) (r : Range) (s₀ : S) where
-  abbrev pub all : Ask (Turn S Bool)
-  all = walk (visit accept area look records shapes) r s₀
+  module _ (y x z : ℕ) (s : S) (h : z < r .z .count) where
+    turn : cellsFrom y x z s ≡ (visiting (placeAt r x y z) s >>= onward (cellsFrom y x (z + 1)))
+    unfolding cellsFrom
+    turn = from-turn (λ k. visiting (placeAt r x y k)) (r .z .count) (linesFrom y (x + 1)) z s h
 
-  pub walking-start : (s : S) (t : At) → s ≡ s₀ → t ≡ startOf r → Walking accept look records shapes area r s₀ s t
-  walking-start s t e h = rw (e, h) record { within = start-within r; left = rest-start (visit accept area look records shapes) r s₀ }
+    pub cell-refused : (k : ℕ) → cellShape look records (placeAt r x y z) ≡ refused k → cellsFrom y x z s ≡ refused k
+    unfolding visit
+    cell-refused k e = turn ∙ (rw e)
 
-  module _ {s : S} {t : At} (inv : Walking accept look records shapes area r s₀ s t) where
-    -- no layer is left
-    pub walking-end : r .y .count ≤ t .y → found (next s) ≡ all
-    walking-end h = sym (rest-end (visit accept area look records shapes) r t s h) ∙ inv .left
+    pub cell-begins : (q : Shape) (shape : List Float) (n : ℕ) → cellShape look records (placeAt r x y z) ≡ found (shapeIn q) → shape ≡ boxesAt shapes (q .first) (q .count) → n ≡ countOf (q .cube) (q .count) shape
+        → cellsFrom y x z s ≡ boxesFrom y x z (nthAabb (q .cube) shape (placeAt r x y z)) n 0 s
+    unfolding visit boxesFrom
+    cell-begins q shape n e o m =
+        let g = nthAabb (q .cube) shape (placeAt r x y z) in
+        turn
+        ∙ (rw e
+        (ap (λ (bs : List Aabb). offerAll accept area bs s >>= onward (cellsFrom y x (z + 1))) (listed-all shapes shape (placeAt r x y z) q n o m)
+        ∙ ap (λ (a : Ask (Turn S Bool)). a >>= onward (cellsFrom y x (z + 1))) (offers accept area g n 0 s)
+        ∙ sym (from-start (λ k. offer accept area (g k)) n (cellsFrom y x (z + 1)) s)))
 
-    module _ (hy : t .y < r .y .count) where
-      -- the cell at hand is refused
-      pub walking-refused : (k : ℕ) → cellShape look records (placeOf r t) ≡ refused k → refused k ≡ all
-      walking-refused k h =
-          sym (rest-refused (visit accept area look records shapes) r t s hy (inv .within .x hy) (inv .within .z hy) k (cell-refused accept area look records shapes (placeOf r t) s k h))
-          ∙ inv .left
+  -- a box, by what comes of it
+  module _ (y x z : ℕ) (g : ℕ → Aabb) (n k : ℕ) (s : S) (b : Aabb) (h : k < n) (e : b ≡ g k) where
+    offered : (m : Ask (Turn S Bool)) → offer accept area b s ≡ m → boxesFrom y x z g n k s ≡ (m >>= onward (boxesFrom y x z g n (k + 1)))
+    unfolding boxesFrom
+    offered m o =
+        from-turn (λ j. offer accept area (g j)) n (cellsFrom y x (z + 1)) k s h
+        ∙ ap (λ (a : Ask (Turn S Bool)). a >>= onward (boxesFrom y x z g n (k + 1))) (ap (λ (a : Aabb). offer accept area a s) (sym e) ∙ o)
 
-      -- its boxes are begun
-      pub boxing-start : (q : Shape) (shape : List Float) (n : ℕ) → cellShape look records (placeOf r t) ≡ found (shapeIn q) → shape ≡ boxesAt shapes (q .first) (q .count) → n ≡ countOf (q .cube) (q .count) shape
-          → leftFrom accept look records shapes area r t (nthAabb (q .cube) shape (placeOf r t)) n 0 s ≡ all
-      boxing-start q shape n h e m =
-          left-begin accept look records shapes area r t (nthAabb (q .cube) shape (placeOf r t)) n all s (shapeIn q) hy (inv .within .x hy) (inv .within .z hy) h
-          (listed-all shapes shape (placeOf r t) q n e m) (inv .left)
+    pub box-next : (a : S) → offer accept area b s ≡ found (next a) → boxesFrom y x z g n k s ≡ boxesFrom y x z g n (k + 1) a
+    box-next a o = offered (found (next a)) o
 
-      -- its boxes are through, and the next cell is at hand
-      pub walking-next : (g : ℕ → Aabb) (n k : ℕ) (a : S) (u : At) → u ≡ nextOf r t → n ≤ k → leftFrom accept look records shapes area r t g n k a ≡ all → Walking accept look records shapes area r s₀ a u
-      walking-next g n k a u e h b =
-          rw e record { within = next-within r t hy (inv .within .x hy) (inv .within .z hy); left = left-end accept look records shapes area r t g n all k a h b }
+    pub box-refused : (j : ℕ) → offer accept area b s ≡ refused j → boxesFrom y x z g n k s ≡ refused j
+    box-refused j o = offered (refused j) o
 
-      pub walking-less : (u : At) → u ≡ nextOf r t → left r u < left r t
-      walking-less u e = rw e (next-less r t hy (inv .within .x hy) (inv .within .z hy))
+    pub box-done : (v : Bool) → offer accept area b s ≡ found (done v) → boxesFrom y x z g n k s ≡ found (done v)
+    box-done v o = offered (found (done v)) o
+
+  -- through
+  pub boxes-end : (y x z : ℕ) (g : ℕ → Aabb) (n k : ℕ) (s : S) → n ≤ k → boxesFrom y x z g n k s ≡ cellsFrom y x (z + 1) s
+  unfolding boxesFrom
+  boxes-end y x z g n k s h = from-end (λ j. offer accept area (g j)) n (cellsFrom y x (z + 1)) k s h
+
+  pub cells-end : (y x z : ℕ) (s : S) → r .z .count ≤ z → cellsFrom y x z s ≡ linesFrom y (x + 1) s
+  unfolding cellsFrom
+  cells-end y x z s h = from-end (λ k. visiting (placeAt r x y k)) (r .z .count) (linesFrom y (x + 1)) z s h
+
+  pub lines-end : (y x : ℕ) (s : S) → r .x .count ≤ x → linesFrom y x s ≡ layersFrom (y + 1) s
+  unfolding linesFrom
+  lines-end y x s h = from-end (line visiting r y) (r .x .count) (layersFrom (y + 1)) x s h
+
+  pub layers-end : (y : ℕ) (s : S) → r .y .count ≤ y → layersFrom y s ≡ found (next s)
+  unfolding layersFrom
+  layers-end y s h = from-end (layer visiting r) (r .y .count) (λ a. found (next a)) y s h
 
 -- ---- the list in place
 pub record Room (l : BoxList) : Type 0 where

@@ -6,6 +6,7 @@ use boxes::MoveAnswer;
 use boxes::MoveResult;
 use boxes::Vec3;
 use connect::Connected;
+use ranges::At;
 use ranges::Range;
 use window::Cell;
 use window::Pos;
@@ -90,7 +91,7 @@ fn part_of(records: &[u32], cells: &[u32], w: Window, p: Pos, id: u32) -> Part
     }
 }
 
-// What stands in the cell at p.
+// What stands in the cell at p. A record that connects as nothing has its own boxes, and is done with here.
 fn part_at(records: &[u32], cells: &[u32], w: Window, p: Pos) -> Part
     ensures { λ r. ⌜ partAsked r ≡ cellShape (lookAt (now (cells .entry)) w) (now (records .entry)) p ⌝ }
 {
@@ -103,7 +104,15 @@ fn part_at(records: &[u32], cells: &[u32], w: Window, p: Pos) -> Part
             count: 1,
         }),
         Cell::State(id) => {
-            if tables::is_registered(records, id) {
+            let h = tables::head_at(records, id);
+            if h.registered {
+                if h.kind == 0 {
+                    return Part::Is(Shape {
+                        cube: false,
+                        first: h.first,
+                        count: h.count,
+                    });
+                }
                 return part_of(records, cells, w, p, id);
             }
             Part::Is(Shape {
@@ -171,29 +180,37 @@ pub fn collect(records: &[u32], shapes: &[f32], cells: &[u32], w: Window, area: 
 {
     let r = range_of(area);
     let mut list = BoxList::new();
-    let mut t = ranges::start(r);
-    while t.y < r.y.count {
-        let p = ranges::place(r, t);
-        let q = match part_at(records, cells, w, p) {
-            Part::Refused(n) => return Collected::refused(n),
-            Part::Is(s) => s,
-        };
-        let shape = tables::boxes_at(shapes, q.first, q.count);
-        let n = count_of(q.cube, q.count, shape);
-        let mut k = 0u32;
-        while k < n {
-            let b = nth_aabb(q.cube, shape, p, k);
-            if b.intersects(area) {
-                let i = list.count;
-                if i >= 128 {
-                    return Collected::refused(6);
+    let mut y = 0u32;
+    while y < r.y.count {
+        let mut x = 0u32;
+        while x < r.x.count {
+            let mut z = 0u32;
+            while z < r.z.count {
+                let p = ranges::place(r, At { x, y, z });
+                let q = match part_at(records, cells, w, p) {
+                    Part::Refused(n) => return Collected::refused(n),
+                    Part::Is(s) => s,
+                };
+                let shape = tables::boxes_at(shapes, q.first, q.count);
+                let n = count_of(q.cube, q.count, shape);
+                let mut k = 0u32;
+                while k < n {
+                    let b = nth_aabb(q.cube, shape, p, k);
+                    if b.intersects(area) {
+                        let i = list.count;
+                        if i >= 128 {
+                            return Collected::refused(6);
+                        }
+                        list.boxes[i] = b;
+                        list.count = i + 1;
+                    }
+                    k += 1;
                 }
-                list.boxes[i] = b;
-                list.count = i + 1;
+                z += 1;
             }
-            k += 1;
+            x += 1;
         }
-        t = ranges::next(r, t);
+        y += 1;
     }
     Collected { list, refusal: 0 }
 }
@@ -203,24 +220,32 @@ pub fn collides(records: &[u32], shapes: &[f32], cells: &[u32], w: Window, area:
     ensures { λ r. ⌜ hitAsked r ≡ collidesWithBlocks (lookAt (now (cells .entry)) w) (now (records .entry)) (now (shapes .entry)) area ⌝ }
 {
     let r = range_of(area);
-    let mut t = ranges::start(r);
-    while t.y < r.y.count {
-        let p = ranges::place(r, t);
-        let q = match part_at(records, cells, w, p) {
-            Part::Refused(n) => return Collision::Refused(n),
-            Part::Is(s) => s,
-        };
-        let shape = tables::boxes_at(shapes, q.first, q.count);
-        let n = count_of(q.cube, q.count, shape);
-        let mut k = 0u32;
-        while k < n {
-            let b = nth_aabb(q.cube, shape, p, k);
-            if b.intersects(area) {
-                return Collision::Is(true);
+    let mut y = 0u32;
+    while y < r.y.count {
+        let mut x = 0u32;
+        while x < r.x.count {
+            let mut z = 0u32;
+            while z < r.z.count {
+                let p = ranges::place(r, At { x, y, z });
+                let q = match part_at(records, cells, w, p) {
+                    Part::Refused(n) => return Collision::Refused(n),
+                    Part::Is(s) => s,
+                };
+                let shape = tables::boxes_at(shapes, q.first, q.count);
+                let n = count_of(q.cube, q.count, shape);
+                let mut k = 0u32;
+                while k < n {
+                    let b = nth_aabb(q.cube, shape, p, k);
+                    if b.intersects(area) {
+                        return Collision::Is(true);
+                    }
+                    k += 1;
+                }
+                z += 1;
             }
-            k += 1;
+            x += 1;
         }
-        t = ranges::next(r, t);
+        y += 1;
     }
     Collision::Is(false)
 }

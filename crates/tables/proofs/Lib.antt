@@ -3,3 +3,4 @@ pub mod Lists
 pub mod Bits
 pub mod Limits
 pub mod Liquids
+pub mod Casts

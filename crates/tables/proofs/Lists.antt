@@ -4,11 +4,14 @@ use mathlib.Core.List.{List, [], _∷_}
 use Prim.Native.Nat.{ℕ, zero, suc, _+_, _-_, _*_, _/_, _<_, _≤_}
 use native.Mathlib.Nat.{le-of-suc-le-suc, not-suc-le-zero}
 use native.Mathlib.Omega.{arith}
+use mathlib.Core.Bool.{Bool, true, false}
+use lib.Dec.{leb}
 use lib.ListN.{length, getD, take, drop}
 use lib.Ieee.{Float}
 use borrow.Author.Tests.{le-leb, lt-leb}
 use Rattle.base.specs.Choose.{choose}
-use Rattle.tables.specs.Tables.{boxesAt}
+use Rattle.floats.specs.Numbers.{zero64}
+use Rattle.tables.specs.Tables.{headOf, headAt, boxesAt, boxOf, boxAt}
 
 -- within the list the default is not looked at
 pub getD-any : {A : Type 0} (l : List A) (i : ℕ) (d e : A) → i < length l → getD l i d ≡ getD l i e
@@ -34,3 +37,33 @@ module _ (l : List Float) (a b p q : ℕ) (s : p ≡ a) (t : q ≡ b) where
   pub short-part : length l < p * 6 + q * 6 → [] ≡ boxesAt l a b
   unfolding boxesAt choose
   short-part h = rw (← s, ← t, lt-leb (p + q) (length l / 6) (short p q (length l) h))
+
+pub no-part : (l : List Float) (a b : ℕ) → b ≡ 0 → [] ≡ boxesAt l a b
+unfolding boxesAt choose
+no-part l a b e = rw e (go (leb (a + 0) (length l / 6)))
+  where
+    go : (t : Bool) → [] ≡ choose t (take (0 * 6) (drop (a * 6) l)) []
+    go true = refl
+    go false = refl
+
+-- ---- a record whose word 8 is there, and so those before it
+pub whole-head : (l : List ℕ) (i s d : ℕ) → i ≡ s → i * 20 + 8 < length l → headOf (getD l (i * 20) d) (getD l (i * 20 + 4) d) (getD l (i * 20 + 7) d) (getD l (i * 20 + 8) d) ≡ headAt l s
+whole-head l i s d e h =
+    let z : i * 20 + 0 ≡ i * 20 = omega arith in
+    let w0 = getD-any l (i * 20) d 0 (omega arith) in
+    let w4 = getD-any l (i * 20 + 4) d 0 (omega arith) in
+    let w7 = getD-any l (i * 20 + 7) d 0 (omega arith) in
+    let w8 = getD-any l (i * 20 + 8) d 0 (omega arith) in
+    rw (← e, z, w0, w4, w7, w8)
+
+-- ---- a box whose last number is there, and so all of them
+pub whole-box : (l : List Float) (i k : ℕ) (d : Float) → i ≡ k → i * 6 + 5 < length l
+    → boxOf (getD l (i * 6) d) (getD l (i * 6 + 1) d) (getD l (i * 6 + 2) d) (getD l (i * 6 + 3) d) (getD l (i * 6 + 4) d) (getD l (i * 6 + 5) d) ≡ boxAt l k
+whole-box l i k d e h =
+    let n0 = getD-any l (i * 6) d zero64 (omega arith) in
+    let n1 = getD-any l (i * 6 + 1) d zero64 (omega arith) in
+    let n2 = getD-any l (i * 6 + 2) d zero64 (omega arith) in
+    let n3 = getD-any l (i * 6 + 3) d zero64 (omega arith) in
+    let n4 = getD-any l (i * 6 + 4) d zero64 (omega arith) in
+    let n5 = getD-any l (i * 6 + 5) d zero64 (omega arith) in
+    rw (← e, n0, n1, n2, n3, n4, n5)

@@ -11,6 +11,7 @@ use Rattle.cover.specs.Cover.{boxCount}
 use Rattle.tables.specs.declared.LiquidKind.{LiquidKind}
 use Rattle.tables.specs.declared.LiquidKind.the-variants.{None, Water, Lava}
 use Rattle.tables.specs.declared.LiquidState.{LiquidState}
+use Rattle.tables.specs.declared.Head.{Head}
 use Rattle.tables.specs.declared.ShapeBox.{ShapeBox}
 
 -- ---- records
@@ -25,6 +26,13 @@ isRegistered records state = eqb (wordAt records state 0 % 2) 1
 
 unfoldable pub blocksMotion : List ℕ → ℕ → Bool
 blocksMotion records state = eqb (wordAt records state 0 / 2 % 2) 1
+
+-- words 0, 4, 7 and 8 together
+abbrev pub headOf : ℕ → ℕ → ℕ → ℕ → Head
+headOf flags kind first count = record { registered = eqb (flags % 2) 1; kind = kind; first = first; count = count }
+
+abbrev pub headAt : List ℕ → ℕ → Head
+headAt records state = headOf (wordAt records state 0) (wordAt records state 4) (wordAt records state 7) (wordAt records state 8)
 
 -- word 1: the number with these f32 bits, which is an f64 too
 unfoldable pub frictionAt : List ℕ → ℕ → Float
@@ -60,6 +68,9 @@ stateBoxes records shapes state = boxesAt shapes (wordAt records state 7) (wordA
 -- number i of a shape, +0 where there is none
 abbrev pub floatAt : List Float → ℕ → Float
 floatAt shape i = getD shape i zero64
+
+abbrev pub boxOf : Float → Float → Float → Float → Float → Float → ShapeBox
+boxOf x0 y0 z0 x1 y1 z1 = record { x0 = x0; y0 = y0; z0 = z0; x1 = x1; y1 = y1; z1 = z1 }
 
 -- box k of a shape
 abbrev pub boxAt : List Float → ℕ → ShapeBox

@@ -2,7 +2,7 @@
 ghost use mathlib.Core.Path.{_≡_};
 ghost use lib.ListN.{getD};
 ghost use lib.Ieee.{ofBits, binary32};
-ghost use Rattle.tables.specs.Tables.{wordAt, isRegistered, blocksMotion, frictionAt, kindOf, liquidOf, liquidAt, boxesAt, stateBoxes, floatAt, boxAt};
+ghost use Rattle.tables.specs.Tables.{wordAt, isRegistered, headOf, headAt, blocksMotion, frictionAt, kindOf, liquidOf, liquidAt, boxesAt, stateBoxes, floatAt, boxOf, boxAt};
 ghost use Rattle.tables.specs.Check.{tableRefusal};
 
 mod check;
@@ -18,6 +18,14 @@ pub enum LiquidKind {
 pub struct LiquidState {
     pub kind: LiquidKind,
     pub depth: u32,
+}
+
+// What a record tells of itself before its neighbours are asked: what it connects as (0 nothing), and its boxes.
+pub struct Head {
+    pub registered: bool,
+    pub kind: u32,
+    pub first: u32,
+    pub count: u32,
 }
 
 // A box of a shape, in its block's coordinates.
@@ -60,6 +68,33 @@ pub fn blocks_motion(records: &[u32], state: u32) -> bool
     ensures { λ r. ⌜ r ≡ blocksMotion (now (records .entry)) state ⌝ }
 {
     word(records, state, 0) / 2 % 2 == 1
+}
+
+fn head_of(flags: u32, kind: u32, first: u32, count: u32) -> Head
+    ensures { λ r. ⌜ r ≡ headOf flags kind first count ⌝ }
+{
+    Head {
+        registered: flags % 2 == 1,
+        kind,
+        first,
+        count,
+    }
+}
+
+// Words 0, 4, 7 and 8 of a state's record. One test says that they are all there.
+pub fn head_at(records: &[u32], state: u32) -> Head
+    ensures { λ r. ⌜ r ≡ headAt (now (records .entry)) state ⌝ }
+{
+    let i = wide(state) * 20;
+    if i + 8 < records.len() {
+        return head_of(records[i], records[i + 4], records[i + 7], records[i + 8]);
+    }
+    head_of(
+        word(records, state, 0),
+        word(records, state, 4),
+        word(records, state, 7),
+        word(records, state, 8),
+    )
 }
 
 // The f32 with these bits. Above the infinity's, with the sign's bit off, they are a NaN's.
@@ -124,6 +159,9 @@ pub fn liquid_state(records: &[u32], state: u32) -> LiquidState
 pub fn boxes_at(shapes: &[f32], first: u32, count: u32) -> &[f32]
     ensures { λ r. ⌜ now r ≡ boxesAt (now (shapes .entry)) first count ⌝ }
 {
+    if count == 0 {
+        return &shapes[0..0];
+    }
     let start = wide(first) * 6;
     let end = start + wide(count) * 6;
     if end <= shapes.len() {
@@ -151,8 +189,36 @@ pub fn float_at(shape: &[f32], i: usize) -> f64
     0.0
 }
 
-// Box k of a shape.
-pub fn box_at(shape: &[f32], k: u32) -> ShapeBox
+// A box of these numbers. Where each min is at or below its max no number is a NaN, and a plain cast serves.
+fn box_of(x0: f32, y0: f32, z0: f32, x1: f32, y1: f32, z1: f32) -> ShapeBox
+    ensures { λ r. ⌜ r ≡ boxOf x0 y0 z0 x1 y1 z1 ⌝ }
+{
+    if x0 <= x1 {
+        if y0 <= y1 {
+            if z0 <= z1 {
+                return ShapeBox {
+                    x0: x0 as f64,
+                    y0: y0 as f64,
+                    z0: z0 as f64,
+                    x1: x1 as f64,
+                    y1: y1 as f64,
+                    z1: z1 as f64,
+                };
+            }
+        }
+    }
+    ShapeBox {
+        x0: std::num::f32_to_f64_with_nan(x0),
+        y0: std::num::f32_to_f64_with_nan(y0),
+        z0: std::num::f32_to_f64_with_nan(z0),
+        x1: std::num::f32_to_f64_with_nan(x1),
+        y1: std::num::f32_to_f64_with_nan(y1),
+        z1: std::num::f32_to_f64_with_nan(z1),
+    }
+}
+
+// A box whose numbers are not all there.
+fn cut_box(shape: &[f32], k: u32) -> ShapeBox
     ensures { λ r. ⌜ r ≡ boxAt (now (shape .entry)) k ⌝ }
 {
     let i = wide(k) * 6;
@@ -170,6 +236,24 @@ pub fn box_at(shape: &[f32], k: u32) -> ShapeBox
         y1,
         z1,
     }
+}
+
+// Box k of a shape. One test says that all its numbers are there.
+pub fn box_at(shape: &[f32], k: u32) -> ShapeBox
+    ensures { λ r. ⌜ r ≡ boxAt (now (shape .entry)) k ⌝ }
+{
+    let i = wide(k) * 6;
+    if i + 5 < shape.len() {
+        return box_of(
+            shape[i],
+            shape[i + 1],
+            shape[i + 2],
+            shape[i + 3],
+            shape[i + 4],
+            shape[i + 5],
+        );
+    }
+    cut_box(shape, k)
 }
 
 // The table check: 0 where every rule and limit of the lent tables holds, and 1 where one breaks.

@@ -1,31 +1,64 @@
 -- `boxes::clipped` meets its contract. Assumes nothing.
-use Rattle.base.specs.Choose.{choose}
+use lib.Ieee.{neg}
+use Rattle.boxes.proofs.Clips.{clip-ahead, clip-behind, clip-still}
 use borrow.Author.Needs.{needs}
 use Rattle.boxes.proofs.clipped.Statement.{statement}
 use Rattle.boxes.proofs.clipped.Tie as tie
 
-are-apart-requires : tie.Need-are-apart-requires
-are-apart-requires c κs = search needs
+far-requires : tie.Need-far-requires
+far-requires c κs = search needs
+
+either-requires : tie.Need-either-requires
+either-requires c κs = search needs
+
+past-requires : tie.Need-past-requires
+past-requires c κs = search needs
+
+past-requires-2 : tie.Need-past-requires-2
+past-requires-2 c κs = search needs
+
+lesser-requires : tie.Need-lesser-requires
+lesser-requires c κs = search needs
 
 returns : tie.Need-returns
-unfolding choose
-returns c = rw (← c .before .are-apart .ensures, c .if1 .taken)
+returns c = rw (c .lesser .ensures, c .before .past2 .ensures, c .before .before .past .ensures, c .before .before .before .either .ensures, c .before .before .before .before .before .before .far .ensures) (clip-ahead _ _ _ _ _ _ _ (c .before .before .before .before .before .before .before .if1 .taken))
 
-are-apart-requires-2 : tie.Need-are-apart-requires-2
-are-apart-requires-2 c κs = search needs
+far-requires-2 : tie.Need-far-requires-2
+far-requires-2 c κs = search needs
+
+either-requires-2 : tie.Need-either-requires-2
+either-requires-2 c κs = search needs
+
+past-requires-3 : tie.Need-past-requires-3
+past-requires-3 c κs = search needs
+
+past-requires-4 : tie.Need-past-requires-4
+past-requires-4 c κs = search needs
+
+greater-requires : tie.Need-greater-requires
+greater-requires c κs = search needs
 
 returns-2 : tie.Need-returns-2
-unfolding choose
-returns-2 c = rw (← c .before .before .before .are-apart .ensures, c .before .before .if1 .left, ← c .before .are-apart2 .ensures, c .if2 .taken)
-
-stopped-requires : tie.Need-stopped-requires
-stopped-requires c κs = search needs
+unfolding neg
+returns-2 c = rw (c .greater .ensures, c .before .past4 .ensures, c .before .before .past3 .ensures, c .before .before .before .either2 .ensures, c .before .before .before .before .before .before .far2 .ensures) (clip-behind _ _ _ _ _ _ _ (c .before .before .before .before .before .before .before .before .if1 .left) (c .before .before .before .before .before .before .before .if2 .taken))
 
 returns-3 : tie.Need-returns-3
-unfolding choose
-returns-3 c = rw (← c .before .before .before .before .are-apart .ensures, c .before .before .before .if1 .left, ← c .before .before .are-apart2 .ensures, c .before .if2 .left, ← c .stopped .ensures)
+returns-3 c = clip-still _ _ _ _ (c .before .if1 .left) (c .if2 .left)
 
 pub clipped-spec : {M : Type 1} → statement M
 clipped-spec =
     tie.close
-    (tie.spec are-apart-requires returns are-apart-requires-2 returns-2 stopped-requires returns-3)
+    (tie.spec
+    far-requires
+    either-requires
+    past-requires
+    past-requires-2
+    lesser-requires
+    returns
+    far-requires-2
+    either-requires-2
+    past-requires-3
+    past-requires-4
+    greater-requires
+    returns-2
+    returns-3)

@@ -1,5 +1,7 @@
 -- `tables::box_at` meets its contract. Assumes nothing.
+use mathlib.Core.Path.{_∙_}
 use borrow.Author.Needs.{needs}
+use Rattle.tables.proofs.Lists.{whole-box}
 use Rattle.tables.proofs.box_at.Statement.{statement}
 use Rattle.tables.proofs.box_at.Tie as tie
 
@@ -9,41 +11,71 @@ wide-requires c κs = search needs
 mul-i : tie.Need-mul-i
 mul-i c = search needs
 
-float-at-requires : tie.Need-float-at-requires
-float-at-requires c κs = search needs
+add-if1 : tie.Need-add-if1
+add-if1 c = search needs
 
-add-float-at : tie.Need-add-float-at
-add-float-at c = search needs
+mul-box-of : tie.Need-mul-box-of
+mul-box-of c = search needs
 
-float-at-requires-2 : tie.Need-float-at-requires-2
-float-at-requires-2 c κs = search needs
+shared-slice-read-box-of : tie.Need-shared-slice-read-box-of
+shared-slice-read-box-of c = search needs
 
-add-float-at-2 : tie.Need-add-float-at-2
-add-float-at-2 c = search needs
+add-box-of : tie.Need-add-box-of
+add-box-of c = search needs
 
-float-at-requires-3 : tie.Need-float-at-requires-3
-float-at-requires-3 c κs = search needs
+mul-box-of-2 : tie.Need-mul-box-of-2
+mul-box-of-2 c = search needs
 
-add-float-at-3 : tie.Need-add-float-at-3
-add-float-at-3 c = search needs
+shared-slice-read-box-of-2 : tie.Need-shared-slice-read-box-of-2
+shared-slice-read-box-of-2 c = search needs
 
-float-at-requires-4 : tie.Need-float-at-requires-4
-float-at-requires-4 c κs = search needs
+add-box-of-2 : tie.Need-add-box-of-2
+add-box-of-2 c = search needs
 
-add-float-at-4 : tie.Need-add-float-at-4
-add-float-at-4 c = search needs
+mul-box-of-3 : tie.Need-mul-box-of-3
+mul-box-of-3 c = search needs
 
-float-at-requires-5 : tie.Need-float-at-requires-5
-float-at-requires-5 c κs = search needs
+shared-slice-read-box-of-3 : tie.Need-shared-slice-read-box-of-3
+shared-slice-read-box-of-3 c = search needs
 
-add-float-at-5 : tie.Need-add-float-at-5
-add-float-at-5 c = search needs
+add-box-of-3 : tie.Need-add-box-of-3
+add-box-of-3 c = search needs
 
-float-at-requires-6 : tie.Need-float-at-requires-6
-float-at-requires-6 c κs = search needs
+mul-box-of-4 : tie.Need-mul-box-of-4
+mul-box-of-4 c = search needs
+
+shared-slice-read-box-of-4 : tie.Need-shared-slice-read-box-of-4
+shared-slice-read-box-of-4 c = search needs
+
+add-box-of-4 : tie.Need-add-box-of-4
+add-box-of-4 c = search needs
+
+mul-box-of-5 : tie.Need-mul-box-of-5
+mul-box-of-5 c = search needs
+
+shared-slice-read-box-of-5 : tie.Need-shared-slice-read-box-of-5
+shared-slice-read-box-of-5 c = search needs
+
+add-box-of-5 : tie.Need-add-box-of-5
+add-box-of-5 c = search needs
+
+mul-box-of-6 : tie.Need-mul-box-of-6
+mul-box-of-6 c = search needs
+
+shared-slice-read-box-of-6 : tie.Need-shared-slice-read-box-of-6
+shared-slice-read-box-of-6 c = search needs
+
+box-of-requires : tie.Need-box-of-requires
+box-of-requires c κs = search needs
 
 returns : tie.Need-returns
-returns c = rw (← c .before .before .before .before .before .before .wide .ensures, ← c .before .before .before .before .before .float-at .ensures, ← c .before .before .before .before .float-at2 .ensures, ← c .before .before .before .float-at3 .ensures, ← c .before .before .float-at4 .ensures, ← c .before .float-at5 .ensures, ← c .float-at6 .ensures)
+returns c = c .box-of .ensures ∙ whole-box (c .before .before .before .before .before .before .before .before .before .before .args .shape .now) _ _ _ (c .before .before .before .before .before .before .before .before .wide .ensures) (c .before .before .before .before .before .before .before .if1 .taken)
+
+cut-box-requires : tie.Need-cut-box-requires
+cut-box-requires c κs = search needs
+
+returns-2 : tie.Need-returns-2
+returns-2 c = search needs
 
 pub box-at-spec : {M : Type 1} → statement M
 box-at-spec =
@@ -51,15 +83,25 @@ box-at-spec =
     (tie.spec
     wide-requires
     mul-i
-    float-at-requires
-    add-float-at
-    float-at-requires-2
-    add-float-at-2
-    float-at-requires-3
-    add-float-at-3
-    float-at-requires-4
-    add-float-at-4
-    float-at-requires-5
-    add-float-at-5
-    float-at-requires-6
-    returns)
+    add-if1
+    mul-box-of
+    shared-slice-read-box-of
+    add-box-of
+    mul-box-of-2
+    shared-slice-read-box-of-2
+    add-box-of-2
+    mul-box-of-3
+    shared-slice-read-box-of-3
+    add-box-of-3
+    mul-box-of-4
+    shared-slice-read-box-of-4
+    add-box-of-4
+    mul-box-of-5
+    shared-slice-read-box-of-5
+    add-box-of-5
+    mul-box-of-6
+    shared-slice-read-box-of-6
+    box-of-requires
+    returns
+    cut-box-requires
+    returns-2)
