@@ -28,7 +28,7 @@ fn raise(position: Vec3, d: f64) -> Vec3
     add(position, scale(unit_y(), d))
 }
 
-fn cell_at(v: Vec3) -> Pos
+pub fn cell_at(v: Vec3) -> Pos
     ensures { λ r. ⌜ r ≡ cellAt v ⌝ }
 {
     let x = floats::cell(v.x);

@@ -6,12 +6,15 @@ mod living;
 mod vectors;
 
 pub use drift::item_current;
+pub use flotation::cell_at;
 pub use flotation::item_flotation;
 pub use flow::liquid_flow;
 pub use living::living_liquid;
 pub use living::living_liquid_in;
 use tables::LiquidKind;
 use tables::LiquidState;
+pub use vectors::add;
+pub use vectors::squares;
 use window::Cell;
 use window::Pos;
 use window::Step;
