@@ -1,7 +1,9 @@
 // What a host in another language links: functions on numbers and lent slices of them.
+mod drift;
 mod over;
 mod through;
 
+pub use drift::boltjuniper_item_current;
 pub use over::boltjuniper_move_over;
 pub use through::boltjuniper_collected_top;
 ghost use mathlib.Core.Path.{_≡_};
