@@ -1,14 +1,14 @@
 // Currents, in lent numbers.
+use crate::over::flag_of;
+use crate::over::put;
+use crate::over::put_vec;
+use crate::through::window_of;
 use boxes::Aabb;
 use boxes::Vec3;
 use liquids::Current;
 use liquids::Currents;
 use liquids::Held;
 use window::Window;
-use crate::over::flag_of;
-use crate::over::put;
-use crate::over::put_vec;
-use crate::through::window_of;
 ghost use mathlib.Core.Path.{_≡_};
 ghost use Rattle.boxes.specs.Boxes.{vec};
 ghost use Rattle.window.specs.Look.{lookAt};

@@ -10,8 +10,8 @@ use crate::flow::liquid_flow;
 use crate::is_liquid;
 use crate::liquid_at;
 use crate::vectors::add;
+use crate::vectors::add_scaled;
 use crate::vectors::normalize_or_zero;
-use crate::vectors::scale;
 use crate::vectors::zero;
 use boxes::Aabb;
 use boxes::Vec3;
@@ -190,7 +190,7 @@ fn push(current: Vec3, s: Stream, acceleration: f64) -> Vec3
         return current;
     }
     let direction = direction_of(s);
-    add(current, scale(direction, acceleration))
+    add_scaled(current, direction, acceleration)
 }
 
 // Water first.

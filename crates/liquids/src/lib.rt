@@ -37,20 +37,14 @@ pub enum Told {
 }
 
 // By how much the liquid on a side is deeper.
-enum Differs {
+enum Gap {
     By(f64),
     Nothing,
-    Refused(u32),
 }
 
-// A flow while its sides are gone through: walled where it falls beside a wall.
-struct Flowing {
-    flow: boxes::Vec3,
-    walled: bool,
-}
-
-enum Turned {
-    On(Flowing),
+// The same, or the number of a refusal.
+enum Differs {
+    Is(Gap),
     Refused(u32),
 }
 

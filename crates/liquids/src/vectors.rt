@@ -54,6 +54,17 @@ pub(crate) fn scale(v: Vec3, d: f64) -> Vec3
     }
 }
 
+// a + v * d.
+pub(crate) fn add_scaled(a: Vec3, v: Vec3, d: f64) -> Vec3
+    ensures { λ r. ⌜ r ≡ plus a (scaled v d) ⌝ }
+{
+    Vec3 {
+        x: a.x + v.x * d,
+        y: a.y + v.y * d,
+        z: a.z + v.z * d,
+    }
+}
+
 pub fn squares(v: Vec3) -> f64
     ensures { λ r. ⌜ r ≡ squared v ⌝ }
 {
