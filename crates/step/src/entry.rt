@@ -23,7 +23,7 @@ use crate::sample::living_friction;
 use crate::yes_number;
 ghost use mathlib.Core.Path.{_≡_};
 ghost use Rattle.base.specs.Ask.{refused, found};
-ghost use Rattle.step.specs.Answers.{finiteTick, stepAnswer, stepEntry, withoutLiquid, numberAnswer, frictionEntry};
+ghost use Rattle.step.specs.Answers.{finiteTick, stepAnswer, checkedEntry, stepEntry, withoutLiquid, numberAnswer, frictionEntry};
 
 // A refused step: position, velocity and ground flag as given, and liquid none.
 fn refused_step(refusal: u32, given: MotionNumbers) -> StepAnswer
@@ -71,16 +71,10 @@ fn finite_step(given: MotionNumbers, t: Tick) -> StepAnswer
     refused_step(9, given)
 }
 
-// For hosts: one tick of a body, and the liquid that a living body travelled in.
-pub fn step_body_sensed(records: &[u32], shapes: &[f32], cells: &[u32], w: Window, rules: Rules, body: BodyNumbers, given: MotionNumbers, age: u64) -> StepAnswer
-    ensures { λ r. ⌜ r ≡ stepEntry (now (records .entry)) (now (shapes .entry)) (now (cells .entry)) w rules body given age ⌝ }
+// For hosts that checked tables and window before, once for many bodies: 3 and 4, then 5, 6 and 7 as they come; 9 last.
+pub fn step_checked(records: &[u32], shapes: &[f32], cells: &[u32], w: Window, rules: Rules, body: BodyNumbers, given: MotionNumbers, age: u64) -> StepAnswer
+    ensures { λ r. ⌜ r ≡ checkedEntry (now (records .entry)) (now (shapes .entry)) (now (cells .entry)) w rules body given age ⌝ }
 {
-    if tables::check_tables(records, shapes) != 0 {
-        return refused_step(1, given);
-    }
-    if window::check_window(cells, w) != 0 {
-        return refused_step(2, given);
-    }
     if numbers_fit(records, rules, body, given.ground) {
         let feet = given.feet;
         let velocity = given.velocity;
@@ -94,6 +88,19 @@ pub fn step_body_sensed(records: &[u32], shapes: &[f32], cells: &[u32], w: Windo
         return refused_step(4, given);
     }
     refused_step(3, given)
+}
+
+// For hosts: one tick of a body, and the liquid that a living body travelled in.
+pub fn step_body_sensed(records: &[u32], shapes: &[f32], cells: &[u32], w: Window, rules: Rules, body: BodyNumbers, given: MotionNumbers, age: u64) -> StepAnswer
+    ensures { λ r. ⌜ r ≡ stepEntry (now (records .entry)) (now (shapes .entry)) (now (cells .entry)) w rules body given age ⌝ }
+{
+    if tables::check_tables(records, shapes) != 0 {
+        return refused_step(1, given);
+    }
+    if window::check_window(cells, w) != 0 {
+        return refused_step(2, given);
+    }
+    step_checked(records, shapes, cells, w, rules, body, given, age)
 }
 
 // For hosts: one tick of a body.

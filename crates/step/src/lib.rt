@@ -14,6 +14,7 @@ mod sample;
 pub use entry::living_block_friction;
 pub use entry::step_body;
 pub use entry::step_body_sensed;
+pub use entry::step_checked;
 pub use moving::step_through;
 
 // Motion rules that are no parameters.
