@@ -12,13 +12,13 @@ ghost use Rattle.tables.specs.Tables.{floatAt};
 ghost use Rattle.boxes.specs.Lists.{room, listOf};
 ghost use Rattle.exports.specs.Moves.{vecAt, aabbAt, boxOf, countOf, moveOf, flagOf, numbersOf, stored, writtenBy};
 
-fn number_at(numbers: &[f64], i: usize) -> f64
+pub(crate) fn number_at(numbers: &[f64], i: usize) -> f64
     ensures { λ r. ⌜ r ≡ floatAt (now (numbers .entry)) i ⌝ }
 {
     if i < numbers.len() { numbers[i] } else { 0.0 }
 }
 
-fn vec_at(numbers: &[f64], i: u32) -> Vec3
+pub(crate) fn vec_at(numbers: &[f64], i: u32) -> Vec3
     ensures { λ r. ⌜ r ≡ vecAt (now (numbers .entry)) i ⌝ }
 {
     let k = i as usize;
