@@ -42,16 +42,13 @@ fn rusts(registry: &BlockRegistry, s: &Scene, out: &mut [f64; 4]) -> u32 {
     0
 }
 
-fn time(n: usize, mut f: impl FnMut(usize) -> u32) -> f64 {
-    let mut best = f64::MAX;
-    for _ in 0..600 {
-        let begun = Instant::now();
-        for i in 0..n {
-            black_box(f(black_box(i)));
-        }
-        best = best.min(begun.elapsed().as_nanos() as f64 / n as f64);
+/// One pass over the scenes, if it was quicker than those before.
+fn pass(best: &mut f64, scenes: &[Scene], mut f: impl FnMut(&Scene) -> u32) {
+    let begun = Instant::now();
+    for s in scenes {
+        black_box(f(black_box(s)));
     }
-    best
+    *best = best.min(begun.elapsed().as_nanos() as f64 / scenes.len() as f64);
 }
 
 fn main() {
@@ -110,8 +107,11 @@ fn main() {
             assert_eq!(a.map(f64::to_bits), b.map(f64::to_bits));
         }
         let mut out = [0.0; 4];
-        let a = time(scenes.len(), |i| ours(&records, &scenes[i], &mut out));
-        let b = time(scenes.len(), |i| rusts(&registry, &scenes[i], &mut out));
+        let (mut a, mut b) = (f64::MAX, f64::MAX);
+        for _ in 0..1000 {
+            pass(&mut a, &scenes, |s| ours(&records, s, &mut out));
+            pass(&mut b, &scenes, |s| rusts(&registry, s, &mut out));
+        }
         println!("8 cells of water, {what:22} ours {a:7.1} ns   Rust {b:7.1} ns   ratio {:.2}", a / b);
     }
 }

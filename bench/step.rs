@@ -30,6 +30,7 @@ unsafe extern "C" {
 const SIZE: i32 = 16;
 const LOW: i32 = -8;
 const TICKS: usize = 8;
+const PASSES: usize = 200;
 
 // States: air, a cube, a slab, a stair, ice; a fence's 16, a wall's 32, water's and lava's 16 depths.
 const CUBE: u32 = 1;
@@ -147,16 +148,13 @@ fn rusts(registry: &BlockRegistry, c: &Call, out: &mut [f64; 8]) -> u32 {
     0
 }
 
-fn time(passes: usize, calls: &[Call], mut f: impl FnMut(&Call) -> u32) -> f64 {
-    let mut best = f64::MAX;
-    for _ in 0..passes {
-        let begun = Instant::now();
-        for c in calls {
-            black_box(f(black_box(c)));
-        }
-        best = best.min(begun.elapsed().as_nanos() as f64 / calls.len() as f64);
+/// One pass over the calls, if it was quicker than those before.
+fn pass(best: &mut f64, calls: &[Call], mut f: impl FnMut(&Call) -> u32) {
+    let begun = Instant::now();
+    for c in calls {
+        black_box(f(black_box(c)));
     }
-    best
+    *best = best.min(begun.elapsed().as_nanos() as f64 / calls.len() as f64);
 }
 
 fn main() {
@@ -236,9 +234,14 @@ fn main() {
     }
     let mut out = [0.0; 8];
     let mut report = |what: &str, calls: &[Call]| {
-        let a = time(60, calls, |c| ours(boltjuniper_step_checked, &records, &shapes, c, &mut out));
-        let b = time(60, calls, |c| rusts(&registry, c, &mut out));
-        let e = time(10, calls, |c| ours(boltjuniper_step, &records, &shapes, c, &mut out));
+        let (mut a, mut b, mut e) = (f64::MAX, f64::MAX, f64::MAX);
+        for n in 0..PASSES {
+            pass(&mut a, calls, |c| ours(boltjuniper_step_checked, &records, &shapes, c, &mut out));
+            pass(&mut b, calls, |c| rusts(&registry, c, &mut out));
+            if n % 10 == 0 {
+                pass(&mut e, calls, |c| ours(boltjuniper_step, &records, &shapes, c, &mut out));
+            }
+        }
         println!("{what:9} ours {a:7.1} ns   Rust {b:7.1} ns   ratio {:.2}   with the table check {e:8.1} ns", a / b);
     };
     for (kind, what) in kinds.iter().enumerate() {
@@ -250,6 +253,6 @@ fn main() {
     while let Some(c) = each[mix.len() % 4].next() {
         mix.push(c);
     }
-    println!("the mix: {} steps of {scenes} scenes, 60 passes, {} steps; a table of {} states", mix.len(), 60 * mix.len(), records.len() / 20);
+    println!("the mix: {} steps of {scenes} scenes, {PASSES} passes, {} steps; a table of {} states", mix.len(), PASSES * mix.len(), records.len() / 20);
     report("all", &mix);
 }
