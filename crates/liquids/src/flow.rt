@@ -6,7 +6,7 @@ use crate::Held;
 use crate::Told;
 use crate::are_alike;
 use crate::blocks_liquid_flow;
-use crate::liquid_by;
+use crate::liquid_told;
 use crate::vectors::add_scaled;
 use crate::vectors::normalize_or_zero;
 use crate::vectors::scale;
@@ -127,7 +127,8 @@ fn difference_at(
     let d = step_beside(side);
     let kind = state.kind;
     let depth = effective_depth(state.depth);
-    match liquid_by(records, cells, w, p, d) {
+    let near = window::look_by(cells, w, p, d);
+    match liquid_told(records, near) {
         Held::Refused(n) => Differs::Refused(n),
         Held::Is(other) => {
             let beside = other.kind;
@@ -141,7 +142,8 @@ fn difference_at(
                     if stopped {
                         return Differs::Is(Gap::Nothing);
                     }
-                    match liquid_by(records, cells, w, p, step_below(side)) {
+                    let low = window::look_by(cells, w, p, step_below(side));
+                    match liquid_told(records, low) {
                         Held::Refused(n) => Differs::Refused(n),
                         Held::Is(under) => {
                             let lower = under.kind;
