@@ -1,3 +1,4 @@
 -- The definitions of what a host hands over and is handed back as lent numbers.
 pub mod Moves
 pub mod Windows
+pub mod Ticks

@@ -4,7 +4,7 @@ use mathlib.Core.List.{List, [], _∷_}
 use Prim.Native.Nat.{ℕ, _+_, _*_, _/_}
 use lib.ListN.{length}
 use lib.Dec.{ltb, eqb}
-use lib.Ieee.{Float, binary64, ofBits}
+use lib.Ieee.{Float}
 use Rattle.base.specs.Choose.{choose}
 use Rattle.base.specs.Loop.{listed, stored}
 use Rattle.floats.specs.Numbers.{zero64}
@@ -17,6 +17,7 @@ use Rattle.boxes.specs.Lists.{room}
 use Rattle.boxes.specs.Move.{moveOver}
 use Rattle.boxes.specs.Entry.{answerOf}
 use Rattle.tables.specs.Tables.{floatAt}
+use Rattle.moves.specs.Collect.{one64}
 
 -- ---- reading: a number that is not there is +0
 
@@ -46,10 +47,6 @@ moveOf boxes mover step ground =
     (aabbAt mover 0)
 
 -- ---- writing
-
--- 1.0
-abbrev pub one64 : Float
-one64 = ofBits binary64 4607182418800017408
 
 abbrev pub flagOf : Bool → Float
 flagOf holds = choose holds one64 zero64

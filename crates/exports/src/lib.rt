@@ -1,9 +1,14 @@
 // What a host in another language links: functions on numbers and lent slices of them.
+mod drift;
 mod over;
 mod through;
+mod tick;
 
+pub use drift::boltjuniper_item_current;
 pub use over::boltjuniper_move_over;
 pub use through::boltjuniper_collected_top;
+pub use tick::boltjuniper_step;
+pub use tick::boltjuniper_step_checked;
 ghost use mathlib.Core.Path.{_≡_};
 ghost use Rattle.floats.specs.Numbers.{isFinite, answer};
 ghost use Rattle.floats.specs.Whole.{floorOf, ceilOf, cellOf};

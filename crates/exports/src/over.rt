@@ -12,13 +12,13 @@ ghost use Rattle.tables.specs.Tables.{floatAt};
 ghost use Rattle.boxes.specs.Lists.{room, listOf};
 ghost use Rattle.exports.specs.Moves.{vecAt, aabbAt, boxOf, countOf, moveOf, flagOf, numbersOf, writtenBy};
 
-fn number_at(numbers: &[f64], i: usize) -> f64
+pub(crate) fn number_at(numbers: &[f64], i: usize) -> f64
     ensures { λ r. ⌜ r ≡ floatAt (now (numbers .entry)) i ⌝ }
 {
     if i < numbers.len() { numbers[i] } else { 0.0 }
 }
 
-fn vec_at(numbers: &[f64], i: u32) -> Vec3
+pub(crate) fn vec_at(numbers: &[f64], i: u32) -> Vec3
     ensures { λ r. ⌜ r ≡ vecAt (now (numbers .entry)) i ⌝ }
 {
     let k = i as usize;
@@ -59,7 +59,7 @@ fn list_of(numbers: &[f64]) -> BoxList
     list
 }
 
-fn put(out: &mut [f64], i: usize, x: f64)
+pub(crate) fn put(out: &mut [f64], i: usize, x: f64)
     ensures { λ _. ⌜ now (out .exit) ≡ set (now (out .entry)) i x ⌝ }
 {
     if i < out.len() {
@@ -67,13 +67,13 @@ fn put(out: &mut [f64], i: usize, x: f64)
     }
 }
 
-fn flag_of(holds: bool) -> f64
+pub(crate) fn flag_of(holds: bool) -> f64
     ensures { λ r. ⌜ r ≡ flagOf holds ⌝ }
 {
     if holds { 1.0 } else { 0.0 }
 }
 
-fn put_vec(out: &mut [f64], i: u8, v: Vec3)
+pub(crate) fn put_vec(out: &mut [f64], i: u8, v: Vec3)
     ensures { λ _. ⌜ now (out .exit) ≡ stored (now (out .entry)) i (v .x ∷ v .y ∷ v .z ∷ []) ⌝ }
 {
     let k = i as usize;

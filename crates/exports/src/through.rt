@@ -9,7 +9,7 @@ ghost use Rattle.window.specs.Look.{lookAt};
 ghost use Rattle.moves.specs.Collect.{collectBlockBoxes};
 ghost use Rattle.exports.specs.Windows.{windowOf, areaOf, topOf};
 
-fn window_of(ox: i32, oy: i32, oz: i32, sx: u32, sy: u32, sz: u32) -> Window
+pub(crate) fn window_of(ox: i32, oy: i32, oz: i32, sx: u32, sy: u32, sz: u32) -> Window
     ensures { λ r. ⌜ r ≡ windowOf ox oy oz sx sy sz ⌝ }
 {
     Window {

@@ -2,3 +2,4 @@
 pub mod Gaps
 pub mod Cells
 pub mod Walking
+pub mod Sides

@@ -21,11 +21,9 @@ use Rattle.liquids.specs.declared.Held.{Held}
 use Rattle.liquids.specs.declared.Held.the-variants as held
 use Rattle.liquids.specs.declared.Told.{Told}
 use Rattle.liquids.specs.declared.Told.the-variants as told
+use Rattle.liquids.specs.declared.Gap.{Gap}
 use Rattle.liquids.specs.declared.Differs.{Differs}
 use Rattle.liquids.specs.declared.Differs.the-variants as differs
-use Rattle.liquids.specs.declared.Flowing.{Flowing}
-use Rattle.liquids.specs.declared.Turned.{Turned}
-use Rattle.liquids.specs.declared.Turned.the-variants as turned
 use Rattle.liquids.specs.declared.Flows.{Flows}
 use Rattle.liquids.specs.declared.Flows.the-variants as flows
 use Rattle.liquids.specs.declared.Streams.{Streams}
@@ -39,7 +37,6 @@ use Rattle.liquids.specs.declared.Sensed.the-variants as sensed
 use Rattle.liquids.specs.declared.Search.{Search}
 use Rattle.liquids.specs.declared.Search.the-variants as seek
 use Rattle.liquids.specs.declared.LiquidAnswer.{LiquidAnswer}
-use Rattle.liquids.specs.Flow.{Difference, nothing, by}
 use Rattle.liquids.specs.Living.{livingLiquid}
 
 abbrev pub heldAsked : Held → Ask LiquidState
@@ -50,14 +47,9 @@ abbrev pub toldAsked : Told → Ask Bool
 toldAsked (told.Is b) = found b
 toldAsked (told.Refused n) = refused n
 
-abbrev pub differsAsked : Differs → Ask Difference
-differsAsked (differs.By d) = found (by d)
-differsAsked differs.Nothing = found nothing
+abbrev pub differsAsked : Differs → Ask Gap
+differsAsked (differs.Is gap) = found gap
 differsAsked (differs.Refused n) = refused n
-
-abbrev pub turnedAsked : Turned → Ask Flowing
-turnedAsked (turned.On f) = found f
-turnedAsked (turned.Refused n) = refused n
 
 abbrev pub flowAsked : Flows → Ask Vec3
 flowAsked (flows.Is v) = found v

@@ -1,12 +1,12 @@
 -- The Rust's `liquid_flow`: how a liquid in a cell flows, by what is around it.
-use mathlib.Core.Bool.{true, false, not, _&&_}
+use mathlib.Core.Bool.{Bool, true, false, not, _&&_}
 use mathlib.Core.List.{List}
 use Prim.Native.Nat.{ℕ}
-use lib.Dec.{leb}
+use lib.Dec.{leb, eqb}
 use lib.IntN.{ℤ, pos, negsuc, _-ℤ_}
 use lib.Ieee.{Float, binary64, ofInt, ofBits, neg}
 use Rattle.base.specs.Choose.{choose}
-use Rattle.base.specs.Ask.{Ask, found, _>>=_}
+use Rattle.base.specs.Ask.{Ask, found, _>>=_, asking}
 use Rattle.floats.specs.Numbers.{zero64}
 use Rattle.boxes.specs.declared.Vec3.{Vec3}
 use Rattle.boxes.specs.Boxes.{vec, plus, minus}
@@ -16,7 +16,8 @@ use Rattle.tables.specs.declared.LiquidState.{LiquidState}
 use Rattle.window.specs.declared.Pos.{Pos}
 use Rattle.window.specs.declared.Step.{Step}
 use Rattle.window.specs.Look.{Block, stepped}
-use Rattle.liquids.specs.declared.Flowing.{Flowing}
+use Rattle.liquids.specs.declared.Gap.{Gap}
+use Rattle.liquids.specs.declared.Gap.the-variants.{By, Nothing}
 use Rattle.liquids.specs.Vectors.{one64, zeroVec, unitY, scaled, normalised}
 use Rattle.liquids.specs.Liquid.{alike, liquidAsked, blocksLiquidFlow}
 
@@ -58,67 +59,66 @@ differenceTo other depth = ofInt binary64 (pos other -ℤ pos depth)
 unfoldable pub differenceBelow : ℕ → ℕ → Float
 differenceBelow other depth = ofInt binary64 (pos other -ℤ (pos depth -ℤ pos 8))
 
--- Option<f64>
-pub data Difference : Type 0 where
-  nothing : Difference
-  by : Float → Difference
-
 -- a liquid of the same kind beside; otherwise, where the side stops no flow, one of the same kind below the side
-unfoldable pub difference : (Pos → Ask Block) → List ℕ → Pos → LiquidState → Side → Ask Difference
+unfoldable pub difference : (Pos → Ask Block) → List ℕ → Pos → LiquidState → Side → Ask Gap
 difference look records p state side = do
   other ← liquidAsked look records (stepped p (beside side))
   choose (alike (other .kind) (state .kind))
-      (found (by (differenceTo (effectiveDepth (other .depth)) (effectiveDepth (state .depth)))))
+      (found (By (differenceTo (effectiveDepth (other .depth)) (effectiveDepth (state .depth)))))
       (do
         stopped ← blocksLiquidFlow look records (stepped p (beside side))
-        choose stopped (found nothing)
+        choose stopped (found Nothing)
             (do
               under ← liquidAsked look records (stepped p (below side))
               choose (alike (under .kind) (state .kind))
-                  (found (by (differenceBelow (effectiveDepth (under .depth)) (effectiveDepth (state .depth)))))
-                  (found nothing)))
+                  (found (By (differenceBelow (effectiveDepth (under .depth)) (effectiveDepth (state .depth)))))
+                  (found Nothing)))
 
 -- ---- one side
 
--- flow += side.as_dvec3() * difference
-unfoldable pub flowed : Vec3 → Side → Float → Vec3
-flowed flow side d = plus flow (scaled (unit side) d)
-
-abbrev pub flowedBy : Flowing → Side → Difference → Flowing
-flowedBy f side nothing = f
-flowedBy f side (by d) = record { flow = flowed (f .flow) side d; walled = f .walled }
+-- if let Some(difference) = difference { flow += side.as_dvec3() * difference; }
+unfoldable pub flowedBy : Vec3 → Side → Gap → Vec3
+flowedBy flow side (By d) = plus flow (scaled (unit side) d)
+flowedBy flow side Nothing = flow
 
 -- a falling liquid beside a wall: the side, or else the cell above it; once one is found no other is asked for
-unfoldable pub walls : (Pos → Ask Block) → List ℕ → Pos → LiquidState → Side → Flowing → Ask Flowing
-walls look records p state side f =
-    choose (leb 8 (state .depth) && not (f .walled))
+unfoldable pub walledBy : (Pos → Ask Block) → List ℕ → Pos → LiquidState → Side → Bool → Ask Bool
+walledBy look records p state side walled =
+    choose (leb 8 (state .depth) && not walled)
     (do
       stopped ← blocksLiquidFlow look records (stepped p (beside side))
-      choose stopped (found record { flow = f .flow; walled = true })
-          (do
-            over ← blocksLiquidFlow look records (stepped p (above side))
-            found record { flow = f .flow; walled = over }))
-    (found f)
+      choose stopped (found true) (blocksLiquidFlow look records (stepped p (above side))))
+    (found walled)
+
+-- a flow while its sides are gone through: walled where it falls beside a wall
+pub record Flowing : Type 0 where
+  pub flow : Vec3
+  pub walled : Bool
 
 unfoldable pub sideFlow : (Pos → Ask Block) → List ℕ → Pos → LiquidState → Side → Flowing → Ask Flowing
 sideFlow look records p state side f = do
-  d ← difference look records p state side
-  walls look records p state side (flowedBy f side d)
+  gap ← difference look records p state side
+  walled ← walledBy look records p state side (f .walled)
+  found record { flow = flowedBy (f .flow) side gap; walled = walled }
 
--- ---- the four sides, east, west, south, north
+-- ---- the four sides
 
 -- 6.0
 abbrev pub six64 : Float
 six64 = ofBits binary64 4618441417868443648
 
 -- if down_wall { flow = flow.normalize_or_zero() - DVec3::Y * 6.0; } flow.normalize_or_zero()
-unfoldable pub settled : Flowing → Vec3
-settled f = normalised (choose (f .walled) (minus (normalised (f .flow)) (scaled unitY six64)) (f .flow))
+unfoldable pub settled : Vec3 → Bool → Vec3
+settled flow walled = normalised (choose walled (minus (normalised flow) (scaled unitY six64)) flow)
+
+-- for side in [IVec3::X, IVec3::NEG_X, IVec3::Z, IVec3::NEG_Z]
+unfoldable pub sideOf : ℕ → Side
+sideOf k = choose (eqb k 0) East (choose (eqb k 1) West (choose (eqb k 2) South North))
+
+abbrev pub sideTurn : (Pos → Ask Block) → List ℕ → Pos → LiquidState → ℕ → Flowing → Ask Flowing
+sideTurn look records p state k f = sideFlow look records p state (sideOf k) f
 
 unfoldable pub liquidFlow : (Pos → Ask Block) → List ℕ → Pos → LiquidState → Ask Vec3
 liquidFlow look records p state = do
-  a ← sideFlow look records p state East record { flow = zeroVec; walled = false }
-  b ← sideFlow look records p state West a
-  c ← sideFlow look records p state South b
-  d ← sideFlow look records p state North c
-  found (settled d)
+  f ← asking (sideTurn look records p state) 4 0 record { flow = zeroVec; walled = false }
+  found (settled (f .flow) (f .walled))

@@ -51,10 +51,13 @@ abbrev pub liquidIn : List ℕ → Block → LiquidState
 liquidIn records none = noLiquid
 liquidIn records (some state) = liquidAt records state
 
-unfoldable pub liquidAsked : (Pos → Ask Block) → List ℕ → Pos → Ask LiquidState
-liquidAsked look records p = do
-  block ← look p
+abbrev pub liquidTold : List ℕ → Ask Block → Ask LiquidState
+liquidTold records asked = do
+  block ← asked
   found (liquidIn records block)
+
+unfoldable pub liquidAsked : (Pos → Ask Block) → List ℕ → Pos → Ask LiquidState
+liquidAsked look records p = liquidTold records (look p)
 
 -- what is not loaded stops a flow; a registered state does where it blocks motion; an unregistered one is refused with 7, where the Rust panics
 abbrev pub stopsFlow : List ℕ → Block → Ask Bool

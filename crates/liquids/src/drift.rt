@@ -8,10 +8,10 @@ use crate::Stream;
 use crate::Streams;
 use crate::flow::liquid_flow;
 use crate::is_liquid;
-use crate::liquid_at;
+use crate::liquid_told;
 use crate::vectors::add;
+use crate::vectors::add_scaled;
 use crate::vectors::normalize_or_zero;
-use crate::vectors::scale;
 use crate::vectors::zero;
 use boxes::Aabb;
 use boxes::Vec3;
@@ -83,7 +83,8 @@ pub(crate) fn liquid_known(
     if same_pos(p, foot) {
         return Held::Is(state);
     }
-    liquid_at(records, cells, w, p)
+    let cell = window::look(cells, w, p);
+    liquid_told(records, cell)
 }
 
 fn no_streams() -> Streams
@@ -190,7 +191,7 @@ fn push(current: Vec3, s: Stream, acceleration: f64) -> Vec3
         return current;
     }
     let direction = direction_of(s);
-    add(current, scale(direction, acceleration))
+    add_scaled(current, direction, acceleration)
 }
 
 // Water first.

@@ -7,8 +7,7 @@ use crate::is_lava;
 use crate::is_liquid;
 use crate::is_water;
 use crate::liquid_at;
-use crate::vectors::add;
-use crate::vectors::scale;
+use crate::vectors::add_scaled;
 use crate::vectors::unit_y;
 use boxes::Vec3;
 use tables::LiquidKind;
@@ -25,10 +24,10 @@ ghost use Rattle.liquids.specs.Answers.{heldAsked, kindAsked};
 fn raise(position: Vec3, d: f64) -> Vec3
     ensures { λ r. ⌜ r ≡ raised position d ⌝ }
 {
-    add(position, scale(unit_y(), d))
+    add_scaled(position, unit_y(), d)
 }
 
-fn cell_at(v: Vec3) -> Pos
+pub fn cell_at(v: Vec3) -> Pos
     ensures { λ r. ⌜ r ≡ cellAt v ⌝ }
 {
     let x = floats::cell(v.x);

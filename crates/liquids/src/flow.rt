@@ -1,13 +1,13 @@
 // How a liquid flows, by what is around it.
 use crate::Differs;
-use crate::Flowing;
 use crate::Flows;
+use crate::Gap;
 use crate::Held;
 use crate::Told;
-use crate::Turned;
 use crate::are_alike;
 use crate::blocks_liquid_flow;
-use crate::liquid_by;
+use crate::liquid_told;
+use crate::vectors::add_scaled;
 use crate::vectors::normalize_or_zero;
 use crate::vectors::scale;
 use crate::vectors::subtract;
@@ -23,8 +23,8 @@ ghost use mathlib.Core.Path.{_≡_};
 ghost use mathlib.Core.Bool.{_&&_, not};
 ghost use lib.Dec.{leb};
 ghost use Rattle.window.specs.Look.{lookAt};
-ghost use Rattle.liquids.specs.Flow.{beside, below, above, unit, effectiveDepth, differenceTo, differenceBelow, difference, flowed, walls, sideFlow, settled, liquidFlow};
-ghost use Rattle.liquids.specs.Answers.{differsAsked, turnedAsked, flowAsked};
+ghost use Rattle.liquids.specs.Flow.{beside, below, above, unit, effectiveDepth, differenceTo, differenceBelow, difference, flowedBy, walledBy, sideOf, settled, liquidFlow};
+ghost use Rattle.liquids.specs.Answers.{differsAsked, toldAsked, flowAsked};
 
 fn step_beside(side: Side) -> Step
     ensures { λ r. ⌜ r ≡ beside side ⌝ }
@@ -86,29 +86,31 @@ fn unit_to(side: Side) -> Vec3
     }
 }
 
-fn effective_depth(depth: u32) -> u32
+fn effective_depth(depth: u32) -> u8
     ensures { λ r. ⌜ r ≡ effectiveDepth depth ⌝ }
 {
     if depth >= 8 {
         return 0;
     }
-    depth
+    depth as u8
 }
 
-fn difference_to(other: u32, depth: u32) -> f64
+fn difference_to(other: u8, depth: u8) -> f64
     ensures { λ r. ⌜ r ≡ differenceTo other depth ⌝ }
 {
-    let a = other as i64;
-    let b = depth as i64;
-    std::num::nearest_i64_to_f64(a - b)
+    let a = other as i32;
+    let b = depth as i32;
+    let n = a - b;
+    n as f64
 }
 
-fn difference_below(other: u32, depth: u32) -> f64
+fn difference_below(other: u8, depth: u8) -> f64
     ensures { λ r. ⌜ r ≡ differenceBelow other depth ⌝ }
 {
-    let a = other as i64;
-    let b = depth as i64;
-    std::num::nearest_i64_to_f64(a - (b - 8))
+    let a = other as i32;
+    let b = depth as i32;
+    let n = a - (b - 8);
+    n as f64
 }
 
 // By how much the liquid on a side is deeper.
@@ -125,30 +127,31 @@ fn difference_at(
     let d = step_beside(side);
     let kind = state.kind;
     let depth = effective_depth(state.depth);
-    match liquid_by(records, cells, w, p, d) {
+    let near = window::look_by(cells, w, p, d);
+    match liquid_told(records, near) {
         Held::Refused(n) => Differs::Refused(n),
         Held::Is(other) => {
             let beside = other.kind;
             if are_alike(beside, kind) {
-                return Differs::By(difference_to(effective_depth(other.depth), depth));
+                let d = difference_to(effective_depth(other.depth), depth);
+                return Differs::Is(Gap::By(d));
             }
             match blocks_liquid_flow(records, cells, w, p, d) {
                 Told::Refused(n) => Differs::Refused(n),
                 Told::Is(stopped) => {
                     if stopped {
-                        return Differs::Nothing;
+                        return Differs::Is(Gap::Nothing);
                     }
-                    match liquid_by(records, cells, w, p, step_below(side)) {
+                    let low = window::look_by(cells, w, p, step_below(side));
+                    match liquid_told(records, low) {
                         Held::Refused(n) => Differs::Refused(n),
                         Held::Is(under) => {
                             let lower = under.kind;
                             if are_alike(lower, kind) {
-                                return Differs::By(difference_below(
-                                    effective_depth(under.depth),
-                                    depth,
-                                ));
+                                let d = difference_below(effective_depth(under.depth), depth);
+                                return Differs::Is(Gap::By(d));
                             }
-                            Differs::Nothing
+                            Differs::Is(Gap::Nothing)
                         }
                     }
                 }
@@ -157,14 +160,12 @@ fn difference_at(
     }
 }
 
-fn add_flow(flow: Vec3, side: Side, d: f64) -> Vec3
-    ensures { λ r. ⌜ r ≡ flowed flow side d ⌝ }
+fn flow_by(flow: Vec3, side: Side, gap: Gap) -> Vec3
+    ensures { λ r. ⌜ r ≡ flowedBy flow side gap ⌝ }
 {
-    let u = unit_to(side);
-    Vec3 {
-        x: flow.x + u.x * d,
-        y: flow.y + u.y * d,
-        z: flow.z + u.z * d,
+    match gap {
+        Gap::By(d) => add_scaled(flow, unit_to(side), d),
+        Gap::Nothing => flow,
     }
 }
 
@@ -177,92 +178,78 @@ fn asks_walls(depth: u32, walled: bool) -> bool
     false
 }
 
-// A falling liquid beside a wall: the side, then the cell above it, until one is found.
-fn walls_at(
+// Whether a falling liquid is beside a wall: the side, then the cell above it, until one is found.
+fn walled_by(
     records: &[u32],
     cells: &[u32],
     w: Window,
     p: Pos,
     state: LiquidState,
     side: Side,
-    f: Flowing,
-) -> Turned
-    ensures { λ r. ⌜ turnedAsked r ≡ walls (lookAt (now (cells .entry)) w) (now (records .entry)) p state side f ⌝ }
+    walled: bool,
+) -> Told
+    ensures { λ r. ⌜ toldAsked r ≡ walledBy (lookAt (now (cells .entry)) w) (now (records .entry)) p state side walled ⌝ }
 {
-    let flow = f.flow;
-    if asks_walls(state.depth, f.walled) {
+    if asks_walls(state.depth, walled) {
         return match blocks_liquid_flow(records, cells, w, p, step_beside(side)) {
-            Told::Refused(n) => Turned::Refused(n),
+            Told::Refused(n) => Told::Refused(n),
             Told::Is(stopped) => {
                 if stopped {
-                    return Turned::On(Flowing { flow, walled: true });
+                    return Told::Is(true);
                 }
-                match blocks_liquid_flow(records, cells, w, p, step_above(side)) {
-                    Told::Refused(n) => Turned::Refused(n),
-                    Told::Is(over) => Turned::On(Flowing { flow, walled: over }),
-                }
+                blocks_liquid_flow(records, cells, w, p, step_above(side))
             }
         };
     }
-    Turned::On(f)
+    Told::Is(walled)
 }
 
-fn side_flow(
-    records: &[u32],
-    cells: &[u32],
-    w: Window,
-    p: Pos,
-    state: LiquidState,
-    side: Side,
-    f: Flowing,
-) -> Turned
-    ensures { λ r. ⌜ turnedAsked r ≡ sideFlow (lookAt (now (cells .entry)) w) (now (records .entry)) p state side f ⌝ }
+fn settle(flow: Vec3, walled: bool) -> Vec3
+    ensures { λ r. ⌜ r ≡ settled flow walled ⌝ }
 {
-    match difference_at(records, cells, w, p, state, side) {
-        Differs::Refused(n) => Turned::Refused(n),
-        Differs::By(d) => {
-            let before = f.flow;
-            let flow = add_flow(before, side, d);
-            let g = Flowing {
-                flow,
-                walled: f.walled,
-            };
-            walls_at(records, cells, w, p, state, side, g)
-        }
-        Differs::Nothing => walls_at(records, cells, w, p, state, side, f),
-    }
-}
-
-fn settle(f: Flowing) -> Vec3
-    ensures { λ r. ⌜ r ≡ settled f ⌝ }
-{
-    let flow = f.flow;
-    if f.walled {
+    if walled {
         let sinking = subtract(normalize_or_zero(flow), scale(unit_y(), 6.0));
         return normalize_or_zero(sinking);
     }
     normalize_or_zero(flow)
 }
 
+// The Rust's order: east, west, south, north.
+fn side_of(k: u32) -> Side
+    ensures { λ r. ⌜ r ≡ sideOf k ⌝ }
+{
+    if k == 0 {
+        return Side::East;
+    }
+    if k == 1 {
+        return Side::West;
+    }
+    if k == 2 {
+        return Side::South;
+    }
+    Side::North
+}
+
 // How the liquid at p, which is `state`, flows. It refuses 5 and 7 alone, at the first such cell.
 pub fn liquid_flow(records: &[u32], cells: &[u32], w: Window, p: Pos, state: LiquidState) -> Flows
     ensures { λ r. ⌜ flowAsked r ≡ liquidFlow (lookAt (now (cells .entry)) w) (now (records .entry)) p state ⌝ }
 {
-    let start = Flowing {
-        flow: zero(),
-        walled: false,
-    };
-    match side_flow(records, cells, w, p, state, Side::East, start) {
-        Turned::Refused(n) => Flows::Refused(n),
-        Turned::On(a) => match side_flow(records, cells, w, p, state, Side::West, a) {
-            Turned::Refused(n) => Flows::Refused(n),
-            Turned::On(b) => match side_flow(records, cells, w, p, state, Side::South, b) {
-                Turned::Refused(n) => Flows::Refused(n),
-                Turned::On(c) => match side_flow(records, cells, w, p, state, Side::North, c) {
-                    Turned::Refused(n) => Flows::Refused(n),
-                    Turned::On(d) => Flows::Is(settle(d)),
-                },
-            },
-        },
+    let mut flow = zero();
+    let mut walled = false;
+    let mut k = 0u32;
+    while k < 4 {
+        let side = side_of(k);
+        let gap = match difference_at(records, cells, w, p, state, side) {
+            Differs::Refused(n) => return Flows::Refused(n),
+            Differs::Is(g) => g,
+        };
+        let wall = match walled_by(records, cells, w, p, state, side, walled) {
+            Told::Refused(n) => return Flows::Refused(n),
+            Told::Is(b) => b,
+        };
+        flow = flow_by(flow, side, gap);
+        walled = wall;
+        k += 1;
     }
+    Flows::Is(settle(flow, walled))
 }

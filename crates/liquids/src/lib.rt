@@ -6,19 +6,22 @@ mod living;
 mod vectors;
 
 pub use drift::item_current;
+pub use flotation::cell_at;
 pub use flotation::item_flotation;
 pub use flow::liquid_flow;
 pub use living::living_liquid;
 pub use living::living_liquid_in;
 use tables::LiquidKind;
 use tables::LiquidState;
+pub use vectors::add;
+pub use vectors::squares;
 use window::Cell;
 use window::Pos;
 use window::Step;
 use window::Window;
 ghost use mathlib.Core.Path.{_≡_};
-ghost use Rattle.window.specs.Look.{lookAt, stepped};
-ghost use Rattle.liquids.specs.Liquid.{isWater, isLava, isLiquid, alike, noLiquid, liquidAsked, blocksLiquidFlow};
+ghost use Rattle.window.specs.Look.{lookAt, asked, stepped};
+ghost use Rattle.liquids.specs.Liquid.{isWater, isLava, isLiquid, alike, noLiquid, liquidTold, liquidAsked, blocksLiquidFlow};
 ghost use Rattle.liquids.specs.Answers.{heldAsked, toldAsked};
 
 // The liquid of a cell, or the number of a refusal. Its kind is None where there is none.
@@ -34,20 +37,14 @@ pub enum Told {
 }
 
 // By how much the liquid on a side is deeper.
-enum Differs {
+enum Gap {
     By(f64),
     Nothing,
-    Refused(u32),
 }
 
-// A flow while its sides are gone through: walled where it falls beside a wall.
-struct Flowing {
-    flow: boxes::Vec3,
-    walled: bool,
-}
-
-enum Turned {
-    On(Flowing),
+// The same, or the number of a refusal.
+enum Differs {
+    Is(Gap),
     Refused(u32),
 }
 
@@ -154,11 +151,10 @@ pub(crate) fn no_liquid() -> LiquidState
     }
 }
 
-// The liquid in the cell a step away from p.
-pub(crate) fn liquid_by(records: &[u32], cells: &[u32], w: Window, p: Pos, d: Step) -> Held
-    ensures { λ r. ⌜ heldAsked r ≡ liquidAsked (lookAt (now (cells .entry)) w) (now (records .entry)) (stepped p d) ⌝ }
+// The liquid in a cell, from what was looked up there. It is small, so that it goes where it is called.
+pub(crate) fn liquid_told(records: &[u32], cell: Cell) -> Held
+    ensures { λ r. ⌜ heldAsked r ≡ liquidTold (now (records .entry)) (asked cell) ⌝ }
 {
-    let cell = window::look_by(cells, w, p, d);
     match cell {
         Cell::Outside => Held::Refused(5),
         Cell::Unloaded => Held::Is(no_liquid()),
@@ -171,11 +167,7 @@ pub fn liquid_at(records: &[u32], cells: &[u32], w: Window, p: Pos) -> Held
     ensures { λ r. ⌜ heldAsked r ≡ liquidAsked (lookAt (now (cells .entry)) w) (now (records .entry)) p ⌝ }
 {
     let cell = window::look(cells, w, p);
-    match cell {
-        Cell::Outside => Held::Refused(5),
-        Cell::Unloaded => Held::Is(no_liquid()),
-        Cell::State(s) => Held::Is(tables::liquid_state(records, s)),
-    }
+    liquid_told(records, cell)
 }
 
 // Whether the cell a step away from p stops a flow. The Rust panics at an unregistered state.

@@ -5,7 +5,7 @@ use crate::Search;
 use crate::Sensed;
 use crate::flotation::surface_at;
 use crate::is_liquid;
-use crate::liquid_at;
+use crate::liquid_told;
 use boxes::Aabb;
 use boxes::Vec3;
 use ranges::Range;
@@ -78,7 +78,8 @@ fn wet_in(feet: f64, p: Pos, state: LiquidState, lava: bool) -> Search
 fn living_turn(records: &[u32], cells: &[u32], w: Window, feet: f64, p: Pos, lava: bool) -> Search
     ensures { λ r. ⌜ searchAsked r ≡ livingTurn (lookAt (now (cells .entry)) w) (now (records .entry)) feet p lava ⌝ }
 {
-    match liquid_at(records, cells, w, p) {
+    let cell = window::look(cells, w, p);
+    match liquid_told(records, cell) {
         Held::Refused(n) => Search::Refused(n),
         Held::Is(state) => wet_in(feet, p, state, lava),
     }

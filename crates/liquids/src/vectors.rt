@@ -24,7 +24,7 @@ pub(crate) fn unit_y() -> Vec3
     }
 }
 
-pub(crate) fn add(a: Vec3, b: Vec3) -> Vec3
+pub fn add(a: Vec3, b: Vec3) -> Vec3
     ensures { λ r. ⌜ r ≡ plus a b ⌝ }
 {
     Vec3 {
@@ -54,7 +54,18 @@ pub(crate) fn scale(v: Vec3, d: f64) -> Vec3
     }
 }
 
-fn squares(v: Vec3) -> f64
+// a + v * d.
+pub(crate) fn add_scaled(a: Vec3, v: Vec3, d: f64) -> Vec3
+    ensures { λ r. ⌜ r ≡ plus a (scaled v d) ⌝ }
+{
+    Vec3 {
+        x: a.x + v.x * d,
+        y: a.y + v.y * d,
+        z: a.z + v.z * d,
+    }
+}
+
+pub fn squares(v: Vec3) -> f64
     ensures { λ r. ⌜ r ≡ squared v ⌝ }
 {
     v.x * v.x + v.y * v.y + v.z * v.z

@@ -70,13 +70,20 @@ stepAnswer given (found t) =
       refusal = 0;
     }
 
--- 1 to 4 in order, before any cell is asked for; then 5, 6 or 7 at the first such event; then 9
-abbrev pub stepAsked : List ℕ → List Float → List ℕ → Window → Rules → BodyNumbers → MotionNumbers → ℕ → Ask Tick
-stepAsked records shapes cells w rules body given age =
-    sound records shapes cells w
-    (unless (not (numbersFit records rules body (given .ground))) 3
+-- 3, then 4, before any cell is asked for; then 5, 6 or 7 at the first such event; then 9
+abbrev pub checkedAsked : List ℕ → List Float → List ℕ → Window → Rules → BodyNumbers → MotionNumbers → ℕ → Ask Tick
+checkedAsked records shapes cells w rules body given age =
+    unless (not (numbersFit records rules body (given .ground))) 3
     (unless (not (motionFits (given .feet) (given .velocity))) 4
-    (stepBodySensed (lookAt cells w) records shapes rules (bodyOf body) (motionOf given) age >>= finiteTick)))
+    (stepBodySensed (lookAt cells w) records shapes rules (bodyOf body) (motionOf given) age >>= finiteTick))
+
+-- step_checked: over tables and a window that were checked before
+unfoldable pub checkedEntry : List ℕ → List Float → List ℕ → Window → Rules → BodyNumbers → MotionNumbers → ℕ → StepAnswer
+checkedEntry records shapes cells w rules body given age = stepAnswer given (checkedAsked records shapes cells w rules body given age)
+
+-- step_body_sensed: 1 and 2 before all that
+abbrev pub stepAsked : List ℕ → List Float → List ℕ → Window → Rules → BodyNumbers → MotionNumbers → ℕ → Ask Tick
+stepAsked records shapes cells w rules body given age = sound records shapes cells w (checkedAsked records shapes cells w rules body given age)
 
 unfoldable pub stepEntry : List ℕ → List Float → List ℕ → Window → Rules → BodyNumbers → MotionNumbers → ℕ → StepAnswer
 stepEntry records shapes cells w rules body given age = stepAnswer given (stepAsked records shapes cells w rules body given age)

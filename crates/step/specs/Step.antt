@@ -261,8 +261,8 @@ afterMove look records rules body liquid feet onGround v =
       found (tick feet (dragged body horizontal v) onGround None)))
 
 -- from gravity before the move on: `flotation` is an item's, `liquid` a living body's, and `v` the velocity
-unfoldable pub moved : (Pos → Ask Block) → List ℕ → List Float → Rules → Body → Aabb → Bool → LiquidKind → LiquidKind → Vec3 → Ask Tick
-moved look records shapes rules body aabb onGround flotation liquid v = do
+unfoldable pub moveOn : (Pos → Ask Block) → List ℕ → List Float → Rules → Body → Aabb → Bool → LiquidKind → LiquidKind → Vec3 → Ask Tick
+moveOn look records shapes rules body aabb onGround flotation liquid v = do
   let velocity : Vec3 = pulled body flotation v
   result ← moveAabb look records shapes aabb velocity (body .step) onGround
   afterMove look records rules body liquid (feetOf (result .aabb)) (result .ground) (keptAfter (result .moved) velocity)
@@ -297,4 +297,4 @@ stepBodySensed look records shapes rules body motion age = do
   choose (begun .rests) (found (tick (motion .feet) (begun .velocity) (motion .ground) None))
       (do
         liquid ← senses look records body aabb
-        moved look records shapes rules body aabb (motion .ground) (begun .flotation) liquid (begun .velocity))
+        moveOn look records shapes rules body aabb (motion .ground) (begun .flotation) liquid (begun .velocity))

@@ -1,8 +1,4 @@
 // What a host calls: 1, 2, 3 and 4 in order, before any cell is asked for; then 5, 6 and 7 as they come; 9 last.
-use boxes::Vec3;
-use floats::Answer;
-use tables::LiquidKind;
-use window::Window;
 use crate::BodyNumbers;
 use crate::MotionAnswer;
 use crate::MotionNumbers;
@@ -21,9 +17,13 @@ use crate::motion_of;
 use crate::moving::step_through;
 use crate::sample::living_friction;
 use crate::yes_number;
+use boxes::Vec3;
+use floats::Answer;
+use tables::LiquidKind;
+use window::Window;
 ghost use mathlib.Core.Path.{_≡_};
 ghost use Rattle.base.specs.Ask.{refused, found};
-ghost use Rattle.step.specs.Answers.{finiteTick, stepAnswer, stepEntry, withoutLiquid, numberAnswer, frictionEntry};
+ghost use Rattle.step.specs.Answers.{finiteTick, stepAnswer, checkedEntry, stepEntry, withoutLiquid, numberAnswer, frictionEntry};
 
 // A refused step: position, velocity and ground flag as given, and liquid none.
 fn refused_step(refusal: u32, given: MotionNumbers) -> StepAnswer
@@ -71,21 +71,33 @@ fn finite_step(given: MotionNumbers, t: Tick) -> StepAnswer
     refused_step(9, given)
 }
 
-// For hosts: one tick of a body, and the liquid that a living body travelled in.
-pub fn step_body_sensed(records: &[u32], shapes: &[f32], cells: &[u32], w: Window, rules: Rules, body: BodyNumbers, given: MotionNumbers, age: u64) -> StepAnswer
-    ensures { λ r. ⌜ r ≡ stepEntry (now (records .entry)) (now (shapes .entry)) (now (cells .entry)) w rules body given age ⌝ }
+// For hosts that checked tables and window before, once for many bodies: 3 and 4, then 5, 6 and 7 as they come; 9 last.
+pub fn step_checked(
+    records: &[u32],
+    shapes: &[f32],
+    cells: &[u32],
+    w: Window,
+    rules: Rules,
+    body: BodyNumbers,
+    given: MotionNumbers,
+    age: u64,
+) -> StepAnswer
+    ensures { λ r. ⌜ r ≡ checkedEntry (now (records .entry)) (now (shapes .entry)) (now (cells .entry)) w rules body given age ⌝ }
 {
-    if tables::check_tables(records, shapes) != 0 {
-        return refused_step(1, given);
-    }
-    if window::check_window(cells, w) != 0 {
-        return refused_step(2, given);
-    }
     if numbers_fit(records, rules, body, given.ground) {
         let feet = given.feet;
         let velocity = given.velocity;
         if motion_fits(feet, velocity) {
-            let told = step_through(records, shapes, cells, w, rules, body_of(body), motion_of(given), age);
+            let told = step_through(
+                records,
+                shapes,
+                cells,
+                w,
+                rules,
+                body_of(body),
+                motion_of(given),
+                age,
+            );
             return match told {
                 Stepped::Refused(n) => refused_step(n, given),
                 Stepped::To(t) => finite_step(given, t),
@@ -96,8 +108,39 @@ pub fn step_body_sensed(records: &[u32], shapes: &[f32], cells: &[u32], w: Windo
     refused_step(3, given)
 }
 
+// For hosts: one tick of a body, and the liquid that a living body travelled in.
+pub fn step_body_sensed(
+    records: &[u32],
+    shapes: &[f32],
+    cells: &[u32],
+    w: Window,
+    rules: Rules,
+    body: BodyNumbers,
+    given: MotionNumbers,
+    age: u64,
+) -> StepAnswer
+    ensures { λ r. ⌜ r ≡ stepEntry (now (records .entry)) (now (shapes .entry)) (now (cells .entry)) w rules body given age ⌝ }
+{
+    if tables::check_tables(records, shapes) != 0 {
+        return refused_step(1, given);
+    }
+    if window::check_window(cells, w) != 0 {
+        return refused_step(2, given);
+    }
+    step_checked(records, shapes, cells, w, rules, body, given, age)
+}
+
 // For hosts: one tick of a body.
-pub fn step_body(records: &[u32], shapes: &[f32], cells: &[u32], w: Window, rules: Rules, body: BodyNumbers, given: MotionNumbers, age: u64) -> MotionAnswer
+pub fn step_body(
+    records: &[u32],
+    shapes: &[f32],
+    cells: &[u32],
+    w: Window,
+    rules: Rules,
+    body: BodyNumbers,
+    given: MotionNumbers,
+    age: u64,
+) -> MotionAnswer
     ensures { λ r. ⌜ r ≡ withoutLiquid (stepEntry (now (records .entry)) (now (shapes .entry)) (now (cells .entry)) w rules body given age) ⌝ }
 {
     let a = step_body_sensed(records, shapes, cells, w, rules, body, given, age);
@@ -118,7 +161,14 @@ fn refused_number(refusal: u32) -> Answer
 }
 
 // For hosts: the friction under a living body.
-pub fn living_block_friction(records: &[u32], shapes: &[f32], cells: &[u32], w: Window, rules: Rules, feet: Vec3) -> Answer
+pub fn living_block_friction(
+    records: &[u32],
+    shapes: &[f32],
+    cells: &[u32],
+    w: Window,
+    rules: Rules,
+    feet: Vec3,
+) -> Answer
     ensures { λ r. ⌜ r ≡ frictionEntry (now (records .entry)) (now (shapes .entry)) (now (cells .entry)) w rules feet ⌝ }
 {
     if tables::check_tables(records, shapes) != 0 {

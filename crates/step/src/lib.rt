@@ -4,8 +4,6 @@ use boxes::Vec3;
 use tables::LiquidKind;
 ghost use mathlib.Core.Path.{_≡_};
 ghost use Rattle.step.specs.Body.{modelOf, stageOf, frictionOf, isYes, yesNumber, flapOf, bodyOf, motionOf};
-ghost use Rattle.boxes.specs.Boxes.{plus};
-ghost use Rattle.liquids.specs.Vectors.{squared};
 ghost use Rattle.step.specs.Step.{sampleOr, sinks, flaps, falls, damped, livingVelocity, livingInLiquid, afloat, floats, restsNow, isItem, isLiving, isFallingBlock, isBeforeMove, isDry, pulled, unlessStopped, keptAfter, verticalAfter, dragged, tick};
 
 mod entry;
@@ -16,6 +14,7 @@ mod sample;
 pub use entry::living_block_friction;
 pub use entry::step_body;
 pub use entry::step_body_sensed;
+pub use entry::step_checked;
 pub use moving::step_through;
 
 // Motion rules that are no parameters.
@@ -293,7 +292,11 @@ fn damp(horizontal: f64, axis: f64) -> f64
     ensures { λ r. ⌜ r ≡ damped horizontal axis ⌝ }
 {
     let v = axis * horizontal;
-    if floats::magnitude(v) <= 1.0e-7 { 0.0 } else { v }
+    if floats::magnitude(v) <= 1.0e-7 {
+        0.0
+    } else {
+        v
+    }
 }
 
 fn living_velocity(horizontal: f64, y: f64, v: Vec3) -> Vec3
@@ -332,27 +335,11 @@ fn floated(flotation: LiquidKind, v: Vec3) -> Vec3
     }
 }
 
-fn plus_of(a: Vec3, b: Vec3) -> Vec3
-    ensures { λ r. ⌜ r ≡ plus a b ⌝ }
-{
-    Vec3 {
-        x: a.x + b.x,
-        y: a.y + b.y,
-        z: a.z + b.z,
-    }
-}
-
-fn squared_of(v: Vec3) -> f64
-    ensures { λ r. ⌜ r ≡ squared v ⌝ }
-{
-    v.x * v.x + v.y * v.y + v.z * v.z
-}
-
 // Whether an item rests: on the ground, slow, not in water, and not in every fourth tick.
 fn rests_now(ground: bool, v: Vec3, water: bool, age: u64) -> bool
     ensures { λ r. ⌜ r ≡ restsNow ground v water age ⌝ }
 {
-    ground & (squared_of(v) <= 0.0001) & !water & (age % 4 != 0)
+    ground & (liquids::squares(v) <= 0.0001) & !water & (age % 4 != 0)
 }
 
 fn is_item(model: Model) -> bool
@@ -442,10 +429,12 @@ fn kept_after(moved: Vec3, v: Vec3) -> Vec3
 fn vertical_after(stage: Stage, body: Body, y: f64) -> f64
     ensures { λ r. ⌜ r ≡ verticalAfter stage body y ⌝ }
 {
+    let gravity = body.gravity;
+    let drag = body.vertical;
     match stage {
-        Stage::BeforeMove => y * body.vertical,
-        Stage::AfterMove => (y - body.gravity) * body.vertical,
-        Stage::AfterDrag => y * body.vertical - body.gravity,
+        Stage::BeforeMove => y * drag,
+        Stage::AfterMove => (y - gravity) * drag,
+        Stage::AfterDrag => y * drag - gravity,
     }
 }
 

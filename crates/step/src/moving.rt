@@ -1,12 +1,4 @@
 // One tick of a body.
-use boxes::Aabb;
-use boxes::Vec3;
-use liquids::Currents;
-use liquids::Held;
-use liquids::Sensed;
-use moves::Moved;
-use tables::LiquidKind;
-use window::Window;
 use crate::Begins;
 use crate::Begun;
 use crate::Body;
@@ -27,21 +19,37 @@ use crate::is_living;
 use crate::kept_after;
 use crate::living_in_liquid;
 use crate::living_velocity;
-use crate::plus_of;
 use crate::pull;
 use crate::rests_now;
-use crate::sample::cell_at;
 use crate::sample::living_grip;
 use crate::sample::supporting_friction;
 use crate::sample_or;
 use crate::tick_of;
+use boxes::Aabb;
+use boxes::Vec3;
+use liquids::Currents;
+use liquids::Held;
+use liquids::Sensed;
+use liquids::cell_at;
+use moves::Moved;
+use tables::LiquidKind;
+use window::Window;
 ghost use mathlib.Core.Path.{_≡_};
 ghost use Rattle.window.specs.Look.{lookAt};
-ghost use Rattle.step.specs.Step.{livingInAir, applyLivingDrag, grip, horizontalAfter, afterMove, moved, itemBegins, begins, senses, stepBodySensed};
+ghost use Rattle.step.specs.Step.{livingInAir, applyLivingDrag, grip, horizontalAfter, afterMove, moveOn, itemBegins, begins, senses, stepBodySensed};
 ghost use Rattle.liquids.specs.Answers.{kindAsked};
 ghost use Rattle.step.specs.Answers.{numberAsked, velocityAsked, tickAsked, begunAsked};
 
-fn living_in_air(records: &[u32], cells: &[u32], w: Window, rules: Rules, body: Body, feet: Vec3, ground: bool, v: Vec3) -> Dragged
+fn living_in_air(
+    records: &[u32],
+    cells: &[u32],
+    w: Window,
+    rules: Rules,
+    body: Body,
+    feet: Vec3,
+    ground: bool,
+    v: Vec3,
+) -> Dragged
     ensures { λ r. ⌜ velocityAsked r ≡ livingInAir (lookAt (now (cells .entry)) w) (now (records .entry)) rules body feet ground v ⌝ }
 {
     let horizontal = match living_grip(records, cells, w, rules, body, feet, ground) {
@@ -54,7 +62,17 @@ fn living_in_air(records: &[u32], cells: &[u32], w: Window, rules: Rules, body: 
 }
 
 // Gravity, drag and friction of a living body after its move. It refuses 5 alone, and asks for a cell on dry ground alone.
-pub(crate) fn apply_living_drag(records: &[u32], cells: &[u32], w: Window, rules: Rules, body: Body, feet: Vec3, ground: bool, liquid: LiquidKind, v: Vec3) -> Dragged
+pub(crate) fn apply_living_drag(
+    records: &[u32],
+    cells: &[u32],
+    w: Window,
+    rules: Rules,
+    body: Body,
+    feet: Vec3,
+    ground: bool,
+    liquid: LiquidKind,
+    v: Vec3,
+) -> Dragged
     ensures { λ r. ⌜ velocityAsked r ≡ applyLivingDrag (lookAt (now (cells .entry)) w) (now (records .entry)) rules body feet ground liquid v ⌝ }
 {
     match liquid {
@@ -64,7 +82,15 @@ pub(crate) fn apply_living_drag(records: &[u32], cells: &[u32], w: Window, rules
     }
 }
 
-fn grip_of(records: &[u32], cells: &[u32], w: Window, rules: Rules, body: Body, feet: Vec3, friction: Ground) -> Number
+fn grip_of(
+    records: &[u32],
+    cells: &[u32],
+    w: Window,
+    rules: Rules,
+    body: Body,
+    feet: Vec3,
+    friction: Ground,
+) -> Number
     ensures { λ r. ⌜ numberAsked r ≡ grip (lookAt (now (cells .entry)) w) (now (records .entry)) rules body feet friction ⌝ }
 {
     match friction {
@@ -77,7 +103,15 @@ fn grip_of(records: &[u32], cells: &[u32], w: Window, rules: Rules, body: Body, 
 }
 
 // What a body's horizontal velocity is multiplied by, unless it is a living body.
-fn horizontal_after(records: &[u32], cells: &[u32], w: Window, rules: Rules, body: Body, feet: Vec3, ground: bool) -> Number
+fn horizontal_after(
+    records: &[u32],
+    cells: &[u32],
+    w: Window,
+    rules: Rules,
+    body: Body,
+    feet: Vec3,
+    ground: bool,
+) -> Number
     ensures { λ r. ⌜ numberAsked r ≡ horizontalAfter (lookAt (now (cells .entry)) w) (now (records .entry)) rules body feet ground ⌝ }
 {
     if ground {
@@ -88,7 +122,17 @@ fn horizontal_after(records: &[u32], cells: &[u32], w: Window, rules: Rules, bod
 }
 
 // What follows the move; v is the velocity with its blocked axes zeroed.
-fn after_move(records: &[u32], cells: &[u32], w: Window, rules: Rules, body: Body, liquid: LiquidKind, feet: Vec3, ground: bool, v: Vec3) -> Stepped
+fn after_move(
+    records: &[u32],
+    cells: &[u32],
+    w: Window,
+    rules: Rules,
+    body: Body,
+    liquid: LiquidKind,
+    feet: Vec3,
+    ground: bool,
+    v: Vec3,
+) -> Stepped
     ensures { λ r. ⌜ tickAsked r ≡ afterMove (lookAt (now (cells .entry)) w) (now (records .entry)) rules body liquid feet ground v ⌝ }
 {
     let model = body.model;
@@ -105,14 +149,31 @@ fn after_move(records: &[u32], cells: &[u32], w: Window, rules: Rules, body: Bod
     let told = horizontal_after(records, cells, w, rules, body, feet, ground);
     match told {
         Number::Refused(n) => Stepped::Refused(n),
-        Number::Is(horizontal) => Stepped::To(tick_of(feet, drag(body, horizontal, v), ground, LiquidKind::None)),
+        Number::Is(horizontal) => Stepped::To(tick_of(
+            feet,
+            drag(body, horizontal, v),
+            ground,
+            LiquidKind::None,
+        )),
     }
 }
 
 // The step from gravity before the move on, of every model: aabb is the body's box, flotation an item's, liquid a living body's, and v the
 // velocity. It calls the core of the move: a box beyond the limits is no 4. It refuses 5 and 6 alone.
-fn move_on(records: &[u32], shapes: &[f32], cells: &[u32], w: Window, rules: Rules, body: Body, aabb: Aabb, ground: bool, flotation: LiquidKind, liquid: LiquidKind, v: Vec3) -> Stepped
-    ensures { λ r. ⌜ tickAsked r ≡ moved (lookAt (now (cells .entry)) w) (now (records .entry)) (now (shapes .entry)) rules body aabb ground flotation liquid v ⌝ }
+fn move_on(
+    records: &[u32],
+    shapes: &[f32],
+    cells: &[u32],
+    w: Window,
+    rules: Rules,
+    body: Body,
+    aabb: Aabb,
+    ground: bool,
+    flotation: LiquidKind,
+    liquid: LiquidKind,
+    v: Vec3,
+) -> Stepped
+    ensures { λ r. ⌜ tickAsked r ≡ moveOn (lookAt (now (cells .entry)) w) (now (records .entry)) (now (shapes .entry)) rules body aabb ground flotation liquid v ⌝ }
 {
     let velocity = pull(body, flotation, v);
     let told = moves::move_through(records, shapes, cells, w, aabb, velocity, body.step, ground);
@@ -120,13 +181,32 @@ fn move_on(records: &[u32], shapes: &[f32], cells: &[u32], w: Window, rules: Rul
         Moved::Refused(n) => Stepped::Refused(n),
         Moved::To(m) => {
             let kept = kept_after(m.moved, velocity);
-            after_move(records, cells, w, rules, body, liquid, m.aabb.feet(), m.ground, kept)
+            let reached = m.aabb.feet();
+            after_move(
+                records,
+                cells,
+                w,
+                rules,
+                body,
+                liquid,
+                reached,
+                m.ground,
+                kept,
+            )
         }
     }
 }
 
 // An item before its move: its current, then its flotation, and whether it rests. The cell of its feet is asked for once.
-fn item_begins(records: &[u32], cells: &[u32], w: Window, body: Body, aabb: Aabb, motion: Motion, age: u64) -> Begins
+fn item_begins(
+    records: &[u32],
+    cells: &[u32],
+    w: Window,
+    body: Body,
+    aabb: Aabb,
+    motion: Motion,
+    age: u64,
+) -> Begins
     ensures { λ r. ⌜ begunAsked r ≡ itemBegins (lookAt (now (cells .entry)) w) (now (records .entry)) body aabb motion age ⌝ }
 {
     let feet = motion.feet;
@@ -139,13 +219,22 @@ fn item_begins(records: &[u32], cells: &[u32], w: Window, body: Body, aabb: Aabb
         Currents::Refused(n) => return Begins::Refused(n),
         Currents::Is(c) => c,
     };
-    let flotation = match liquids::item_flotation(records, cells, w, body.offset, body.height, feet, foot, state) {
+    let flotation = match liquids::item_flotation(
+        records,
+        cells,
+        w,
+        body.offset,
+        body.height,
+        feet,
+        foot,
+        state,
+    ) {
         Sensed::Refused(n) => return Begins::Refused(n),
         Sensed::Is(kind) => kind,
     };
     let start = motion.velocity;
     let flow = current.flow;
-    let velocity = floated(flotation, plus_of(start, flow));
+    let velocity = floated(flotation, liquids::add(start, flow));
     let rests = rests_now(motion.ground, velocity, current.water, age);
     Begins::Is(Begun {
         velocity,
@@ -154,7 +243,15 @@ fn item_begins(records: &[u32], cells: &[u32], w: Window, body: Body, aabb: Aabb
     })
 }
 
-fn begins_of(records: &[u32], cells: &[u32], w: Window, body: Body, aabb: Aabb, motion: Motion, age: u64) -> Begins
+fn begins_of(
+    records: &[u32],
+    cells: &[u32],
+    w: Window,
+    body: Body,
+    aabb: Aabb,
+    motion: Motion,
+    age: u64,
+) -> Begins
     ensures { λ r. ⌜ begunAsked r ≡ begins (lookAt (now (cells .entry)) w) (now (records .entry)) body aabb motion age ⌝ }
 {
     let model = body.model;
@@ -180,7 +277,16 @@ fn senses_of(records: &[u32], cells: &[u32], w: Window, body: Body, aabb: Aabb) 
 }
 
 // The step, for any numbers: it refuses 5, 6 and 7 alone, at the first such event.
-pub fn step_through(records: &[u32], shapes: &[f32], cells: &[u32], w: Window, rules: Rules, body: Body, motion: Motion, age: u64) -> Stepped
+pub fn step_through(
+    records: &[u32],
+    shapes: &[f32],
+    cells: &[u32],
+    w: Window,
+    rules: Rules,
+    body: Body,
+    motion: Motion,
+    age: u64,
+) -> Stepped
     ensures { λ r. ⌜ tickAsked r ≡ stepBodySensed (lookAt (now (cells .entry)) w) (now (records .entry)) (now (shapes .entry)) rules body motion age ⌝ }
 {
     let feet = motion.feet;
@@ -189,14 +295,27 @@ pub fn step_through(records: &[u32], shapes: &[f32], cells: &[u32], w: Window, r
         Begins::Refused(n) => return Stepped::Refused(n),
         Begins::Is(b) => b,
     };
-    let velocity = begun.velocity;
     if begun.rests {
-        return Stepped::To(tick_of(feet, velocity, motion.ground, LiquidKind::None));
+        let kept = begun.velocity;
+        return Stepped::To(tick_of(feet, kept, motion.ground, LiquidKind::None));
     }
     let liquid = match senses_of(records, cells, w, body, aabb) {
         Sensed::Refused(n) => return Stepped::Refused(n),
         Sensed::Is(kind) => kind,
     };
     let flotation = begun.flotation;
-    move_on(records, shapes, cells, w, rules, body, aabb, motion.ground, flotation, liquid, velocity)
+    let velocity = begun.velocity;
+    move_on(
+        records,
+        shapes,
+        cells,
+        w,
+        rules,
+        body,
+        aabb,
+        motion.ground,
+        flotation,
+        liquid,
+        velocity,
+    )
 }

@@ -1,29 +1,20 @@
 // Friction samples: what the step asks of the cells under a body.
-use boxes::Vec3;
-use window::Cell;
-use window::Pos;
-use window::Step;
-use window::Window;
 use crate::Body;
 use crate::Number;
 use crate::Rules;
 use crate::Support;
 use crate::Supports;
 use crate::sample_or;
+use boxes::Vec3;
+use liquids::cell_at;
+use window::Cell;
+use window::Pos;
+use window::Step;
+use window::Window;
 ghost use mathlib.Core.Path.{_≡_};
 ghost use Rattle.window.specs.Look.{lookAt, asked};
-ghost use Rattle.liquids.specs.Flotation.{cellAt};
 ghost use Rattle.step.specs.Step.{frictionOfState, sampled, supportingFriction, sampleCell, livingBlockFriction, livingGrip};
 ghost use Rattle.step.specs.Answers.{supportAsked, numberAsked};
-
-pub(crate) fn cell_at(v: Vec3) -> Pos
-    ensures { λ r. ⌜ r ≡ cellAt v ⌝ }
-{
-    let x = floats::cell(v.x);
-    let y = floats::cell(v.y);
-    let z = floats::cell(v.z);
-    Pos { x, y, z }
-}
 
 // The friction of a state: nothing for air, and for what is not registered.
 fn friction_of_state(records: &[u32], air: u32, id: u32) -> Support
@@ -49,7 +40,13 @@ fn sampled_in(records: &[u32], air: u32, cell: Cell) -> Supports
 }
 
 // The friction of the block below the feet. It refuses 5 alone.
-pub(crate) fn supporting_friction(records: &[u32], cells: &[u32], w: Window, rules: Rules, feet: Vec3) -> Supports
+pub(crate) fn supporting_friction(
+    records: &[u32],
+    cells: &[u32],
+    w: Window,
+    rules: Rules,
+    feet: Vec3,
+) -> Supports
     ensures { λ r. ⌜ supportAsked r ≡ supportingFriction (lookAt (now (cells .entry)) w) (now (records .entry)) rules feet ⌝ }
 {
     let p = cell_at(feet);
@@ -68,7 +65,13 @@ fn sample_cell(rules: Rules, feet: Vec3) -> Pos
 }
 
 // The friction under a living body. It refuses 5 alone.
-pub(crate) fn living_friction(records: &[u32], cells: &[u32], w: Window, rules: Rules, feet: Vec3) -> Number
+pub(crate) fn living_friction(
+    records: &[u32],
+    cells: &[u32],
+    w: Window,
+    rules: Rules,
+    feet: Vec3,
+) -> Number
     ensures { λ r. ⌜ numberAsked r ≡ livingBlockFriction (lookAt (now (cells .entry)) w) (now (records .entry)) rules feet ⌝ }
 {
     let p = sample_cell(rules, feet);
@@ -81,7 +84,15 @@ pub(crate) fn living_friction(records: &[u32], cells: &[u32], w: Window, rules: 
 }
 
 // What a living body's horizontal velocity is multiplied by: a cell is asked for on the ground alone.
-pub(crate) fn living_grip(records: &[u32], cells: &[u32], w: Window, rules: Rules, body: Body, feet: Vec3, ground: bool) -> Number
+pub(crate) fn living_grip(
+    records: &[u32],
+    cells: &[u32],
+    w: Window,
+    rules: Rules,
+    body: Body,
+    feet: Vec3,
+    ground: bool,
+) -> Number
     ensures { λ r. ⌜ numberAsked r ≡ livingGrip (lookAt (now (cells .entry)) w) (now (records .entry)) rules body feet ground ⌝ }
 {
     if ground {

@@ -7,43 +7,12 @@ use Rattle.liquids.proofs.liquid_at.Tie as tie
 look-requires : tie.Need-look-requires
 look-requires c κs = search needs
 
-enum-told : tie.Need-enum-told
-enum-told c = search needs
-
-enum-told-2 : tie.Need-enum-told-2
-enum-told-2 c = search needs
-
-no-liquid-requires : tie.Need-no-liquid-requires
-no-liquid-requires c κs = search needs
-
-enum-known-cell : tie.Need-enum-known-cell
-enum-known-cell c = search needs
-
-liquid-state-requires : tie.Need-liquid-state-requires
-liquid-state-requires c κs = search needs
+liquid-told-requires : tie.Need-liquid-told-requires
+liquid-told-requires c κs = search needs
 
 returns : tie.Need-returns
 unfolding liquidAsked
-returns c = rw (← c .before .before .look .ensures, c .enum-told .given .1)
-
-returns-2 : tie.Need-returns-2
-unfolding liquidAsked
-returns-2 c = rw (← c .before .before .before .look .ensures, c .before .enum-told2 .given .1, ← c .no-liquid .ensures)
-
-returns-3 : tie.Need-returns-3
-unfolding liquidAsked
-returns-3 c = rw (← c .before .before .before .before .look .ensures, c .before .before .cell .given .1, ← c .liquid-state .ensures)
+returns c = rw (← c .before .look .ensures, ← c .liquid-told .ensures)
 
 pub liquid-at-spec : {M : Type 1} → statement M
-liquid-at-spec =
-    tie.close
-    (tie.spec
-    look-requires
-    enum-told
-    enum-told-2
-    no-liquid-requires
-    enum-known-cell
-    liquid-state-requires
-    returns
-    returns-2
-    returns-3)
+liquid-at-spec = tie.close (tie.spec look-requires liquid-told-requires returns)

@@ -4,12 +4,12 @@ use borrow.Author.Needs.{needs}
 use Rattle.step.proofs.rests_now.Statement.{statement}
 use Rattle.step.proofs.rests_now.Tie as tie
 
-squared-of-requires : tie.Need-squared-of-requires
-squared-of-requires c κs = search needs
+squares-requires : tie.Need-squares-requires
+squares-requires c κs = search needs
 
 returns : tie.Need-returns
 unfolding restsNow
-returns c = rw (← c .squared-of .ensures)
+returns c = rw (← c .squares .ensures)
 
 pub rests-now-spec : {M : Type 1} → statement M
-rests-now-spec = tie.close (tie.spec squared-of-requires returns)
+rests-now-spec = tie.close (tie.spec squares-requires returns)

@@ -13,16 +13,12 @@ returns c = rw (eq-eqb _ _ (c .if1 .taken))
 direction-of-requires : tie.Need-direction-of-requires
 direction-of-requires c κs = search needs
 
-scale-requires : tie.Need-scale-requires
-scale-requires c κs = search needs
-
-add-requires : tie.Need-add-requires
-add-requires c κs = search needs
+add-scaled-requires : tie.Need-add-scaled-requires
+add-scaled-requires c κs = search needs
 
 returns-2 : tie.Need-returns-2
 unfolding pushed choose
-returns-2 c = rw (ne-eqb _ _ (c .before .before .before .if1 .left), c .add .ensures, c .before .scale .ensures, c .before .before .direction-of .ensures)
+returns-2 c = rw (ne-eqb _ _ (c .before .before .if1 .left), ← c .before .direction-of .ensures, ← c .add-scaled .ensures)
 
 pub push-spec : {M : Type 1} → statement M
-push-spec =
-    tie.close (tie.spec returns direction-of-requires scale-requires add-requires returns-2)
+push-spec = tie.close (tie.spec returns direction-of-requires add-scaled-requires returns-2)

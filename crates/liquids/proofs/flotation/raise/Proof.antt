@@ -7,15 +7,12 @@ use Rattle.liquids.proofs.flotation.raise.Tie as tie
 unit-y-requires : tie.Need-unit-y-requires
 unit-y-requires c κs = search needs
 
-scale-requires : tie.Need-scale-requires
-scale-requires c κs = search needs
-
-add-requires : tie.Need-add-requires
-add-requires c κs = search needs
+add-scaled-requires : tie.Need-add-scaled-requires
+add-scaled-requires c κs = search needs
 
 returns : tie.Need-returns
 unfolding raised
-returns c = rw (c .add .ensures, c .before .scale .ensures, c .before .before .unit-y .ensures)
+returns c = rw (c .add-scaled .ensures, c .before .unit-y .ensures)
 
 pub raise-spec : {M : Type 1} → statement M
-raise-spec = tie.close (tie.spec unit-y-requires scale-requires add-requires returns)
+raise-spec = tie.close (tie.spec unit-y-requires add-scaled-requires returns)

@@ -2,6 +2,7 @@
 use Rattle.liquids.specs.Flow.{effectiveDepth}
 use Rattle.base.specs.Choose.{choose}
 use borrow.Author.Tests.{le-leb, lt-leb}
+use borrow.Author.Needs.{needs}
 use Rattle.liquids.proofs.flow.effective_depth.Statement.{statement}
 use Rattle.liquids.proofs.flow.effective_depth.Tie as tie
 
@@ -9,9 +10,12 @@ returns : tie.Need-returns
 unfolding effectiveDepth choose
 returns c = rw (le-leb _ _ (c .if1 .taken))
 
+cast-result : tie.Need-cast-result
+cast-result c = search needs
+
 returns-2 : tie.Need-returns-2
 unfolding effectiveDepth choose
 returns-2 c = rw (lt-leb _ _ (c .if1 .left))
 
 pub effective-depth-spec : {M : Type 1} → statement M
-effective-depth-spec = tie.close (tie.spec returns returns-2)
+effective-depth-spec = tie.close (tie.spec returns cast-result returns-2)

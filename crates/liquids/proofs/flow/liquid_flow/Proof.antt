@@ -1,91 +1,91 @@
 -- `liquids::flow::liquid_flow` meets its contract. Assumes nothing.
-use Rattle.liquids.specs.Flow.{liquidFlow}
+use mathlib.Core.Path.{sym, ap, _∙_}
+use Prim.Native.Nat.{_-_, _<_}
+use native.Mathlib.Omega.{arith}
+use Rattle.window.specs.Look.{lookAt}
+use Rattle.liquids.specs.Answers.{differsAsked, toldAsked}
+use Rattle.liquids.proofs.Sides.{Sides, sides-start, sides-end, sides-next, no-difference, no-wall}
 use borrow.Author.Needs.{needs}
 use Rattle.liquids.proofs.flow.liquid_flow.Statement.{statement}
 use Rattle.liquids.proofs.flow.liquid_flow.Tie as tie
 
-zero-requires : tie.Need-zero-requires
+abbrev Inv-loop : tie.InvT-loop
+Inv-loop records cells w p state flow₀ walled₀ k₀ flow walled k = Sides (lookAt cells w) records p state flow walled k
+
+abbrev μ-loop : tie.MeasureT-loop
+μ-loop records cells w p state flow₀ walled₀ k₀ flow walled k = 4 - k
+
+zero-requires : tie.Need-zero-requires Inv-loop μ-loop
 zero-requires c κs = search needs
 
-side-flow-requires : tie.Need-side-flow-requires
-side-flow-requires c κs = search needs
+loop-holds : tie.Need-loop-holds Inv-loop μ-loop
+loop-holds c = sides-start _ _ _ _ _ (c .zero .ensures)
 
-enum-known-n : tie.Need-enum-known-n
+side-of-requires : tie.Need-side-of-requires Inv-loop μ-loop
+side-of-requires c κs = search needs
+
+difference-at-requires : tie.Need-difference-at-requires Inv-loop μ-loop
+difference-at-requires c κs = search needs
+
+enum-known-n : tie.Need-enum-known-n Inv-loop μ-loop
 enum-known-n c = search needs
 
-enum-known-a : tie.Need-enum-known-a
-enum-known-a c = search needs
+returns : tie.Need-returns Inv-loop μ-loop
+returns c = no-difference _ _ _ _ (c .before .before .before .before .before .before .loop .inv) _ (c .before .before .before .before .before .loop-test .taken) (c .before .before .before .before .side-of .ensures) _ (sym (ap differsAsked (c .before .n .given .1)) ∙ c .before .before .before .difference-at .ensures)
 
-side-flow-requires-2 : tie.Need-side-flow-requires-2
-side-flow-requires-2 c κs = search needs
+enum-known-g : tie.Need-enum-known-g Inv-loop μ-loop
+enum-known-g c = search needs
 
-enum-known-n-2 : tie.Need-enum-known-n-2
+walled-by-requires : tie.Need-walled-by-requires Inv-loop μ-loop
+walled-by-requires c κs = search needs
+
+enum-known-n-2 : tie.Need-enum-known-n-2 Inv-loop μ-loop
 enum-known-n-2 c = search needs
 
-enum-known-b : tie.Need-enum-known-b
+returns-2 : tie.Need-returns-2 Inv-loop μ-loop
+returns-2 c = no-wall _ _ _ _ (c .before .before .before .before .before .before .before .before .before .before .loop .inv) _ (c .before .before .before .before .before .before .before .before .before .loop-test .taken) (c .before .before .before .before .before .before .before .before .side-of .ensures) _ (sym (ap differsAsked (c .before .before .before .before .before .g .given .1)) ∙ c .before .before .before .before .before .before .before .difference-at .ensures) _ (sym (ap toldAsked (c .before .n2 .given .1)) ∙ c .before .before .before .walled-by .ensures)
+
+enum-known-b : tie.Need-enum-known-b Inv-loop μ-loop
 enum-known-b c = search needs
 
-side-flow-requires-3 : tie.Need-side-flow-requires-3
-side-flow-requires-3 c κs = search needs
+flow-by-requires : tie.Need-flow-by-requires Inv-loop μ-loop
+flow-by-requires c κs = search needs
 
-enum-known-n-3 : tie.Need-enum-known-n-3
-enum-known-n-3 c = search needs
+add-k : tie.Need-add-k Inv-loop μ-loop
+add-k c = search needs
 
-enum-known-c : tie.Need-enum-known-c
-enum-known-c c = search needs
+loop-less : tie.Need-loop-less Inv-loop μ-loop
+loop-less c = let h : _ < 4 = c .before .before .before .before .before .before .before .before .before .before .loop-test .taken in omega arith
 
-side-flow-requires-4 : tie.Need-side-flow-requires-4
-side-flow-requires-4 c κs = search needs
+loop-again : tie.Need-loop-again Inv-loop μ-loop
+loop-again c = sides-next _ _ _ _ (c .before .before .before .before .before .before .before .before .before .before .before .loop .inv) _ (c .before .before .before .before .before .before .before .before .before .before .loop-test .taken) (c .before .before .before .before .before .before .before .before .before .side-of .ensures) _ (sym (ap differsAsked (c .before .before .before .before .before .before .g .given .1)) ∙ c .before .before .before .before .before .before .before .before .difference-at .ensures) _ _ (sym (ap toldAsked (c .before .before .b .given .1)) ∙ c .before .before .before .before .walled-by .ensures) (c .flow-by .ensures)
 
-enum-known-n-4 : tie.Need-enum-known-n-4
-enum-known-n-4 c = search needs
-
-enum-known-d : tie.Need-enum-known-d
-enum-known-d c = search needs
-
-settle-requires : tie.Need-settle-requires
+settle-requires : tie.Need-settle-requires Inv-loop μ-loop
 settle-requires c κs = search needs
 
-returns : tie.Need-returns
-unfolding liquidFlow
-returns c = rw (← c .before .before .before .before .zero .ensures, ← c .before .before .before .side-flow .ensures, c .before .n .given .1)
-
-returns-2 : tie.Need-returns-2
-unfolding liquidFlow
-returns-2 c = rw (← c .before .before .before .before .before .before .before .before .zero .ensures, ← c .before .before .before .before .before .before .before .side-flow .ensures, c .before .before .before .before .before .a .given .1, ← c .before .before .before .side-flow2 .ensures, c .before .n2 .given .1)
-
-returns-3 : tie.Need-returns-3
-unfolding liquidFlow
-returns-3 c = rw (← c .before .before .before .before .before .before .before .before .before .before .before .before .zero .ensures, ← c .before .before .before .before .before .before .before .before .before .before .before .side-flow .ensures, c .before .before .before .before .before .before .before .before .before .a .given .1, ← c .before .before .before .before .before .before .before .side-flow2 .ensures, c .before .before .before .before .before .b .given .1, ← c .before .before .before .side-flow3 .ensures, c .before .n3 .given .1)
-
-returns-4 : tie.Need-returns-4
-unfolding liquidFlow
-returns-4 c = rw (← c .before .before .before .before .before .before .before .before .before .before .before .before .before .before .before .before .zero .ensures, ← c .before .before .before .before .before .before .before .before .before .before .before .before .before .before .before .side-flow .ensures, c .before .before .before .before .before .before .before .before .before .before .before .before .before .a .given .1, ← c .before .before .before .before .before .before .before .before .before .before .before .side-flow2 .ensures, c .before .before .before .before .before .before .before .before .before .b .given .1, ← c .before .before .before .before .before .before .before .side-flow3 .ensures, c .before .before .before .before .before .c .given .1, ← c .before .before .before .side-flow4 .ensures, c .before .n4 .given .1)
-
-returns-5 : tie.Need-returns-5
-unfolding liquidFlow
-returns-5 c = rw (← c .before .before .before .before .before .before .before .before .before .before .before .before .before .before .before .before .before .zero .ensures, ← c .before .before .before .before .before .before .before .before .before .before .before .before .before .before .before .before .side-flow .ensures, c .before .before .before .before .before .before .before .before .before .before .before .before .before .before .a .given .1, ← c .before .before .before .before .before .before .before .before .before .before .before .before .side-flow2 .ensures, c .before .before .before .before .before .before .before .before .before .before .b .given .1, ← c .before .before .before .before .before .before .before .before .side-flow3 .ensures, c .before .before .before .before .before .before .c .given .1, ← c .before .before .before .before .side-flow4 .ensures, c .before .before .d .given .1, ← c .settle .ensures)
+returns-3 : tie.Need-returns-3 Inv-loop μ-loop
+returns-3 c = sides-end _ _ _ _ (c .before .before .loop .inv) _ (c .before .loop-test .left) (c .settle .ensures)
 
 pub liquid-flow-spec : {M : Type 1} → statement M
 liquid-flow-spec =
     tie.close
     (tie.spec
+    Inv-loop
+    μ-loop
     zero-requires
-    side-flow-requires
+    loop-holds
+    side-of-requires
+    difference-at-requires
     enum-known-n
-    enum-known-a
-    side-flow-requires-2
-    enum-known-n-2
-    enum-known-b
-    side-flow-requires-3
-    enum-known-n-3
-    enum-known-c
-    side-flow-requires-4
-    enum-known-n-4
-    enum-known-d
-    settle-requires
     returns
+    enum-known-g
+    walled-by-requires
+    enum-known-n-2
     returns-2
-    returns-3
-    returns-4
-    returns-5)
+    enum-known-b
+    flow-by-requires
+    add-k
+    loop-less
+    loop-again
+    settle-requires
+    returns-3)

@@ -22,7 +22,7 @@ normalize-or-zero-requires-2 c κs = search needs
 
 returns : tie.Need-returns
 unfolding settled choose
-returns c = rw (c .before .before .before .before .before .if1 .taken, c .normalize-or-zero2 .ensures, c .before .subtract .ensures, c .before .before .scale .ensures, c .before .before .before .unit-y .ensures, c .before .before .before .before .normalize-or-zero .ensures)
+returns c = rw (c .normalize-or-zero2 .ensures, c .before .subtract .ensures, c .before .before .scale .ensures, c .before .before .before .unit-y .ensures, c .before .before .before .before .normalize-or-zero .ensures, c .before .before .before .before .before .if1 .taken)
 
 normalize-or-zero-requires-3 : tie.Need-normalize-or-zero-requires-3
 normalize-or-zero-requires-3 c κs = search needs

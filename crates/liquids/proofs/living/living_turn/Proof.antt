@@ -1,11 +1,15 @@
 -- `liquids::living::living_turn` meets its contract. Assumes nothing.
 use Rattle.liquids.specs.Living.{livingTurn}
+use Rattle.liquids.specs.Liquid.{liquidAsked}
 use borrow.Author.Needs.{needs}
 use Rattle.liquids.proofs.living.living_turn.Statement.{statement}
 use Rattle.liquids.proofs.living.living_turn.Tie as tie
 
-liquid-at-requires : tie.Need-liquid-at-requires
-liquid-at-requires c κs = search needs
+look-requires : tie.Need-look-requires
+look-requires c κs = search needs
+
+liquid-told-requires : tie.Need-liquid-told-requires
+liquid-told-requires c κs = search needs
 
 enum-known-n : tie.Need-enum-known-n
 enum-known-n c = search needs
@@ -17,14 +21,21 @@ wet-in-requires : tie.Need-wet-in-requires
 wet-in-requires c κs = search needs
 
 returns : tie.Need-returns
-unfolding livingTurn
-returns c = rw (← c .before .before .before .liquid-at .ensures, c .before .n .given .1)
+unfolding livingTurn liquidAsked
+returns c = rw (← c .before .before .before .before .look .ensures, ← c .before .before .before .liquid-told .ensures, c .before .n .given .1)
 
 returns-2 : tie.Need-returns-2
-unfolding livingTurn
-returns-2 c = rw (← c .before .before .before .before .liquid-at .ensures, c .before .before .state .given .1, ← c .wet-in .ensures)
+unfolding livingTurn liquidAsked
+returns-2 c = rw (← c .before .before .before .before .before .look .ensures, ← c .before .before .before .before .liquid-told .ensures, c .before .before .state .given .1, ← c .wet-in .ensures)
 
 pub living-turn-spec : {M : Type 1} → statement M
 living-turn-spec =
     tie.close
-    (tie.spec liquid-at-requires enum-known-n enum-known-state wet-in-requires returns returns-2)
+    (tie.spec
+    look-requires
+    liquid-told-requires
+    enum-known-n
+    enum-known-state
+    wet-in-requires
+    returns
+    returns-2)

@@ -46,8 +46,8 @@ returns-3 c = rw (← c .before .before .before .before .before .before .before 
 enum-known-kind : tie.Need-enum-known-kind
 enum-known-kind c = search needs
 
-plus-of-requires : tie.Need-plus-of-requires
-plus-of-requires c κs = search needs
+add-requires : tie.Need-add-requires
+add-requires c κs = search needs
 
 floated-requires : tie.Need-floated-requires
 floated-requires c κs = search needs
@@ -57,7 +57,7 @@ rests-now-requires c κs = search needs
 
 returns-4 : tie.Need-returns-4
 unfolding itemBegins
-returns-4 c = rw (← c .before .before .before .before .before .before .before .before .before .before .before .before .before .before .before .before .before .cell-at .ensures, ← c .before .before .before .before .before .before .before .before .before .before .before .before .before .before .before .before .liquid-at .ensures, c .before .before .before .before .before .before .before .before .before .before .before .before .before .before .s .given .1, ← c .before .before .before .before .before .before .before .before .before .before .before .before .item-current .ensures, c .before .before .before .before .before .before .before .before .before .before .c .given .1, ← c .before .before .before .before .before .before .before .before .item-flotation .ensures, c .before .before .before .before .before .before .kind .given .1, ← c .before .before .plus-of .ensures, ← c .before .floated .ensures, ← c .rests-now .ensures)
+returns-4 c = rw (← c .before .before .before .before .before .before .before .before .before .before .before .before .before .before .before .before .before .cell-at .ensures, ← c .before .before .before .before .before .before .before .before .before .before .before .before .before .before .before .before .liquid-at .ensures, c .before .before .before .before .before .before .before .before .before .before .before .before .before .before .s .given .1, ← c .before .before .before .before .before .before .before .before .before .before .before .before .item-current .ensures, c .before .before .before .before .before .before .before .before .before .before .c .given .1, ← c .before .before .before .before .before .before .before .before .item-flotation .ensures, c .before .before .before .before .before .before .kind .given .1, ← c .before .before .add .ensures, ← c .before .floated .ensures, ← c .rests-now .ensures)
 
 pub item-begins-spec : {M : Type 1} → statement M
 item-begins-spec =
@@ -76,7 +76,7 @@ item-begins-spec =
     enum-known-n-3
     returns-3
     enum-known-kind
-    plus-of-requires
+    add-requires
     floated-requires
     rests-now-requires
     returns-4)

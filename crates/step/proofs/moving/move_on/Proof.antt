@@ -1,5 +1,5 @@
 -- `step::moving::move_on` meets its contract. Assumes nothing.
-use Rattle.step.specs.Step.{moved}
+use Rattle.step.specs.Step.{moveOn}
 use borrow.Author.Needs.{needs}
 use Rattle.step.proofs.moving.move_on.Statement.{statement}
 use Rattle.step.proofs.moving.move_on.Tie as tie
@@ -26,11 +26,11 @@ after-move-requires : tie.Need-after-move-requires
 after-move-requires c κs = search needs
 
 returns : tie.Need-returns
-unfolding moved
+unfolding moveOn
 returns c = rw (← c .before .before .before .before .pull .ensures, ← c .before .before .before .move-through .ensures, c .before .told .given .1)
 
 returns-2 : tie.Need-returns-2
-unfolding moved
+unfolding moveOn
 returns-2 c = rw (← c .before .before .before .before .before .before .before .pull .ensures, ← c .before .before .before .before .before .before .move-through .ensures, c .before .before .before .before .told2 .given .1, ← c .before .before .kept-after .ensures, ← c .before .feet .ensures, ← c .after-move .ensures)
 
 pub move-on-spec : {M : Type 1} → statement M

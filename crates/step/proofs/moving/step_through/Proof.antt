@@ -26,7 +26,7 @@ tick-of-requires c κs = search needs
 
 returns-2 : tie.Need-returns-2
 unfolding stepBodySensed choose
-returns-2 c = rw (← c .before .before .before .before .before .before .before .from-feet .ensures, ← c .before .before .before .before .before .before .begins-of .ensures, c .before .before .before .before .b .given .1, c .before .if1 .taken, ← c .tick-of .ensures)
+returns-2 c = rw (← c .before .before .before .before .before .before .before .from-feet .ensures, ← c .before .before .before .before .before .before .begins-of .ensures, c .before .before .before .before .b .given .1, c .before .before .if1 .taken, ← c .tick-of .ensures)
 
 senses-of-requires : tie.Need-senses-of-requires
 senses-of-requires c κs = search needs
@@ -36,7 +36,7 @@ enum-known-n-2 c = search needs
 
 returns-3 : tie.Need-returns-3
 unfolding stepBodySensed choose
-returns-3 c = rw (← c .before .before .before .before .before .before .before .before .before .before .from-feet .ensures, ← c .before .before .before .before .before .before .before .before .before .begins-of .ensures, c .before .before .before .before .before .before .before .b .given .1, c .before .before .before .before .if1 .left, ← c .before .before .before .senses-of .ensures, c .before .n2 .given .1)
+returns-3 c = rw (← c .before .before .before .before .before .before .before .before .before .from-feet .ensures, ← c .before .before .before .before .before .before .before .before .begins-of .ensures, c .before .before .before .before .before .before .b .given .1, c .before .before .before .before .if1 .left, ← c .before .before .before .senses-of .ensures, c .before .n2 .given .1)
 
 enum-known-kind : tie.Need-enum-known-kind
 enum-known-kind c = search needs
@@ -46,7 +46,7 @@ move-on-requires c κs = search needs
 
 returns-4 : tie.Need-returns-4
 unfolding stepBodySensed choose
-returns-4 c = rw (← c .before .before .before .before .before .before .before .before .before .before .before .from-feet .ensures, ← c .before .before .before .before .before .before .before .before .before .before .begins-of .ensures, c .before .before .before .before .before .before .before .before .b .given .1, c .before .before .before .before .before .if1 .left, ← c .before .before .before .before .senses-of .ensures, c .before .before .kind .given .1, ← c .move-on .ensures)
+returns-4 c = rw (← c .before .before .before .before .before .before .before .before .before .before .before .from-feet .ensures, ← c .before .before .before .before .before .before .before .before .before .before .begins-of .ensures, c .before .before .before .before .before .before .before .before .b .given .1, c .before .before .before .before .before .before .if1 .left, ← c .before .before .before .before .before .senses-of .ensures, c .before .before .before .kind .given .1, ← c .move-on .ensures)
 
 pub step-through-spec : {M : Type 1} → statement M
 step-through-spec =

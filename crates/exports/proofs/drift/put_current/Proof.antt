@@ -1,0 +1,25 @@
+-- `exports::drift::put_current` meets its contract. Assumes nothing.
+use Rattle.exports.specs.Moves.{stored}
+use borrow.Author.Needs.{needs}
+use Rattle.exports.proofs.drift.put_current.Statement.{statement}
+use Rattle.exports.proofs.drift.put_current.Tie as tie
+
+put-vec-requires : tie.Need-put-vec-requires
+put-vec-requires c κs = search needs
+
+flag-of-requires : tie.Need-flag-of-requires
+flag-of-requires c κs = search needs
+
+put-requires : tie.Need-put-requires
+put-requires c κs = search needs
+
+same-length : tie.Need-same-length
+same-length c = search needs
+
+returns : tie.Need-returns
+unfolding stored
+returns c = rw (c .before .before .put .ensures, c .before .before .before .flag-of .ensures, c .before .before .before .before .before .before .before .put-vec .ensures)
+
+pub put-current-spec : {M : Type 1} → statement M
+put-current-spec =
+    tie.close (tie.spec put-vec-requires flag-of-requires put-requires same-length returns)

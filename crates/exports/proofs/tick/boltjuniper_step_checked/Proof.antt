@@ -1,0 +1,43 @@
+-- `exports::tick::boltjuniper_step_checked` meets its contract. Assumes nothing.
+use mir.Syntax.{w32}
+use mir.ValLaws.{toZ-ofZ}
+use borrow.Author.Needs.{needs}
+use Rattle.exports.proofs.tick.boltjuniper_step_checked.Statement.{statement}
+use Rattle.exports.proofs.tick.boltjuniper_step_checked.Tie as tie
+
+window-of-requires : tie.Need-window-of-requires
+window-of-requires c κs = search needs
+
+rules-at-requires : tie.Need-rules-at-requires
+rules-at-requires c κs = search needs
+
+body-at-requires : tie.Need-body-at-requires
+body-at-requires c κs = search needs
+
+motion-at-requires : tie.Need-motion-at-requires
+motion-at-requires c κs = search needs
+
+step-checked-requires : tie.Need-step-checked-requires
+step-checked-requires c κs = search needs
+
+answer-into-requires : tie.Need-answer-into-requires
+answer-into-requires c κs = search needs
+
+same-length : tie.Need-same-length
+same-length c = search needs
+
+returns : tie.Need-returns
+returns c = rw (c .before .before .before .step-checked .ensures, c .before .before .before .before .before .before .before .before .window-of .ensures, c .before .before .before .before .before .before .before .rules-at .ensures, c .before .before .before .before .before .before .body-at .ensures, c .before .before .before .before .before .motion-at .ensures, toZ-ofZ w32 (c .before .before .before .before .before .before .before .before .before .before .before .before .before .before .before .args .ox) (c .before .before .before .before .before .before .before .before .before .before .before .before .before .before .before .fits .ox), toZ-ofZ w32 (c .before .before .before .before .before .before .before .before .before .before .before .before .before .before .before .args .oy) (c .before .before .before .before .before .before .before .before .before .before .before .before .before .before .before .fits .oy), toZ-ofZ w32 (c .before .before .before .before .before .before .before .before .before .before .before .before .before .before .before .args .oz) (c .before .before .before .before .before .before .before .before .before .before .before .before .before .before .before .fits .oz)) at (c .before .before .answer-into .ensures)
+
+pub boltjuniper-step-checked-spec : {M : Type 1} → statement M
+boltjuniper-step-checked-spec =
+    tie.close
+    (tie.spec
+    window-of-requires
+    rules-at-requires
+    body-at-requires
+    motion-at-requires
+    step-checked-requires
+    answer-into-requires
+    same-length
+    returns)

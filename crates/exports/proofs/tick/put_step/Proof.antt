@@ -1,0 +1,47 @@
+-- `exports::tick::put_step` meets its contract. Assumes nothing.
+use Rattle.exports.specs.Moves.{stored}
+use borrow.Author.Needs.{needs}
+use Rattle.exports.proofs.tick.put_step.Statement.{statement}
+use Rattle.exports.proofs.tick.put_step.Tie as tie
+
+put-vec-requires : tie.Need-put-vec-requires
+put-vec-requires c κs = search needs
+
+put-vec-requires-2 : tie.Need-put-vec-requires-2
+put-vec-requires-2 c κs = search needs
+
+float-of-requires : tie.Need-float-of-requires
+float-of-requires c κs = search needs
+
+put-requires : tie.Need-put-requires
+put-requires c κs = search needs
+
+kind-number-requires : tie.Need-kind-number-requires
+kind-number-requires c κs = search needs
+
+float-of-requires-2 : tie.Need-float-of-requires-2
+float-of-requires-2 c κs = search needs
+
+put-requires-2 : tie.Need-put-requires-2
+put-requires-2 c κs = search needs
+
+same-length : tie.Need-same-length
+same-length c = search needs
+
+returns : tie.Need-returns
+unfolding stored
+returns c = rw (c .before .before .put2 .ensures, c .before .before .before .float-of2 .ensures, c .before .before .before .before .kind-number .ensures, c .before .before .before .before .before .before .before .before .put .ensures, c .before .before .before .before .before .before .before .before .before .float-of .ensures, c .before .before .before .before .before .before .before .before .before .before .before .before .before .put-vec2 .ensures, c .before .before .before .before .before .before .before .before .before .before .before .before .before .before .before .before .before .put-vec .ensures)
+
+pub put-step-spec : {M : Type 1} → statement M
+put-step-spec =
+    tie.close
+    (tie.spec
+    put-vec-requires
+    put-vec-requires-2
+    float-of-requires
+    put-requires
+    kind-number-requires
+    float-of-requires-2
+    put-requires-2
+    same-length
+    returns)

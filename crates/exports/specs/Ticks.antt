@@ -1,0 +1,91 @@
+-- Currents and the step in lent numbers.
+use mathlib.Core.List.{List, [], _∷_}
+use Prim.Native.Nat.{ℕ}
+use lib.Dec.{eqb}
+use lib.IntN.{pos}
+use lib.Ieee.{Float, binary64, ofInt}
+use Rattle.base.specs.Choose.{choose}
+use Rattle.base.specs.Ask.{Ask, refused, found, _>>=_}
+use Rattle.boxes.specs.declared.Vec3.{Vec3}
+use Rattle.boxes.specs.Boxes.{fromFeet}
+use Rattle.tables.specs.Tables.{kindNumber, wordAt, floatAt}
+use Rattle.window.specs.declared.Pos.{Pos}
+use Rattle.window.specs.Look.{Block}
+use Rattle.liquids.specs.declared.Current.{Current}
+use Rattle.liquids.specs.Liquid.{liquidAsked}
+use Rattle.liquids.specs.Current.{itemCurrent}
+use Rattle.liquids.specs.Flotation.{cellAt}
+use Rattle.step.specs.declared.BodyNumbers.{BodyNumbers}
+use Rattle.step.specs.declared.Rules.{Rules}
+use Rattle.step.specs.declared.MotionNumbers.{MotionNumbers}
+use Rattle.step.specs.declared.StepAnswer.{StepAnswer}
+use Rattle.exports.specs.Moves.{vecAt, flagOf, stored}
+
+-- ---- currents
+
+-- what the flows do to an item at these feet, of this width and height: the cell of its feet is asked for first, as the step does
+unfoldable pub currentAt : (Pos → Ask Block) → List ℕ → Vec3 → Float → Float → Ask Current
+currentAt look records feet width height = do
+  let foot : Pos = cellAt feet
+  state ← liquidAsked look records foot
+  itemCurrent look records (fromFeet feet width height) foot state
+
+-- what it adds to the velocity, and 1.0 where there is water: four numbers
+abbrev pub currentNumbers : Current → List Float
+currentNumbers c = c .flow .x ∷ c .flow .y ∷ c .flow .z ∷ flagOf (c .water) ∷ []
+
+abbrev pub currentRefusal : Ask Current → ℕ
+currentRefusal (refused n) = n
+currentRefusal (found c) = 0
+
+-- a refusal writes nothing
+abbrev pub currentWritten : List Float → Ask Current → List Float
+currentWritten out (refused n) = out
+currentWritten out (found c) = stored out 0 (currentNumbers c)
+
+-- ---- the step: a body in the order of a scene file's first block, 19 numbers and 6 words; what is not there is +0, or 0
+
+-- feet, velocity; ground
+abbrev pub motionAt : List Float → List ℕ → MotionNumbers
+motionAt numbers words = record { feet = vecAt numbers 0; velocity = vecAt numbers 3; ground = wordAt words 0 0 }
+
+-- width, height, offset, gravity, vertical and horizontal drag, flap, step height; model, stage, ground friction, flap present
+abbrev pub bodyAt : List Float → List ℕ → BodyNumbers
+bodyAt numbers words =
+    record {
+      width = floatAt numbers 6;
+      height = floatAt numbers 7;
+      offset = floatAt numbers 8;
+      gravity = floatAt numbers 9;
+      vertical = floatAt numbers 10;
+      horizontal = floatAt numbers 11;
+      step = floatAt numbers 13;
+      flap = floatAt numbers 12;
+      flaps = wordAt words 0 4;
+      model = wordAt words 0 1;
+      stage = wordAt words 0 2;
+      friction = wordAt words 0 3;
+    }
+
+-- default friction, sample depth, liquid gravity, water drag, lava drag; air state
+abbrev pub rulesAt : List Float → List ℕ → Rules
+rulesAt numbers words =
+    record {
+      friction = floatAt numbers 14;
+      depth = floatAt numbers 15;
+      gravity = floatAt numbers 16;
+      water = floatAt numbers 17;
+      lava = floatAt numbers 18;
+      air = wordAt words 0 5;
+    }
+
+-- feet, velocity, ground, and the liquid: 0 none, 1 water, 2 lava; eight numbers
+abbrev pub stepNumbers : StepAnswer → List Float
+stepNumbers a =
+    a .motion .feet .x ∷ a .motion .feet .y ∷ a .motion .feet .z
+    ∷ a .motion .velocity .x ∷ a .motion .velocity .y ∷ a .motion .velocity .z
+    ∷ ofInt binary64 (pos (a .motion .ground)) ∷ ofInt binary64 (pos (kindNumber (a .liquid))) ∷ []
+
+-- a refusal writes nothing: what the host has stays as it is
+unfoldable pub stepWritten : List Float → StepAnswer → List Float
+stepWritten out a = choose (eqb (a .refusal) 0) (stored out 0 (stepNumbers a)) out

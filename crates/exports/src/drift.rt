@@ -1,0 +1,77 @@
+// Currents, in lent numbers.
+use crate::over::flag_of;
+use crate::over::put;
+use crate::over::put_vec;
+use crate::through::window_of;
+use boxes::Aabb;
+use boxes::Vec3;
+use liquids::Current;
+use liquids::Currents;
+use liquids::Held;
+use window::Window;
+ghost use mathlib.Core.Path.{_≡_};
+ghost use Rattle.boxes.specs.Boxes.{vec};
+ghost use Rattle.window.specs.Look.{lookAt};
+ghost use Rattle.exports.specs.Moves.{stored};
+ghost use Rattle.exports.specs.Windows.{windowOf};
+ghost use Rattle.exports.specs.Ticks.{currentAt, currentNumbers, currentRefusal, currentWritten};
+
+fn put_current(out: &mut [f64], c: Current)
+    ensures { λ _. ⌜ now (out .exit) ≡ stored (now (out .entry)) 0 (currentNumbers c) ⌝ }
+{
+    put_vec(out, 0, c.flow);
+    put(out, 3, flag_of(c.water));
+}
+
+fn current_into(
+    records: &[u32],
+    cells: &[u32],
+    w: Window,
+    feet: Vec3,
+    width: f64,
+    height: f64,
+    out: &mut [f64],
+) -> u32
+    ensures { λ r. ⌜ r ≡ currentRefusal (currentAt (lookAt (now (cells .entry)) w) (now (records .entry)) feet width height) ⌝ }
+    ensures { λ _. ⌜ now (out .exit) ≡ currentWritten (now (out .entry)) (currentAt (lookAt (now (cells .entry)) w) (now (records .entry)) feet width height) ⌝ }
+{
+    let foot = liquids::cell_at(feet);
+    let state = match liquids::liquid_at(records, cells, w, foot) {
+        Held::Refused(n) => return n,
+        Held::Is(s) => s,
+    };
+    let aabb = Aabb::from_feet(feet, width, height);
+    match liquids::item_current(records, cells, w, aabb, foot, state) {
+        Currents::Refused(n) => n,
+        Currents::Is(c) => {
+            put_current(out, c);
+            0
+        }
+    }
+}
+
+// What the currents add to the velocity of an item at the feet x, y, z, over tables and a window that were checked before. It writes four
+// numbers and returns 0, or writes nothing and returns 5 or 7.
+#[no_mangle]
+pub extern "C" fn boltjuniper_item_current(
+    records: &[u32],
+    cells: &[u32],
+    ox: i32,
+    oy: i32,
+    oz: i32,
+    sx: u32,
+    sy: u32,
+    sz: u32,
+    x: f64,
+    y: f64,
+    z: f64,
+    width: f64,
+    height: f64,
+    out: &mut [f64],
+) -> u32
+    ensures { λ r. ⌜ r ≡ currentRefusal (currentAt (lookAt (now (cells .entry)) (windowOf ox oy oz sx sy sz)) (now (records .entry)) (vec x y z) width height) ⌝ }
+    ensures { λ _. ⌜ now (out .exit) ≡ currentWritten (now (out .entry)) (currentAt (lookAt (now (cells .entry)) (windowOf ox oy oz sx sy sz)) (now (records .entry)) (vec x y z) width height) ⌝ }
+{
+    let w = window_of(ox, oy, oz, sx, sy, sz);
+    current_into(records, cells, w, Vec3 { x, y, z }, width, height, out)
+}
