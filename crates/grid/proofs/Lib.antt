@@ -1,0 +1,10 @@
+-- Demand 3 holds.
+pub mod Units
+pub mod Axis
+pub mod Whole
+pub mod Exact
+pub mod Readings
+pub mod Courses
+pub mod Starts
+pub mod OverList
+pub mod Samples

@@ -1,0 +1,94 @@
+-- Demand 3, over the definitions of the move: "an accepted move whose box corners, delta, step height and block shapes are multiples of 1/4096 within
+-- document 01's limits, all boxes of positive size, shapes inside their cell or up to half a block above it, and no overlap at the start. Then the box
+-- ends overlapping no block box at all … Where no step-up is kept, the axes go y, x, z, and each travels towards its share of delta as far as it can
+-- with no overlap at any multiple of 1/4096 on the way. Where one is kept, the end is free too." `Block b` says that b is one of the block boxes.
+use mathlib.Core.Path.{_≡_}
+use mathlib.Core.Bool.{Bool, false, not, _&&_, _||_}
+use mathlib.Core.List.{List, List·Memᴰ}
+use lib.Dec.{T}
+use lib.IntN.{negsuc}
+use lib.Ieee.{Float, fin, binary64, add, sub, lt, le, eq}
+use Rattle.base.specs.Choose.{choose}
+use Rattle.floats.specs.Numbers.{zero64}
+use Rattle.boxes.specs.declared.Vec3.{Vec3}
+use Rattle.boxes.specs.declared.Aabb.{Aabb}
+use Rattle.boxes.specs.declared.Swept.{Swept}
+use Rattle.boxes.specs.declared.BoxList.{BoxList}
+use Rattle.boxes.specs.declared.MoveResult.{MoveResult}
+use Rattle.boxes.specs.declared.MoveAnswer.{MoveAnswer}
+use Rattle.boxes.specs.Boxes.{vec, offsetBy, overlap}
+use Rattle.boxes.specs.Lists.{listOf}
+use Rattle.boxes.specs.Move.{clipSequence, steppedUp, flatSquare, triesStep}
+use Rattle.boxes.specs.Entry.{moveOverList}
+use Rattle.grid.specs.Grid.{onGrid, vecOnGrid, isProper, areProper, isFree}
+
+-- ---- what is demanded
+
+-- a box that overlaps no block box, and one that overlaps some
+abbrev pub Free : (Aabb → Type 0) → Aabb → Type 0
+Free Block a = (b : Aabb) → Block b → T (not (overlap a b))
+
+pub record Struck (Block : Aabb → Type 0) (a : Aabb) : Type 0 where
+  pub by : Aabb
+  pub is : Block by
+  pub hits : T (overlap a by)
+
+-- x is between a and b, which may stand in either order
+unfoldable pub between : Float → Float → Float → Bool
+between a b x = (le a x && le x b) || (le b x && le x a)
+
+-- 1/4096, and a way longer by it, towards the share
+abbrev pub unit : Float
+unit = fin false 1 (negsuc 11)
+
+unfoldable pub further : Float → Float → Float
+further way share = choose (lt zero64 share) (add binary64 way unit) (sub binary64 way unit)
+
+-- On one axis, where `at s` is the box after the way s along it: the way taken is a multiple of 1/4096 towards the share; no multiple on it,
+-- both ends counted, overlaps; and if it falls short of the share, one multiple further would overlap.
+pub record Travels (Block : Aabb → Type 0) (at : Float → Aabb) (share way : Float) : Type 0 where
+  pub exact : T (onGrid way)
+  pub towards : T (between zero64 share way)
+  pub clear : (s : Float) → T (onGrid s) → T (between zero64 way s) → Free Block (at s)
+  pub far : T (not (eq way share)) → Struck Block (at (further way share))
+
+-- a box moved along one axis, as the move does it
+abbrev pub alongX : Aabb → Float → Aabb
+alongX b s = offsetBy b (vec s zero64 zero64)
+
+abbrev pub alongY : Aabb → Float → Aabb
+alongY b s = offsetBy b (vec zero64 s zero64)
+
+abbrev pub alongZ : Aabb → Float → Aabb
+alongZ b s = offsetBy b (vec zero64 zero64 s)
+
+-- y, then x, then z, each as far as it can
+pub record Farthest (Block : Aabb → Type 0) (aabb : Aabb) (delta : Vec3) (r : MoveResult) : Type 0 where
+  pub y : Travels Block (alongY aabb) (delta .y) (r .moved .y)
+  pub x : Travels Block (alongX (alongY aabb (r .moved .y))) (delta .x) (r .moved .x)
+  pub z : Travels Block (alongZ (alongX (alongY aabb (r .moved .y)) (r .moved .x))) (delta .z) (r .moved .z)
+  pub end : r .aabb ≡ alongZ (alongX (alongY aabb (r .moved .y)) (r .moved .x)) (r .moved .z)
+
+pub record Demand3 (Block : Aabb → Type 0) (stepKept : Bool) (aabb : Aabb) (delta : Vec3) (r : MoveResult) : Type 0 where
+  pub free : Free Block (r .aabb)
+  pub farthest : stepKept ≡ false → Farthest Block aabb delta r
+
+-- a step-up is kept: one is tried, and gets strictly farther horizontally
+unfoldable pub keepsStep : List Aabb → Aabb → Vec3 → Float → Bool → Bool
+keepsStep boxes aabb delta stepHeight wasOnGround =
+    let first : Swept = clipSequence boxes aabb delta in
+    triesStep delta stepHeight wasOnGround (first .moved) && lt (flatSquare (first .moved)) (flatSquare (steppedUp boxes aabb delta stepHeight .moved))
+
+-- ---- a move over a list: the block boxes are the list's own
+
+unfoldable pub listOnGrid : BoxList → Aabb → Vec3 → Float → Bool
+listOnGrid list aabb delta stepHeight =
+    isProper aabb && (areProper (listOf list) && (vecOnGrid delta && (onGrid stepHeight && isFree aabb (listOf list))))
+
+abbrev pub ListDemand : Type 0
+ListDemand =
+    (list : BoxList) (aabb : Aabb) (delta : Vec3) (stepHeight : Float) (wasOnGround : Bool)
+    → T (listOnGrid list aabb delta stepHeight)
+    → moveOverList list aabb delta stepHeight wasOnGround .refusal ≡ 0
+    → Demand3 (λ b. List·Memᴰ b (listOf list)) (keepsStep (listOf list) aabb delta stepHeight wasOnGround) aabb delta
+    (moveOverList list aabb delta stepHeight wasOnGround .result)

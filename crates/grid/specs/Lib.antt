@@ -1,0 +1,4 @@
+-- Demand 3.
+pub mod Grid
+pub mod Demand
+pub mod Samples
