@@ -55,7 +55,7 @@ unfolding ofBits
 zero-at a = record { sign = false; size = 0; value = (refl, refl); units = omega arith }
 
 -- ---- tests
-choose-at : (b c : Bool) (x y : Float) (p q n : ℕ) → b ≡ c → (T c → At x p n) → (T (not c) → At y q n) → At (choose b x y) (cond c p q) n
+pub choose-at : (b c : Bool) (x y : Float) (p q n : ℕ) → b ≡ c → (T c → At x p n) → (T (not c) → At y q n) → At (choose b x y) (cond c p q) n
 unfolding choose
 choose-at b c x y p q n e f g = subst (λ (u : Bool). At (choose u x y) (cond c p q) n) (sym e) (go c f g)
   where

@@ -7,4 +7,8 @@ pub mod Readings
 pub mod Courses
 pub mod Starts
 pub mod OverList
+pub mod Cells
+pub mod Blocks
+pub mod Areas
+pub mod Through
 pub mod Samples

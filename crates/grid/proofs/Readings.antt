@@ -174,12 +174,12 @@ knowns (f ∷ fs) b t =
 pub record Lead (d : Float) (s : Span) (most : ℕ) : Type 0 where
   pub goal : ℕ
   pub leads : Leads d s goal
-  pub read : Read d
-  pub is : goal + read .minus ≡ s .lo + read .plus
+  pub low : s .lo ≤ goal + most
+  pub high : goal ≤ s .lo + most
 
 pub lead : (d limit : Float) (L : ℕ) → L ≤ 2 ^ 38 → At limit L 0 → T (onGrid d) → T (isWithin d limit) → (s : Span) → s .lo < s .hi → base ≤ s .lo + 2 ^ 38 → s .hi ≤ base + 2 ^ 38 → Lead d s L
 lead d limit L small H G W s thick deep room =
     let r = read d G in
     let rs : r .plus + r .minus ≤ L = within-units d limit L H W r in
     let g = s .lo + r .plus - r .minus in
-    record { goal = g; leads = record { at = at-same (r .plus) (r .minus) g (s .lo) (omega arith) (r .at); within = omega arith }; read = r; is = omega arith }
+    record { goal = g; leads = record { at = at-same (r .plus) (r .minus) g (s .lo) (omega arith) (r .at); within = omega arith }; low = omega arith; high = omega arith }

@@ -5,10 +5,13 @@
 use mathlib.Core.Path.{_≡_}
 use mathlib.Core.Bool.{Bool, false, not, _&&_, _||_}
 use mathlib.Core.List.{List, List·Memᴰ}
+use Prim.Native.Nat.{ℕ}
 use lib.Dec.{T}
-use lib.IntN.{negsuc}
-use lib.Ieee.{Float, fin, binary64, add, sub, lt, le, eq}
+use lib.IntN.{pos, negsuc, _+ℤ_}
+use lib.Ieee.{Float, fin, binary64, ofBits, add, sub, lt, le, eq}
 use Rattle.base.specs.Choose.{choose}
+use Rattle.base.specs.Ask.{Ask, refused, found}
+use Rattle.base.specs.Every.{every}
 use Rattle.floats.specs.Numbers.{zero64}
 use Rattle.boxes.specs.declared.Vec3.{Vec3}
 use Rattle.boxes.specs.declared.Aabb.{Aabb}
@@ -20,6 +23,14 @@ use Rattle.boxes.specs.Boxes.{vec, offsetBy, overlap}
 use Rattle.boxes.specs.Lists.{listOf}
 use Rattle.boxes.specs.Move.{clipSequence, steppedUp, flatSquare, triesStep}
 use Rattle.boxes.specs.Entry.{moveOverList}
+use Rattle.cover.specs.Cover.{boxCount}
+use Rattle.tables.specs.Tables.{boxAt}
+use Rattle.window.specs.declared.Pos.{Pos}
+use Rattle.window.specs.declared.Window.{Window}
+use Rattle.window.specs.Look.{lookAt}
+use Rattle.moves.specs.Collect.{one64, toAabb, collectBlockBoxes}
+use Rattle.moves.specs.Settled.{settledBoxes}
+use Rattle.moves.specs.Answers.{sweptArea, moveEntry}
 use Rattle.grid.specs.Grid.{onGrid, vecOnGrid, isProper, areProper, isFree}
 
 -- ---- what is demanded
@@ -92,3 +103,53 @@ ListDemand =
     → moveOverList list aabb delta stepHeight wasOnGround .refusal ≡ 0
     → Demand3 (λ b. List·Memᴰ b (listOf list)) (keepsStep (listOf list) aabb delta stepHeight wasOnGround) aabb delta
     (moveOverList list aabb delta stepHeight wasOnGround .result)
+
+-- ---- a move through a window: the block boxes are those of every cell whose shape the look-up settles without leaving the window
+
+pub record IsSettled (records : List ℕ) (shapes : List Float) (cells : List ℕ) (w : Window) (b : Aabb) : Type 0 where
+  pub cell : Pos
+  pub is : List·Memᴰ b (settledBoxes (lookAt cells w) records shapes cell)
+
+-- 1.5
+abbrev pub cellAndHalf : Float
+cellAndHalf = ofBits binary64 4609434218613702656
+
+-- "inside their cell or up to half a block above it"
+abbrev pub isInCell : Aabb → Bool
+isInCell b =
+    (le zero64 (b .min .x) && (le zero64 (b .min .y) && le zero64 (b .min .z)))
+    && (le (b .max .x) one64 && (le (b .max .y) cellAndHalf && le (b .max .z) one64))
+
+-- every box of the lent shapes
+unfoldable pub shapesOnGrid : List Float → Bool
+shapesOnGrid shapes = every (boxCount shapes) (λ k. isProper (toAabb (boxAt shapes k)) && isInCell (toAabb (boxAt shapes k)))
+
+-- the cell of the window that lies so far from its origin
+abbrev pub cellFrom : Window → ℕ → ℕ → ℕ → Pos
+cellFrom w x y z = record { x = w .origin .x +ℤ pos x; y = w .origin .y +ℤ pos y; z = w .origin .z +ℤ pos z }
+
+-- no overlap with the boxes of any cell of the window; no other cell is settled
+unfoldable pub isFreeIn : List ℕ → List Float → List ℕ → Window → Aabb → Bool
+isFreeIn records shapes cells w a =
+    every (w .sizes .y) (λ y. every (w .sizes .x) (λ x. every (w .sizes .z) (λ z. isFree a (settledBoxes (lookAt cells w) records shapes (cellFrom w x y z)))))
+
+unfoldable pub windowOnGrid : List ℕ → List Float → List ℕ → Window → Aabb → Vec3 → Float → Bool
+windowOnGrid records shapes cells w aabb delta stepHeight =
+    isProper aabb && (shapesOnGrid shapes && (vecOnGrid delta && (onGrid stepHeight && isFreeIn records shapes cells w aabb)))
+
+-- a step-up is kept, among the boxes that the move collects
+abbrev pub keepsAmong : Ask (List Aabb) → Aabb → Vec3 → Float → Bool → Bool
+keepsAmong (refused n) aabb delta stepHeight wasOnGround = false
+keepsAmong (found boxes) aabb delta stepHeight wasOnGround = keepsStep boxes aabb delta stepHeight wasOnGround
+
+unfoldable pub keepsStepIn : List ℕ → List Float → List ℕ → Window → Aabb → Vec3 → Float → Bool → Bool
+keepsStepIn records shapes cells w aabb delta stepHeight wasOnGround =
+    keepsAmong (collectBlockBoxes (lookAt cells w) records shapes (sweptArea aabb delta stepHeight)) aabb delta stepHeight wasOnGround
+
+abbrev pub WindowDemand : Type 0
+WindowDemand =
+    (records : List ℕ) (shapes : List Float) (cells : List ℕ) (w : Window) (aabb : Aabb) (delta : Vec3) (stepHeight : Float) (wasOnGround : Bool)
+    → T (windowOnGrid records shapes cells w aabb delta stepHeight)
+    → moveEntry records shapes cells w aabb delta stepHeight wasOnGround .refusal ≡ 0
+    → Demand3 (IsSettled records shapes cells w) (keepsStepIn records shapes cells w aabb delta stepHeight wasOnGround) aabb delta
+    (moveEntry records shapes cells w aabb delta stepHeight wasOnGround .result)
