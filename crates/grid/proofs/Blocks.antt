@@ -3,16 +3,15 @@ use mathlib.Core.Path.{_≡_, refl, sym, ap, _∙_, subst}
 use mathlib.Core.Logic.{_⊎_, inl, inr}
 use mathlib.Core.Bool.{Bool, true, false, not, _&&_, false≢true}
 use mathlib.Core.List.{List, [], _∷_, List·Memᴰ, List·Memᴰ·cases-cons}
-use Prim.Native.Nat.{ℕ, zero, suc, _+_, _-_, _*_, _/_, _^_, _≤_, _<_, min}
+use Prim.Native.Nat.{ℕ, zero, suc, _+_, _-_, _*_, _/_, _%_, _^_, _≤_, _<_}
 use native.Mathlib.Omega.{arith}
 use lib.IntN.{ℤ, pos, negsuc, natAbs, _+ℤ_, _-ℤ_, +ℤ-comm, -ℤ-+ℤ-cancel}
 use lib.Signed.{leZ, ltZ}
-use lib.Dec.{T, ltb, leb, eqb, ltb→lt, leb→le}
-use lib.ListN.{length, getD, take, drop, length-take, length-drop}
-use lib.Seq.{getD-take, getD-drop}
+use lib.Dec.{T, ltb, leb, eqb, ltb→lt, leb→le, nltb→le}
+use lib.ListN.{length, take, drop, List·getD-eq-default}
 use lib.Ieee.{Float, binary64, ofBits, ofInt, add, lt, le}
 use lib.Ieee.Fits.{and-l, and-r}
-use borrow.Author.Tests.{ltb-true, leb-true}
+use borrow.Author.Tests.{ltb-true, leb-true, eqb-true}
 use Rattle.base.specs.Choose.{choose}
 use Rattle.base.specs.Loop.{listed}
 use Rattle.base.specs.Ask.{Ask, refused, found, _>>=_}
@@ -22,18 +21,19 @@ use Rattle.floats.specs.Numbers.{zero64}
 use Rattle.boxes.specs.declared.Aabb.{Aabb}
 use Rattle.boxes.specs.Boxes.{offsetBy}
 use Rattle.cover.specs.Cover.{boxCount}
-use Rattle.tables.specs.declared.ShapeBox.{ShapeBox}
-use Rattle.tables.specs.Tables.{boxesAt, boxAt}
+use Rattle.tables.specs.Tables.{wordAt, isRegistered, boxesAt, stateBoxes, boxAt}
+use Rattle.tables.specs.Check.{stateCount, countsFit, recordFits, boxFits, tablesFit}
 use Rattle.window.specs.declared.Pos.{Pos}
 use Rattle.window.specs.declared.Window.{Window}
 use Rattle.window.specs.Window.{within, inside, sizeFits, sizesFit, coordinateFits, originFits, windowFits}
-use Rattle.window.specs.Look.{Block, lookAt}
+use Rattle.window.specs.Look.{Block, none, some, lookAt}
 use Rattle.window.proofs.Offsets.{within-by}
 use Rattle.window.proofs.Cells.{is-inside, found-inside}
-use Rattle.moves.specs.Collect.{CellShape, cube, boxes, originOf, one64, cubeAt, toAabb, aabbsOf, shapeAabbs, shapeOf, cellShape}
+use Rattle.connect.specs.Connect.{connectedState}
+use Rattle.moves.specs.Collect.{CellShape, cube, boxes, originOf, one64, cubeAt, toAabb, aabbsOf, shapeAabbs, connectedShape, shapeOf, cellShape}
 use Rattle.moves.specs.Settled.{settled, settledBoxes}
 use Rattle.grid.specs.Grid.{onGrid, isProper}
-use Rattle.grid.specs.Demand.{cellAndHalf, isInCell, shapesOnGrid}
+use Rattle.grid.specs.Demand.{cellAndHalf, isInCell, shapeOnGrid, shapesOnGrid}
 use Rattle.grid.proofs.Units.{At, add-at, at-same, le-at, lt-at}
 use Rattle.grid.proofs.Axis.{Span}
 use Rattle.grid.proofs.Whole.{Box, Solid}
@@ -168,7 +168,7 @@ module _ {w : Window} {p : Pos} (i : InWindow w p) where
         z = shape-side (b .min .z) (b .max .z) (ofInt binary64 (p .z)) one64 (i .z .number) 4096 (i .z .small) (omega arith) one-at (origin-on (i .z)) (g .low .z) (g .high .z) (g .solid .z) (l .z) (h .z);
       }
 
--- ---- the boxes of a part of the shapes are boxes of the shapes
+-- ---- a box of a list is one of its numbers
 record Listed {A : Type 0} (a : A) (f : ℕ → A) (n i : ℕ) : Type 0 where
   at : ℕ
   below : at < n
@@ -182,77 +182,111 @@ in-listed a f (suc n) i m = go (List·Memᴰ·cases-cons m) (λ r. in-listed a f
     go (inl e) rest = record { at = 0; below = omega arith; is = e ∙ ap f (let z : i ≡ i + 0 = omega arith in z) }
     go (inr r) rest = let l = rest r in record { at = suc (l .at); below = (let z : l .at < n = l .below in omega arith); is = l .is ∙ ap f (let z : i + 1 + l .at ≡ i + suc (l .at) = omega arith in z) }
 
-record Lent (shapes : List Float) (b : ShapeBox) : Type 0 where
-  at : ℕ
-  below : at < boxCount shapes
-  is : b ≡ boxAt shapes at
+-- ---- what stands in a cell that is settled: a cube, the boxes of a state, or nothing
+data Shaped (records : List ℕ) (shape : CellShape) : Type 0 where
+  full : shape ≡ cube → Shaped records shape
+  ofState : (state : ℕ) → shape ≡ boxes (wordAt records state 7) (wordAt records state 8) → Shaped records shape
+  bare : shape ≡ boxes 0 0 → Shaped records shape
 
-box-same : (a b : List Float) (i j : ℕ) → ((c : ℕ) → c < 6 → getD a (i * 6 + c) zero64 ≡ getD b (j * 6 + c) zero64) → boxAt a i ≡ boxAt b j
-box-same a b i j h =
-    let z : i * 6 ≡ i * 6 + 0 = omega arith in
-    let y : j * 6 + 0 ≡ j * 6 = omega arith in
-    let h0 : getD a (i * 6) zero64 ≡ getD b (j * 6) zero64 = ap (λ (k : ℕ). getD a k zero64) z ∙ h 0 (omega arith) ∙ ap (λ (k : ℕ). getD b k zero64) y in
-    let h1 = h 1 (omega arith) in
-    let h2 = h 2 (omega arith) in
-    let h3 = h 3 (omega arith) in
-    let h4 = h 4 (omega arith) in
-    let h5 = h 5 (omega arith) in
-    λ k. record { x0 = h0 k; y0 = h1 k; z0 = h2 k; x1 = h3 k; y1 = h4 k; z1 = h5 k }
+no : {A : Type 0} → _≡_ {A = ℕ} 0 1 → A
+no e = absurd (omega arith)
 
-lent : (shapes : List Float) (first count k : ℕ) → k < boxCount (boxesAt shapes first count) → Lent shapes (boxAt (boxesAt shapes first count) k)
-unfolding boxesAt choose
-lent shapes first count k h = go (leb (first + count) (boxCount shapes)) (leb→le (first + count) (boxCount shapes)) h
+shaped : (look : Pos → Ask Block) (records : List ℕ) (p : Pos) (shape : CellShape) → cellShape look records p ≡ found shape → Shaped records shape
+unfolding cellShape shapeOf connectedShape choose
+shaped look records p shape e = go (look p) e
   where
-    go : (t : Bool) → (T t → first + count ≤ boxCount shapes) → k < boxCount (choose t (take (count * 6) (drop (first * 6) shapes)) []) → Lent shapes (boxAt (choose t (take (count * 6) (drop (first * 6) shapes)) []) k)
-    go true f h =
-        let l : first + count ≤ length shapes / 6 = f tt in
-        let part = take (count * 6) (drop (first * 6) shapes) in
-        let n : length part ≡ min (count * 6) (length (drop (first * 6) shapes)) = length-take (count * 6) (drop (first * 6) shapes) in
-        let K : k < length part / 6 = h in
-        record {
-          at = first + k;
-          below = omega arith;
-          is = box-same part shapes k (first + k) (λ c C.
-              getD-take (count * 6) (drop (first * 6) shapes) (k * 6 + c) zero64 (omega arith)
-              ∙ getD-drop (first * 6) shapes (k * 6 + c) zero64
-              ∙ ap (λ (i : ℕ). getD shapes i zero64) (let z : first * 6 + (k * 6 + c) ≡ (first + k) * 6 + c = omega arith in z));
-        }
-    go false f h = absurd (let K : k < 0 = h in omega arith)
+    state-at : (m : Ask ℕ) → (m >>= (λ state. found (boxes (wordAt records state 7) (wordAt records state 8)))) ≡ found shape → Shaped records shape
+    state-at (refused k) e = no cc
+    state-at (found state) e = let q : shape ≡ boxes (wordAt records state 7) (wordAt records state 8) = cc in ofState state q
 
--- ---- what stands in a cell that is settled
+    some-at : (t : Bool) (id : ℕ)
+        → choose t (connectedState look records p id >>= (λ state. found (boxes (wordAt records state 7) (wordAt records state 8)))) (found (boxes 0 0)) ≡ found shape → Shaped records shape
+    some-at true id e = state-at (connectedState look records p id) e
+    some-at false id e = let q : shape ≡ boxes 0 0 = cc in bare q
+
+    go : (m : Ask Block) → (m >>= shapeOf look records p) ≡ found shape → Shaped records shape
+    go (refused k) e = no cc
+    go (found none) e = let q : shape ≡ cube = cc in full q
+    go (found (some id)) e = some-at (isRegistered records id) id e
+
 cell-inside : (cells : List ℕ) (w : Window) (records : List ℕ) (p : Pos) (shape : CellShape) → cellShape (lookAt cells w) records p ≡ found shape → inside w p ≡ true
 unfolding cellShape
 cell-inside cells w records p shape e = go (lookAt cells w p) refl e
   where
     go : (m : Ask Block) → lookAt cells w p ≡ m → (m >>= shapeOf (lookAt cells w) records p) ≡ found shape → inside w p ≡ true
-    go (refused k) l e = absurd (let z : _≡_ {A = ℕ} 0 1 = cc in (let n : ⊥ = omega arith in n))
+    go (refused k) l e = no cc
     go (found b) l e = found-inside cells w p b l
+
+-- no boxes are none, and a state without a record has none
+no-part : (shapes : List Float) (first : ℕ) → boxesAt shapes first 0 ≡ []
+unfolding boxesAt choose
+no-part shapes first = go (leb (first + 0) (boxCount shapes))
+  where
+    go : (t : Bool) → choose t (take (0 * 6) (drop (first * 6) shapes)) [] ≡ []
+    go true = refl
+    go false = refl
+
+whole-records : (records : List ℕ) (shapes : List Float) → tablesFit records shapes ≡ true → length records % 20 ≡ 0
+unfolding tablesFit countsFit
+whole-records records shapes e =
+    let counts = countsFit records shapes in
+    let a = both (counts && every (stateCount records) (recordFits records shapes)) (every (boxCount shapes) (boxFits shapes)) e in
+    let b = both counts (every (stateCount records) (recordFits records shapes)) (a .one) in
+    let c4 = both (eqb (length records % 20) 0 && eqb (length shapes % 6) 0 && leb 1 (stateCount records) && leb (stateCount records) 4096) (leb (boxCount shapes) 16384) (b .one) in
+    let c3 = both (eqb (length records % 20) 0 && eqb (length shapes % 6) 0 && leb 1 (stateCount records)) (leb (stateCount records) 4096) (c4 .one) in
+    let c2 = both (eqb (length records % 20) 0 && eqb (length shapes % 6) 0) (leb 1 (stateCount records)) (c3 .one) in
+    eqb-true (length records % 20) 0 (both (eqb (length records % 20) 0) (eqb (length shapes % 6) 0) (c2 .one) .one)
+
+no-record : (records : List ℕ) (state k : ℕ) → length records % 20 ≡ 0 → stateCount records ≤ state → wordAt records state k ≡ 0
+no-record records state k h l = List·getD-eq-default records 0 {n = state * 20 + k} (omega arith)
 
 pub record Settled (w : Window) (p : Pos) (b : Aabb) : Type 0 where
   pub place : InWindow w p
   pub box : InCells p b (place .x .number) (place .y .number) (place .z .number)
 
-module _ (records : List ℕ) (shapes : List Float) (cells : List ℕ) (w : Window) (W : windowFits (length cells) w ≡ true) (G : T (shapesOnGrid shapes)) where
-  lent-in : {p : Pos} (i : InWindow w p) (b : ShapeBox) → Lent shapes b → InCells p (offsetBy (toAabb b) (originOf p)) (i .x .number) (i .y .number) (i .z .number)
-  unfolding shapesOnGrid
-  lent-in {p} i b l =
-      let t = every-at (boxCount shapes) (λ k. isProper (toAabb (boxAt shapes k)) && isInCell (toAabb (boxAt shapes k))) (T-true (shapesOnGrid shapes) G) (l .at) (l .below) in
-      subst (λ (s : ShapeBox). InCells p (offsetBy (toAabb s) (originOf p)) (i .x .number) (i .y .number) (i .z .number)) (sym (l .is)) (shape-in i (toAabb (boxAt shapes (l .at))) (subst T (sym t) tt))
+module _ (records : List ℕ) (shapes : List Float) (cells : List ℕ) (w : Window) (R : tablesFit records shapes ≡ true) (W : windowFits (length cells) w ≡ true) (G : T (shapesOnGrid records shapes)) where
+  module _ (p : Pos) (b : Aabb) (i : InWindow w p) where
+    abbrev Here : Aabb → Type 0
+    Here u = InCells p u (i .x .number) (i .y .number) (i .z .number)
+
+    part-in : (part : List Float) → shapeOnGrid part ≡ true → List·Memᴰ b (shapeAabbs part p) → Here b
+    unfolding shapeOnGrid
+    part-in part g m =
+        let l = in-listed b (λ k. offsetBy (toAabb (boxAt part k)) (originOf p)) (boxCount part) 0 m in
+        let n : l .at < boxCount part = l .below in
+        let t = every-at (boxCount part) (λ k. isProper (toAabb (boxAt part k)) && isInCell (toAabb (boxAt part k))) g (0 + l .at) (omega arith) in
+        subst Here (sym (l .is)) (shape-in i (toAabb (boxAt part (0 + l .at))) (subst T (sym t) tt))
+
+    empty : (part : List Float) → part ≡ [] → List·Memᴰ b (shapeAabbs part p) → Here b
+    empty part e m =
+        let l = in-listed b (λ k. offsetBy (toAabb (boxAt part k)) (originOf p)) (boxCount part) 0 m in
+        let n : l .at < boxCount part = l .below in
+        let z : boxCount part ≡ 0 = ap boxCount e in
+        absurd (omega arith)
+
+    state-in : (state : ℕ) → List·Memᴰ b (shapeAabbs (stateBoxes records shapes state) p) → Here b
+    unfolding shapesOnGrid
+    state-in state m = go (ltb state (stateCount records)) (ltb→lt state (stateCount records)) (nltb→le state (stateCount records))
+      where
+        go : (t : Bool) → (T t → state < stateCount records) → (T (not t) → stateCount records ≤ state) → Here b
+        go true f f' = part-in (stateBoxes records shapes state) (every-at (stateCount records) (λ state. shapeOnGrid (stateBoxes records shapes state)) (T-true (shapesOnGrid records shapes) G) state (f tt)) m
+        go false f f' =
+            empty (stateBoxes records shapes state)
+            (ap (λ (n : ℕ). boxesAt shapes (wordAt records state 7) n) (no-record records state 8 (whole-records records shapes R) (f' tt)) ∙ no-part shapes (wordAt records state 7)) m
+
+    shape-at : (shape : CellShape) → Shaped records shape → List·Memᴰ b (aabbsOf shapes p shape) → Here b
+    shape-at shape (full e) m = go (List·Memᴰ·cases-cons (subst (λ (q : CellShape). List·Memᴰ b (aabbsOf shapes p q)) e m))
+      where
+        go : (b ≡ cubeAt p) ⊎ List·Memᴰ b [] → Here b
+        go (inl e) = subst Here (sym e) (cube-in i)
+    shape-at shape (ofState state e) m = state-in state (subst (λ (q : CellShape). List·Memᴰ b (aabbsOf shapes p q)) e m)
+    shape-at shape (bare e) m = empty (boxesAt shapes 0 0) (no-part shapes 0) (subst (λ (q : CellShape). List·Memᴰ b (aabbsOf shapes p q)) e m)
 
   pub block : (p : Pos) (b : Aabb) → List·Memᴰ b (settledBoxes (lookAt cells w) records shapes p) → Settled w p b
   unfolding settledBoxes
   block p b m = go (cellShape (lookAt cells w) records p) refl m
     where
-      at : (shape : CellShape) (i : InWindow w p) → List·Memᴰ b (aabbsOf shapes p shape) → InCells p b (i .x .number) (i .y .number) (i .z .number)
-      at cube i m = one (List·Memᴰ·cases-cons m)
-        where
-          one : (b ≡ cubeAt p) ⊎ List·Memᴰ b [] → InCells p b (i .x .number) (i .y .number) (i .z .number)
-          one (inl e) = subst (λ (u : Aabb). InCells p u (i .x .number) (i .y .number) (i .z .number)) (sym e) (cube-in i)
-      at (boxes first count) i m =
-          let part = boxesAt shapes first count in
-          let l = in-listed b (λ k. offsetBy (toAabb (boxAt part k)) (originOf p)) (boxCount part) 0 m in
-          let n : l .at < boxCount part = l .below in
-          subst (λ (u : Aabb). InCells p u (i .x .number) (i .y .number) (i .z .number)) (sym (l .is)) (lent-in i (boxAt part (0 + l .at)) (lent shapes first count (0 + l .at) (omega arith)))
-
       go : (m : Ask CellShape) → cellShape (lookAt cells w) records p ≡ m → List·Memᴰ b (settled shapes p m) → Settled w p b
-      go (found shape) e m = let i = in-window (length cells) w p W (cell-inside cells w records p shape e) in record { place = i; box = at shape i m }
+      go (found shape) e m =
+          let i = in-window (length cells) w p W (cell-inside cells w records p shape e) in
+          record { place = i; box = shape-at p b i shape (shaped (lookAt cells w) records p shape e) m }

@@ -21,7 +21,7 @@ use Rattle.boxes.specs.declared.MoveAnswer.{MoveAnswer}
 use Rattle.boxes.specs.Boxes.{overlap}
 use Rattle.boxes.specs.Move.{moveOver}
 use Rattle.boxes.specs.Limits.{isBox, isDelta, isStep}
-use Rattle.tables.specs.Check.{tableRefusal}
+use Rattle.tables.specs.Check.{tablesFit, tableRefusal}
 use Rattle.window.specs.declared.Pos.{Pos}
 use Rattle.window.specs.declared.Window.{Window}
 use Rattle.window.specs.Window.{windowFits, windowRefusal}
@@ -132,7 +132,7 @@ turned a b o = record { x = flip (o .x); y = flip (o .y); z = flip (o .z) }
     flip : {s t : Span} → Meets s t → Meets t s
     flip m = record { under = m .over; over = m .under }
 
-module _ (records : List ℕ) (shapes : List Float) (cells : List ℕ) (w : Window) (W : windowFits (length cells) w ≡ true) (G : T (shapesOnGrid shapes))
+module _ (records : List ℕ) (shapes : List Float) (cells : List ℕ) (w : Window) (R : tablesFit records shapes ≡ true) (W : windowFits (length cells) w ≡ true) (G : T (shapesOnGrid records shapes))
     (m : Aabb) (d : Vec3) (h : Float) (s : Start m d h) (bs : List Aabb) (C : collectBlockBoxes (lookAt cells w) records shapes (sweptArea m d h) ≡ found bs) where
   -- what was collected is a box of a settled cell
   back : (o : Aabb) → List·Memᴰ o bs → IsSettled records shapes cells w o
@@ -174,9 +174,9 @@ module _ (records : List ℕ) (shapes : List Float) (cells : List ℕ) (w : Wind
   seen o c = go (overlap o (sweptArea m d h)) refl
     where
       go : (t : Bool) → overlap o (sweptArea m d h) ≡ t → List·Memᴰ o bs ⊎ Aside (areaOf s) o
-      go true e = inl (collected o (c .cell) (c .is) (block records shapes cells w W G (c .cell) o (c .is)) e)
+      go true e = inl (collected o (c .cell) (c .is) (block records shapes cells w R W G (c .cell) o (c .is)) e)
       go false e =
-          let k = box-known (block records shapes cells w W G (c .cell) o (c .is) .box) in
+          let k = box-known (block records shapes cells w R W G (c .cell) o (c .is) .box) in
           inr record {
             box = k .box;
             on = k .on;
@@ -184,13 +184,13 @@ module _ (records : List ℕ) (shapes : List Float) (cells : List ℕ) (w : Wind
           }
 
   known : (o : Aabb) → List·Memᴰ o bs → Known o
-  known o n = let c = back o n in box-known (block records shapes cells w W G (c .cell) o (c .is) .box)
+  known o n = let c = back o n in box-known (block records shapes cells w R W G (c .cell) o (c .is) .box)
 
   -- no overlap at the start
   start-clear : T (isFreeIn records shapes cells w m) → (o : Aabb) → IsSettled records shapes cells w o → T (not (overlap m o))
   unfolding isFreeIn
   start-clear t o c =
-      let i = block records shapes cells w W G (c .cell) o (c .is) .place in
+      let i = block records shapes cells w R W G (c .cell) o (c .is) .place in
       let at = settledBoxes (lookAt cells w) records shapes in
       let ly = every-at (w .sizes .y) (λ y. every (w .sizes .x) (λ x. every (w .sizes .z) (λ z. isFree m (at (cellFrom w x y z))))) (T-true (isFreeIn records shapes cells w m) t) (i .y .index) (i .y .below) in
       let lx = every-at (w .sizes .x) (λ x. every (w .sizes .z) (λ z. isFree m (at (cellFrom w x (i .y .index) z)))) ly (i .x .index) (i .x .below) in
@@ -211,7 +211,8 @@ abbrev answerTo : Bool → Bool → Bool → Bool → Ask (List Aabb) → Aabb �
 answerTo t u v x c m d h ground =
     moveAnswer m (choose t (refused 1) (choose u (refused 2) (choose v (refused 3) (choose x (refused 4) (c >>= (λ boxes. found (moveOver boxes m d h ground)))))))
 
-record Accepted (u v x : Bool) (c : Ask (List Aabb)) (m : Aabb) (d : Vec3) (h : Float) (ground : Bool) (r : MoveAnswer) : Type 0 where
+record Accepted (t u v x : Bool) (c : Ask (List Aabb)) (m : Aabb) (d : Vec3) (h : Float) (ground : Bool) (r : MoveAnswer) : Type 0 where
+  one : t ≡ false
   two : u ≡ false
   three : v ≡ false
   four : x ≡ false
@@ -220,7 +221,7 @@ record Accepted (u v x : Bool) (c : Ask (List Aabb)) (m : Aabb) (d : Vec3) (h : 
   result : r .result ≡ moveOver boxes m d h ground
 
 accepted : (t u v x : Bool) (c : Ask (List Aabb)) (m : Aabb) (d : Vec3) (h : Float) (ground : Bool) → ((n : ℕ) → c ≡ refused n → FiveOrSix n)
-    → answerTo t u v x c m d h ground .refusal ≡ 0 → Accepted u v x c m d h ground (answerTo t u v x c m d h ground)
+    → answerTo t u v x c m d h ground .refusal ≡ 0 → Accepted t u v x c m d h ground (answerTo t u v x c m d h ground)
 unfolding choose
 accepted true u v x c m d h ground f e = absurd (omega arith)
 accepted false true v x c m d h ground f e = absurd (omega arith)
@@ -231,11 +232,16 @@ accepted false false false false (refused n) m d h ground f e = absurd (never (f
     never : FiveOrSix n → ⊥
     never (inl z) = omega arith
     never (inr z) = omega arith
-accepted false false false false (found bs) m d h ground f e = record { two = refl; three = refl; four = refl; boxes = bs; collects = refl; result = refl }
+accepted false false false false (found bs) m d h ground f e = record { one = refl; two = refl; three = refl; four = refl; boxes = bs; collects = refl; result = refl }
 
 no-not : (b : Bool) → not b ≡ false → T b
 no-not true e = tt
 no-not false e = absurd (subst T e tt)
+
+fitted : (b : Bool) → not (eqb (choose b 0 1) 0) ≡ false → b ≡ true
+unfolding choose
+fitted true e = refl
+fitted false e = absurd (subst T e tt)
 
 pub demand3-window : WindowDemand
 unfolding moveEntry moveAabb windowOnGrid keepsStepIn
@@ -245,13 +251,14 @@ demand3-window records shapes cells w m d h ground t e =
         (collect-refuses cells w records shapes (sweptArea m d h) .only) e in
     let bs = a .boxes in
     let W = N.accepted (length cells) w (eqb→eq (windowRefusal (length cells) w) 0 (no-not (eqb (windowRefusal (length cells) w) 0) (a .two))) in
+    let R = fitted (tablesFit records shapes) (a .one) in
     let bd = no-not (isBox m && isDelta d) (a .four) in
-    let t1 = and-r (isProper m) (shapesOnGrid shapes && (vecOnGrid d && (onGrid h && isFreeIn records shapes cells w m))) t in
-    let t2 = and-r (shapesOnGrid shapes) (vecOnGrid d && (onGrid h && isFreeIn records shapes cells w m)) t1 in
+    let t1 = and-r (isProper m) (shapesOnGrid records shapes && (vecOnGrid d && (onGrid h && isFreeIn records shapes cells w m))) t in
+    let t2 = and-r (shapesOnGrid records shapes) (vecOnGrid d && (onGrid h && isFreeIn records shapes cells w m)) t1 in
     let t3 = and-r (vecOnGrid d) (onGrid h && isFreeIn records shapes cells w m) t2 in
-    let s : Start m d h = start m d h (and-l (isBox m) (isDelta d) bd) (and-l (isProper m) (shapesOnGrid shapes && (vecOnGrid d && (onGrid h && isFreeIn records shapes cells w m))) t)
+    let s : Start m d h = start m d h (and-l (isBox m) (isDelta d) bd) (and-l (isProper m) (shapesOnGrid records shapes && (vecOnGrid d && (onGrid h && isFreeIn records shapes cells w m))) t)
         (and-r (isBox m) (isDelta d) bd) (and-l (vecOnGrid d) (onGrid h && isFreeIn records shapes cells w m) t2) (no-not (isStep h) (a .three)) (and-l (onGrid h) (isFreeIn records shapes cells w m) t3) in
-    let r = through records shapes cells w W (and-l (shapesOnGrid shapes) (vecOnGrid d && (onGrid h && isFreeIn records shapes cells w m)) t1) m d h s bs (a .collects) (and-r (onGrid h) (isFreeIn records shapes cells w m) t3) ground in
+    let r = through records shapes cells w R W (and-l (shapesOnGrid records shapes) (vecOnGrid d && (onGrid h && isFreeIn records shapes cells w m)) t1) m d h s bs (a .collects) (and-r (onGrid h) (isFreeIn records shapes cells w m) t3) ground in
     let k : keepsAmong c m d h ground ≡ keepsStep bs m d h ground = ap (λ (x : Ask (List Aabb)). keepsAmong x m d h ground) (a .collects) in
     subst (λ (q : MoveResult). Demand3 (IsSettled records shapes cells w) (keepsAmong c m d h ground) m d q) (sym (a .result))
     (subst (λ (q : Bool). Demand3 (IsSettled records shapes cells w) q m d (moveOver bs m d h ground)) (sym k) r)

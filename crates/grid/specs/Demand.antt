@@ -24,7 +24,8 @@ use Rattle.boxes.specs.Lists.{listOf}
 use Rattle.boxes.specs.Move.{clipSequence, steppedUp, flatSquare, triesStep}
 use Rattle.boxes.specs.Entry.{moveOverList}
 use Rattle.cover.specs.Cover.{boxCount}
-use Rattle.tables.specs.Tables.{boxAt}
+use Rattle.tables.specs.Tables.{stateBoxes, boxAt}
+use Rattle.tables.specs.Check.{stateCount}
 use Rattle.window.specs.declared.Pos.{Pos}
 use Rattle.window.specs.declared.Window.{Window}
 use Rattle.window.specs.Look.{lookAt}
@@ -120,9 +121,12 @@ isInCell b =
     (le zero64 (b .min .x) && (le zero64 (b .min .y) && le zero64 (b .min .z)))
     && (le (b .max .x) one64 && (le (b .max .y) cellAndHalf && le (b .max .z) one64))
 
--- every box of the lent shapes
-unfoldable pub shapesOnGrid : List Float → Bool
-shapesOnGrid shapes = every (boxCount shapes) (λ k. isProper (toAabb (boxAt shapes k)) && isInCell (toAabb (boxAt shapes k)))
+-- every box of a shape, and the shapes of all states
+unfoldable pub shapeOnGrid : List Float → Bool
+shapeOnGrid shape = every (boxCount shape) (λ k. isProper (toAabb (boxAt shape k)) && isInCell (toAabb (boxAt shape k)))
+
+unfoldable pub shapesOnGrid : List ℕ → List Float → Bool
+shapesOnGrid records shapes = every (stateCount records) (λ state. shapeOnGrid (stateBoxes records shapes state))
 
 -- the cell of the window that lies so far from its origin
 abbrev pub cellFrom : Window → ℕ → ℕ → ℕ → Pos
@@ -135,7 +139,7 @@ isFreeIn records shapes cells w a =
 
 unfoldable pub windowOnGrid : List ℕ → List Float → List ℕ → Window → Aabb → Vec3 → Float → Bool
 windowOnGrid records shapes cells w aabb delta stepHeight =
-    isProper aabb && (shapesOnGrid shapes && (vecOnGrid delta && (onGrid stepHeight && isFreeIn records shapes cells w aabb)))
+    isProper aabb && (shapesOnGrid records shapes && (vecOnGrid delta && (onGrid stepHeight && isFreeIn records shapes cells w aabb)))
 
 -- a step-up is kept, among the boxes that the move collects
 abbrev pub keepsAmong : Ask (List Aabb) → Aabb → Vec3 → Float → Bool → Bool
