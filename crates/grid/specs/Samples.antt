@@ -1,16 +1,16 @@
--- Moves that meet the premises of demand 3: document 01's P1 and P4, as moves over a list.
-use mathlib.Core.Bool.{Bool, true, false, _&&_}
+-- Moves that meet the premises of demand 3: document 01's P1 and P4, over a list and through a window.
+use mathlib.Core.Bool.{Bool, true, false}
 use mathlib.Core.List.{List, [], _∷_}
 use Prim.Native.Nat.{ℕ}
-use lib.Dec.{eqb}
+use lib.IntN.{pos, negsuc}
 use lib.ListN.{length}
-use lib.Ieee.{Float, binary64, round, neg}
+use lib.Ieee.{Float, binary32, binary64, ofBits, round, neg}
 use Rattle.boxes.specs.declared.Vec3.{Vec3}
 use Rattle.boxes.specs.declared.Aabb.{Aabb}
 use Rattle.boxes.specs.declared.BoxList.{BoxList}
 use Rattle.boxes.specs.Boxes.{vec, box}
-use Rattle.boxes.specs.Entry.{moveOverList}
-use Rattle.grid.specs.Demand.{listOnGrid, keepsStep}
+use Rattle.cover.specs.Cover.{zero32, one32}
+use Rattle.window.specs.declared.Window.{Window}
 
 -- n / d
 abbrev pub part : ℕ → ℕ → Float
@@ -45,9 +45,37 @@ climbing =
       ground = true;
     }
 
--- it is on the grid and accepted
-unfoldable pub isFair : Sample → Bool
-isFair s = listOnGrid (listIn s) mover (s .delta) (s .step) && eqb (moveOverList (listIn s) mover (s .delta) (s .step) (s .ground) .refusal) 0
+-- ---- the same boxes as cells of a window
 
-unfoldable pub stepsUp : Sample → Bool
-stepsUp s = keepsStep (s .boxes) mover (s .delta) (s .step) (s .ground)
+-- a registered record: what is in word 0, its first box and box count, its full faces
+abbrev pub row : ℕ → ℕ → ℕ → ℕ → List ℕ → List ℕ
+row flags first count faces rest =
+    flags ∷ 0 ∷ 0 ∷ 0 ∷ 0 ∷ 0 ∷ 0 ∷ first ∷ count ∷ 0 ∷ 0 ∷ 0 ∷ 0 ∷ 0 ∷ 0 ∷ 0 ∷ 0 ∷ 0 ∷ 0 ∷ faces ∷ rest
+
+-- 0 air, 1 cube, 2 slab
+unfoldable pub records : List ℕ
+records = row 1 0 0 0 (row 3 0 1 15 (row 3 1 1 0 []))
+
+-- 0.5
+abbrev pub half32 : Float
+half32 = ofBits binary32 0x3f000000
+
+unfoldable pub shapes : List Float
+shapes =
+    zero32 ∷ zero32 ∷ zero32 ∷ one32 ∷ one32 ∷ one32
+    ∷ zero32 ∷ zero32 ∷ zero32 ∷ one32 ∷ half32 ∷ one32
+    ∷ []
+
+-- x 0..3, y -1..2, z 0..1
+unfoldable pub window : Window
+window = record { origin = record { x = pos 0; y = negsuc 0; z = pos 0 }; sizes = record { x = 4; y = 4; z = 2 } }
+
+-- one layer: these four at z = 0, and air at z = 1
+abbrev pub layer : ℕ → ℕ → ℕ → ℕ → List ℕ → List ℕ
+layer a b c d rest = a ∷ b ∷ c ∷ d ∷ 0 ∷ 0 ∷ 0 ∷ 0 ∷ rest
+
+unfoldable pub slidingCells : List ℕ
+slidingCells = layer 0 0 0 0 (layer 0 0 0 0 (layer 0 0 1 0 (layer 0 0 0 0 [])))
+
+unfoldable pub climbingCells : List ℕ
+climbingCells = layer 0 0 0 0 (layer 1 1 1 1 (layer 0 0 2 2 (layer 0 0 0 0 [])))
