@@ -11,4 +11,5 @@ pub mod Cells
 pub mod Blocks
 pub mod Areas
 pub mod Through
+pub mod Clips
 pub mod Samples

@@ -104,7 +104,7 @@ read-span a b limit L small H A B P Q h =
 abbrev pub reach : ℕ
 reach = 2 ^ 37
 
-limit-at : At (twoTo 25) reach 0
+pub limit-at : At (twoTo 25) reach 0
 limit-at = record { sign = false; size = 2 ^ 37; value = (refl, refl); units = omega arith }
 
 -- three tests, and six
