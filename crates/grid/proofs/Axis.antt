@@ -1,10 +1,10 @@
 -- One axis, over whole numbers of grid units counted from a base far below every box: so a position is a ℕ. A delta is told by the position that it
 -- leads to. `travel`: clipped at each of a list of obstacles, a mover goes as far as it can. Assumes nothing.
-use mathlib.Core.Path.{_≡_, refl, sym, ap, _∙_, subst}
+use mathlib.Core.Path.{_≡_, sym, subst}
 use mathlib.Core.Logic.{_⊎_, inl, inr}
-use mathlib.Core.Bool.{Bool, true, false, not, _&&_, _||_, cond}
+use mathlib.Core.Bool.{Bool, true, false, not, _&&_, cond}
 use mathlib.Core.List.{List, [], _∷_}
-use Prim.Native.Nat.{ℕ, zero, suc, _+_, _-_, _≤_, _<_, min, max}
+use Prim.Native.Nat.{ℕ, _+_, _-_, _≤_, _<_, min, max}
 use native.Mathlib.Nat.{le-refl, le-trans, eq-or-lt-of-le}
 use native.Mathlib.Decide.{decLe}
 use native.Mathlib.Omega.{arith}
@@ -54,11 +54,11 @@ pub data Next (q g q' : ℕ) : Type 0 where
   above : q < g → q' ≡ q + 1 → Next q g q'
   beneath : g < q → q' + 1 ≡ q → Next q g q'
 
-pub split : (a b : ℕ) → (a ≤ b) ⊎ (b < a)
+split : (a b : ℕ) → (a ≤ b) ⊎ (b < a)
 split a b = elim (decLe a b) [ yes h ↦ inl h | no h ↦ inr (omega arith) ]
 
 -- ---- one obstacle
-pub record Clipped (m o : Span) (g e : ℕ) : Type 0 where
+record Clipped (m o : Span) (g e : ℕ) : Type 0 where
   pub way : Way (m .lo) g e
   pub clear : (q : ℕ) → Way (m .lo) e q → ¬ (Meets (slid m q) o)
   pub far : (q : ℕ) → Next e g q → Meets (slid m q) o

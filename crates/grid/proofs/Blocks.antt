@@ -2,8 +2,8 @@
 use mathlib.Core.Path.{_≡_, refl, sym, ap, _∙_, subst}
 use mathlib.Core.Logic.{_⊎_, inl, inr}
 use mathlib.Core.Bool.{Bool, true, false, not, _&&_, false≢true}
-use mathlib.Core.List.{List, [], _∷_, List·Memᴰ, List·Memᴰ·cases-cons}
-use Prim.Native.Nat.{ℕ, zero, suc, _+_, _-_, _*_, _/_, _%_, _^_, _≤_, _<_}
+use mathlib.Core.List.{List, [], List·Memᴰ, List·Memᴰ·cases-cons}
+use Prim.Native.Nat.{ℕ, suc, _+_, _-_, _*_, _%_, _^_, _≤_, _<_}
 use native.Mathlib.Omega.{arith}
 use lib.IntN.{ℤ, pos, negsuc, natAbs, _+ℤ_, _-ℤ_, +ℤ-comm, -ℤ-+ℤ-cancel}
 use lib.Signed.{leZ, ltZ}
@@ -36,10 +36,9 @@ use Rattle.grid.specs.Grid.{onGrid, isProper}
 use Rattle.grid.specs.Demand.{cellAndHalf, isInCell, shapeOnGrid, shapesOnGrid}
 use Rattle.grid.proofs.Units.{At, add-at, at-same, le-at, lt-at}
 use Rattle.grid.proofs.Axis.{Span}
-use Rattle.grid.proofs.Whole.{Box, Solid}
-use Rattle.grid.proofs.Exact.{base, top, Pos as At', OnSpan, On, zero-at}
-use Rattle.grid.proofs.Readings.{read, Three, three, proper}
-use Rattle.grid.proofs.Cells.{numbered, subℕ-add, Numbered, number, T-true, origin-at}
+use Rattle.grid.proofs.Exact.{base, OnSpan, zero-at}
+use Rattle.grid.proofs.Readings.{read, three, proper}
+use Rattle.grid.proofs.Cells.{numbered, subℕ-add, number, T-true, origin-at}
 
 -- ---- one side of a box of the cell n, at most `tall` units from the cell's lower end
 pub record InCell (a b : Float) (n tall : ℕ) : Type 0 where

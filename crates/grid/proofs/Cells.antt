@@ -3,14 +3,13 @@
 use mathlib.Core.Path.{_≡_, refl, sym, ap, _∙_, subst}
 use mathlib.Core.Bool.{Bool, true, false, not, cond}
 use Prim.Native.Nat.{ℕ, zero, suc, _+_, _-_, _*_, _/_, _%_, _^_, _≤_, _<_, min}
-use native.Mathlib.Nat.{mul-right-comm, mul-one, div-add-mod', mod-lt, le-of-mul-le-mul-right, lt-of-mul-lt-mul-right}
+use native.Mathlib.Nat.{mul-right-comm, div-add-mod', mod-lt, le-of-mul-le-mul-right, lt-of-mul-lt-mul-right}
 use native.Mathlib.Omega.{arith}
-use lib.IntN.{ℤ, pos, negsuc, negℤ, natAbs, subℕ, _+ℤ_, _-ℤ_, +ℤ-comm, +ℤ-assoc, +ℤ-negℤ-cancel}
+use lib.IntN.{ℤ, pos, negsuc, negℤ, natAbs, subℕ, _+ℤ_, _-ℤ_, +ℤ-comm, +ℤ-negℤ-cancel}
 use lib.Signed.{leZ}
-use lib.Dec.{T, ltb, leb, ltb→lt, nltb→le, le→leb, lit<}
+use lib.Dec.{T, ltb, leb, ltb→lt, nltb→le, le→leb}
 use lib.Ieee.{Float, nan, inf, fin, binary64, up, down, round, ofInt, le}
 use lib.Ieee.Fits.{down-pos}
-use lib.Ieee.Exact.{HasValue}
 use lib.Ieee.Back.{round-whole}
 use Rattle.base.specs.Choose.{choose}
 use Rattle.base.proofs.Values.{rescaled}
@@ -19,8 +18,8 @@ use Rattle.floats.proofs.Cells.{cell-within, bottom}
 use Rattle.floats.proofs.Cells as C
 use Rattle.ranges.specs.declared.Axis.{Axis}
 use Rattle.ranges.specs.Ranges.{orZero, spanOf, onFrom, cellsBetween, layersBetween}
-use Rattle.grid.proofs.Units.{At, Signed, le-is, bool-iff}
-use Rattle.grid.proofs.Exact.{base, top, Pos}
+use Rattle.grid.proofs.Units.{At, Signed, le-is}
+use Rattle.grid.proofs.Exact.{base, top}
 
 abbrev pub numbered : ℕ → ℤ
 numbered n = subℕ n (2 ^ 28)
@@ -116,7 +115,7 @@ T-true true t = refl
 T-true false t = absurd t
 
 -- within 2 ^ 26, which is 2 ^ 38 units
-pub cell-at : (x : Float) (v : ℕ) → At x v base → base ≤ v + 2 ^ 38 → v ≤ base + 2 ^ 38 → cellOf x ≡ numbered (v / 4096)
+cell-at : (x : Float) (v : ℕ) → At x v base → base ≤ v + 2 ^ 38 → v ≤ base + 2 ^ 38 → cellOf x ≡ numbered (v / 4096)
 cell-at x v h lo hi =
     sym (cell-within x
     (le-is x C.top v base (2 ^ 38) 0 v (base + 2 ^ 38) h (record { sign = false; size = 2 ^ 38; value = (refl, refl); units = refl }) (omega arith) ∙ T-true (leb v (base + 2 ^ 38)) (le→leb v (base + 2 ^ 38) hi))

@@ -1,14 +1,14 @@
 -- Clipping is exact on the grid. Assumes nothing.
 use mathlib.Core.Path.{_≡_, refl, sym, ap, _∙_, subst}
-use mathlib.Core.Bool.{Bool, true, false, not, _&&_, _||_, cond}
-use Prim.Native.Nat.{ℕ, zero, suc, _+_, _-_, _*_, _/_, _^_, _≤_, _<_}
+use mathlib.Core.Bool.{Bool, true, false, not, _&&_, cond}
+use Prim.Native.Nat.{ℕ, zero, suc, _+_, _-_, _/_, _≤_, _<_}
 use native.Mathlib.Nat.{mul-div-cancel}
 use native.Mathlib.Omega.{arith}
-use lib.IntN.{ℤ, pos, negsuc, negℤ, subℕ, _+ℤ_, _-ℤ_, +ℤ-negℤ-cancel}
+use lib.IntN.{ℤ, pos, negsuc, subℕ, _+ℤ_, _-ℤ_, +ℤ-negℤ-cancel}
 use lib.Signed.{ltZ, leZ}
 use lib.Dec.{T, ltb, leb, ltb→lt, nltb→le}
-use lib.Ieee.{Float, nan, inf, fin, binary64, up, down, sub, lt, le}
-use lib.Ieee.Fits.{and-l, and-r, down-pos}
+use lib.Ieee.{Float, nan, inf, fin, binary64, down, sub, lt, le}
+use lib.Ieee.Fits.{down-pos}
 use Rattle.base.specs.Choose.{choose}
 use Rattle.floats.specs.Numbers.{zero64, isWithin, leastOf, greatestOf}
 use Rattle.floats.specs.Whole.{signedOf}
@@ -16,10 +16,10 @@ use Rattle.boxes.specs.declared.Aabb.{Aabb}
 use Rattle.boxes.specs.Boxes.{apart, stopAt}
 use Rattle.boxes.specs.Limits.{twoTo, areWithin, sidesOf, isBox}
 use Rattle.grid.specs.Grid.{onGrid, vecOnGrid}
-use Rattle.grid.specs.Exact.{unitsOf, leastZ, greatestZ, apartZ, stopAtZ, Exact, ClipsExactly, ClipLaw}
+use Rattle.grid.specs.Exact.{unitsOf, leastZ, greatestZ, apartZ, stopAtZ, Exact, ClipLaw}
 use Rattle.grid.proofs.Units.{At, Signed, sub-at, lt-at, le-at, ltb-iff, leb-iff}
 use Rattle.grid.proofs.Exact.{zero-at, and-is, or-is}
-use Rattle.grid.proofs.Readings.{Read, read, at-grid, within-units, reach, limit-at, Three, three, vec-within}
+use Rattle.grid.proofs.Readings.{Read, read, at-grid, within-units, reach, limit-at, three, vec-within}
 use Rattle.grid.proofs.Cells.{subℕ-pos, subℕ-neg, subℕ-add}
 
 -- ---- differences of whole numbers

@@ -1,10 +1,10 @@
 -- A move over boxes on the grid: what demand 3 says of it (`move-demand`), for block boxes of which each is in the list or lies aside of all that the
 -- move reaches. Assumes nothing.
-use mathlib.Core.Path.{_≡_, refl, sym, ap, _∙_, subst}
+use mathlib.Core.Path.{_≡_, refl, sym, subst}
 use mathlib.Core.Logic.{_⊎_, inl, inr}
 use mathlib.Core.Bool.{Bool, true, false, not, _&&_, _||_, true≢false}
 use mathlib.Core.List.{List, [], _∷_, List·Memᴰ, List·Memᴰ·head, List·Memᴰ·tail, List·Memᴰ·cases-cons}
-use Prim.Native.Nat.{ℕ, zero, suc, _+_, _-_, _*_, _^_, _≤_, _<_, min, max}
+use Prim.Native.Nat.{ℕ, _+_, _-_, _≤_, _<_}
 use native.Mathlib.Omega.{arith}
 use lib.Dec.{T, ltb, leb, eqb, leb→le, le→leb, ltb→lt, nltb→le, not-T}
 use lib.Ieee.{Float, binary64, add, sub, neg, lt, le, eq}
@@ -21,11 +21,11 @@ use Rattle.grid.specs.Grid.{onGrid}
 use Rattle.grid.specs.Demand.{between, unit, further, Struck, Travels, alongX, alongY, alongZ, Farthest, Demand3, keepsStep}
 use Rattle.grid.specs.Demand as D
 use Rattle.grid.proofs.Units.{At, neg-at, add-at, sub-at, at-same, lt-is, le-at, le-is, eq-at}
-use Rattle.grid.proofs.Axis.{Span, slid, All, Any, Way, upward, downward, Next, above, beneath, way-whole, way-trans}
-use Rattle.grid.proofs.Whole.{Box, Solid, Free, Overlap, Sweep, toX, toY, toZ, endX, endY, endZ, afterX, afterY, afterZ, solid-x, solid-y, sweep-x, sweep-y, sweep-z, Inside, reach, self-inside, way-inside, BoxInside, overlap-grow}
+use Rattle.grid.proofs.Axis.{Span, slid, All, Way, upward, downward, above, beneath, way-whole, way-trans}
+use Rattle.grid.proofs.Whole.{Box, Solid, Free, Overlap, Sweep, toX, toY, toZ, endX, endY, endZ, solid-x, solid-y, sweep-x, sweep-y, sweep-z, Inside, reach, self-inside, way-inside, BoxInside, overlap-grow}
 use Rattle.grid.proofs.Whole as W
-use Rattle.grid.proofs.Exact.{base, top, OnSpan, On, OnAll, Leads, zero-at, or-is, and-is, all-x, all-y, all-z, on-x, on-y, on-z, overlap-to, overlap-from}
-use Rattle.grid.proofs.Readings.{Read, read, at-grid}
+use Rattle.grid.proofs.Exact.{top, On, OnAll, Leads, zero-at, all-x, all-y, all-z, on-x, on-y, on-z, overlap-to, overlap-from}
+use Rattle.grid.proofs.Readings.{read, at-grid}
 
 -- ---- the way, by tests on floats
 or-l : (a b : Bool) → T a → T (a || b)
@@ -219,7 +219,7 @@ module _ (Block : Aabb → Type 0) (fs : List Aabb) (ws : List Box) (F : OnAll f
       pub clear : Free (toZ (toX (toY v ey) ex) ez) ws
 
     pub course : Course
-    unfolding clipSequence afterX afterY afterZ
+    unfolding clipSequence
     course =
         let ey = endY v ws gy in
         let sy = sweep-y v ws gy S O free in

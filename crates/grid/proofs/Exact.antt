@@ -1,21 +1,20 @@
--- On the grid clipping is exact: it is `clip` of whole numbers of units (`clip-x-exact`, `clip-y-exact`, `clip-z-exact`); so are the passes of a move
+-- On the grid clipping is exact: it is `clip` of whole numbers of units (`clip-x-at`, `clip-y-at`, `clip-z-at`); so are the passes of a move
 -- over a list, the offsets and the overlaps. Assumes nothing.
 use mathlib.Core.Path.{_≡_, refl, sym, ap, _∙_, subst}
 use mathlib.Core.Bool.{Bool, true, false, not, _&&_, _||_, cond}
 use mathlib.Core.List.{List, [], _∷_}
-use Prim.Native.Nat.{ℕ, zero, suc, _+_, _-_, _*_, _^_, _≤_, _<_, min, max}
+use Prim.Native.Nat.{ℕ, _+_, _-_, _^_, _≤_, _<_, min, max}
 use native.Mathlib.Omega.{arith}
-use lib.Dec.{T, ltb, leb, ltb→lt, leb→le, lt→ltb, le→leb, nltb→le, nleb→lt}
-use lib.Ieee.{Float, fin, binary64, ofBits, add, sub, lt, le}
+use lib.Dec.{T, ltb, leb, ltb→lt, leb→le, nltb→le, nleb→lt}
+use lib.Ieee.{Float, binary64, ofBits, add, sub, lt, le}
 use lib.Ieee.Fits.{and-l, and-r, and-i}
 use Rattle.base.specs.Choose.{choose}
 use Rattle.floats.specs.Numbers.{zero64, leastOf, greatestOf}
-use Rattle.boxes.specs.declared.Vec3.{Vec3}
 use Rattle.boxes.specs.declared.Aabb.{Aabb}
 use Rattle.boxes.specs.Boxes.{meet, overlap, apart, stopAt, clipX, clipY, clipZ}
 use Rattle.boxes.specs.Move.{clipAll}
 use Rattle.grid.specs.Demand.{alongX, alongY, alongZ}
-use Rattle.grid.proofs.Units.{At, add-at, sub-at, at-same, lt-is, le-is, bool-iff}
+use Rattle.grid.proofs.Units.{At, add-at, sub-at, at-same, lt-is, le-is}
 use Rattle.grid.proofs.Axis.{Span, meets, meets→, →meets, slid, clip, clips}
 use Rattle.grid.proofs.Whole.{Box, Solid, Overlap, toX, toY, toZ, besideX, besideY, besideZ, endX, endY, endZ}
 
@@ -63,7 +62,7 @@ choose-at b c x y p q n e f g = subst (λ (u : Bool). At (choose u x y) (cond c 
     go true f g = f tt
     go false f g = g tt
 
-pub least-at : (x y : Float) (p q n : ℕ) → At x p n → At y q n → At (leastOf x y) (min p q) n
+least-at : (x y : Float) (p q n : ℕ) → At x p n → At y q n → At (leastOf x y) (min p q) n
 least-at x y p q n h j =
     at-same (cond (ltb q p) q p) n (min p q) n (ap (λ (z : ℕ). z + n) (go (ltb q p) (ltb→lt q p) (nltb→le q p)))
     (choose-at (lt y x) (ltb q p) y x q p n (lt-is y x q n p n q p j h (omega arith)) (λ t. j) (λ t. h))
@@ -72,7 +71,7 @@ least-at x y p q n h j =
     go true f g = let z = f tt in omega arith
     go false f g = let z = g tt in omega arith
 
-pub greatest-at : (x y : Float) (p q n : ℕ) → At x p n → At y q n → At (greatestOf x y) (max p q) n
+greatest-at : (x y : Float) (p q n : ℕ) → At x p n → At y q n → At (greatestOf x y) (max p q) n
 greatest-at x y p q n h j =
     at-same (cond (ltb p q) q p) n (max p q) n (ap (λ (z : ℕ). z + n) (go (ltb p q) (ltb→lt p q) (nltb→le p q)))
     (choose-at (lt x y) (ltb p q) y x q p n (lt-is x y p n q n p q h j (omega arith)) (λ t. j) (λ t. h))
@@ -87,10 +86,10 @@ and-is a b c d p q = ap (λ (u : Bool). u && b) p ∙ ap (λ (u : Bool). c && u)
 pub or-is : (a b c d : Bool) → a ≡ c → b ≡ d → a || b ≡ c || d
 or-is a b c d p q = ap (λ (u : Bool). u || b) p ∙ ap (λ (u : Bool). c || u) q
 
-pub pos-lt : (x y : Float) (a b : ℕ) → Pos x a → Pos y b → lt x y ≡ ltb a b
+pos-lt : (x y : Float) (a b : ℕ) → Pos x a → Pos y b → lt x y ≡ ltb a b
 pos-lt x y a b h j = lt-is x y a base b base a b (h .at) (j .at) (omega arith)
 
-pub pos-le : (x y : Float) (a b : ℕ) → Pos x a → Pos y b → le x y ≡ leb a b
+pos-le : (x y : Float) (a b : ℕ) → Pos x a → Pos y b → le x y ≡ leb a b
 pos-le x y a b h j = le-is x y a base b base a b (h .at) (j .at) (omega arith)
 
 -- ---- meeting on one axis, and passing by
@@ -179,20 +178,20 @@ module _ (lo hi from to d : Float) (m o : Span) (g : ℕ) (thick : m .lo < m .hi
 
 -- on each axis: the float's clip is the whole numbers' clip
 module _ (b mover : Aabb) (w v : Box) (B : On b w) (M : On mover v) (S : Solid v) (d : Float) (g : ℕ) where
-  pub clip-x-exact : Leads d (v .x) g → Leads (clipX b mover d) (v .x) (clip (besideX v w) (v .x) (w .x) g)
-  clip-x-exact D =
+  clip-x-at : Leads d (v .x) g → Leads (clipX b mover d) (v .x) (clip (besideX v w) (v .x) (w .x) g)
+  clip-x-at D =
       clip-at (b .min .x) (b .max .x) (mover .min .x) (mover .max .x) d (v .x) (w .x) g (S .x) (M .x) (B .x) D
       (apart (b .min .y) (b .max .y) (mover .min .y) (mover .max .y) || apart (b .min .z) (b .max .z) (mover .min .z) (mover .max .z)) (besideX v w)
       (or-is _ _ _ _ (apart-is (b .min .y) (b .max .y) (mover .min .y) (mover .max .y) (v .y) (w .y) (M .y) (B .y)) (apart-is (b .min .z) (b .max .z) (mover .min .z) (mover .max .z) (v .z) (w .z) (M .z) (B .z)) ∙ neither (meets (v .y) (w .y)) (meets (v .z) (w .z)))
 
-  pub clip-y-exact : Leads d (v .y) g → Leads (clipY b mover d) (v .y) (clip (besideY v w) (v .y) (w .y) g)
-  clip-y-exact D =
+  clip-y-at : Leads d (v .y) g → Leads (clipY b mover d) (v .y) (clip (besideY v w) (v .y) (w .y) g)
+  clip-y-at D =
       clip-at (b .min .y) (b .max .y) (mover .min .y) (mover .max .y) d (v .y) (w .y) g (S .y) (M .y) (B .y) D
       (apart (b .min .x) (b .max .x) (mover .min .x) (mover .max .x) || apart (b .min .z) (b .max .z) (mover .min .z) (mover .max .z)) (besideY v w)
       (or-is _ _ _ _ (apart-is (b .min .x) (b .max .x) (mover .min .x) (mover .max .x) (v .x) (w .x) (M .x) (B .x)) (apart-is (b .min .z) (b .max .z) (mover .min .z) (mover .max .z) (v .z) (w .z) (M .z) (B .z)) ∙ neither (meets (v .x) (w .x)) (meets (v .z) (w .z)))
 
-  pub clip-z-exact : Leads d (v .z) g → Leads (clipZ b mover d) (v .z) (clip (besideZ v w) (v .z) (w .z) g)
-  clip-z-exact D =
+  clip-z-at : Leads d (v .z) g → Leads (clipZ b mover d) (v .z) (clip (besideZ v w) (v .z) (w .z) g)
+  clip-z-at D =
       clip-at (b .min .z) (b .max .z) (mover .min .z) (mover .max .z) d (v .z) (w .z) g (S .z) (M .z) (B .z) D
       (apart (b .min .x) (b .max .x) (mover .min .x) (mover .max .x) || apart (b .min .y) (b .max .y) (mover .min .y) (mover .max .y)) (besideZ v w)
       (or-is _ _ _ _ (apart-is (b .min .x) (b .max .x) (mover .min .x) (mover .max .x) (v .x) (w .x) (M .x) (B .x)) (apart-is (b .min .y) (b .max .y) (mover .min .y) (mover .max .y) (v .y) (w .y) (M .y) (B .y)) ∙ neither (meets (v .x) (w .x)) (meets (v .y) (w .y)))
@@ -210,15 +209,15 @@ clip-all c mover beside span s h (f ∷ fs) (w ∷ ws) d g a D = clip-all c move
 module _ (m : Aabb) (v : Box) (M : On m v) (S : Solid v) (fs : List Aabb) (ws : List Box) (F : OnAll fs ws) (d : Float) (g : ℕ) where
   pub all-y : Leads d (v .y) g → Leads (clipAll clipY fs m d) (v .y) (endY v ws g)
   unfolding endY
-  all-y D = clip-all clipY m (besideY v) (λ (o : Box). o .y) (v .y) (λ f w d g B. clip-y-exact f m w v B M S d g) fs ws d g F D
+  all-y D = clip-all clipY m (besideY v) (λ (o : Box). o .y) (v .y) (λ f w d g B. clip-y-at f m w v B M S d g) fs ws d g F D
 
   pub all-x : Leads d (v .x) g → Leads (clipAll clipX fs m d) (v .x) (endX v ws g)
   unfolding endX
-  all-x D = clip-all clipX m (besideX v) (λ (o : Box). o .x) (v .x) (λ f w d g B. clip-x-exact f m w v B M S d g) fs ws d g F D
+  all-x D = clip-all clipX m (besideX v) (λ (o : Box). o .x) (v .x) (λ f w d g B. clip-x-at f m w v B M S d g) fs ws d g F D
 
   pub all-z : Leads d (v .z) g → Leads (clipAll clipZ fs m d) (v .z) (endZ v ws g)
   unfolding endZ
-  all-z D = clip-all clipZ m (besideZ v) (λ (o : Box). o .z) (v .z) (λ f w d g B. clip-z-exact f m w v B M S d g) fs ws d g F D
+  all-z D = clip-all clipZ m (besideZ v) (λ (o : Box). o .z) (v .z) (λ f w d g B. clip-z-at f m w v B M S d g) fs ws d g F D
 
 -- ---- the offset along one axis; the other two gain 0
 offset-at : (a b t : Float) (s : Span) (e : ℕ) → s .lo < s .hi → OnSpan a b s → Leads t s e → OnSpan (add binary64 a t) (add binary64 b t) (slid s e)

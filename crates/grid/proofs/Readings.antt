@@ -2,25 +2,24 @@
 -- nothing.
 use mathlib.Core.Path.{_≡_, refl, sym, ap, _∙_, subst}
 use mathlib.Core.Logic.{_⊎_, inl, inr}
-use mathlib.Core.Bool.{Bool, true, false, not, _&&_}
+use mathlib.Core.Bool.{Bool, true, false, _&&_}
 use mathlib.Core.List.{List, [], _∷_}
-use Prim.Native.Nat.{ℕ, zero, suc, _+_, _-_, _*_, _/_, _%_, _^_, _≤_, _<_}
+use Prim.Native.Nat.{ℕ, _+_, _-_, _*_, _/_, _%_, _^_, _≤_, _<_}
 use native.Mathlib.Nat.{mul-div-cancel, div-add-mod'}
 use native.Mathlib.Omega.{arith}
-use lib.Dec.{T, eqb, ltb, leb, leb→le, ltb→lt, eqb→eq}
-use lib.Ieee.{Float, nan, inf, fin, lt, le, up, down}
+use lib.Dec.{T, leb→le, ltb→lt, eqb→eq}
+use lib.Ieee.{Float, nan, inf, fin, lt, up, down}
 use lib.Ieee.Fits.{and-l, and-r, down-pos, eq→eqb}
 use Rattle.base.specs.Choose.{choose}
 use Rattle.floats.specs.Numbers.{sizeOf, isWithin}
 use Rattle.boxes.specs.declared.Vec3.{Vec3}
 use Rattle.boxes.specs.declared.Aabb.{Aabb}
-use Rattle.boxes.specs.Boxes.{overlap}
 use Rattle.boxes.specs.Limits.{twoTo, areWithin, sidesOf, isBox, areBoxes}
-use Rattle.grid.specs.Grid.{onGrid, vecOnGrid, isSolid, isProper, areProper, isFree}
+use Rattle.grid.specs.Grid.{onGrid, vecOnGrid, isSolid, isProper, areProper}
 use Rattle.grid.proofs.Units.{At, Signed, at-same, lt-is, le-is}
 use Rattle.grid.proofs.Axis.{Span, All}
-use Rattle.grid.proofs.Whole.{Box, Solid, Overlap, Free}
-use Rattle.grid.proofs.Exact.{base, top, Pos, OnSpan, On, OnAll, Leads, pos-lt, overlap-from}
+use Rattle.grid.proofs.Whole.{Box, Solid}
+use Rattle.grid.proofs.Exact.{base, OnSpan, On, OnAll, Leads}
 
 -- ---- a number
 pub record Read (x : Float) : Type 0 where
@@ -82,7 +81,7 @@ pub record ReadSpan (a b : Float) (reach : ℕ) : Type 0 where
   pub deep : base ≤ span .lo + reach
   pub room : span .hi ≤ base + reach
 
-pub read-span : (a b limit : Float) (L : ℕ) → L ≤ 2 ^ 39 → At limit L 0 → T (onGrid a) → T (onGrid b) → T (isWithin a limit) → T (isWithin b limit) → T (lt a b) → ReadSpan a b L
+read-span : (a b limit : Float) (L : ℕ) → L ≤ 2 ^ 39 → At limit L 0 → T (onGrid a) → T (onGrid b) → T (isWithin a limit) → T (isWithin b limit) → T (lt a b) → ReadSpan a b L
 read-span a b limit L small H A B P Q h =
     let r = read a A in
     let q = read b B in

@@ -1,12 +1,12 @@
 -- A move's box, delta and step height as whole numbers, and the area that the move reaches: then demand 3 holds of the move over a list (`from-start`).
 -- Assumes nothing.
-use mathlib.Core.Path.{_≡_, refl, sym, subst}
-use mathlib.Core.Logic.{_⊎_, inl, inr}
-use mathlib.Core.Bool.{Bool, true, false, not, _&&_}
+use mathlib.Core.Path.{refl, subst}
+use mathlib.Core.Logic.{_⊎_}
+use mathlib.Core.Bool.{Bool, false, not}
 use mathlib.Core.List.{List, [], _∷_, List·Memᴰ}
-use Prim.Native.Nat.{ℕ, _+_, _-_, _^_, _≤_, _<_, min, max}
+use Prim.Native.Nat.{ℕ, _+_, _-_, _^_, _≤_, _<_}
 use native.Mathlib.Omega.{arith}
-use lib.Dec.{T, leb, leb→le, T-not}
+use lib.Dec.{T, leb→le, T-not}
 use lib.Ieee.{Float, le}
 use lib.Ieee.Fits.{and-l, and-r}
 use Rattle.floats.specs.Numbers.{zero64, isWithin}
@@ -20,7 +20,7 @@ use Rattle.grid.specs.Demand.{Demand3, keepsStep}
 use Rattle.grid.proofs.Units.{At, le-is}
 use Rattle.grid.proofs.Axis.{Span, All}
 use Rattle.grid.proofs.Whole.{Box, Solid, Free, Overlap, Inside, reach}
-use Rattle.grid.proofs.Exact.{base, top, On, OnAll, Leads, zero-at, overlap-from}
+use Rattle.grid.proofs.Exact.{base, On, OnAll, zero-at, overlap-from}
 use Rattle.grid.proofs.Readings.{three, vec-within, ReadSpan, ReadBox, boxOf, box-on, box-solid, read-box, Lead, lead}
 use Rattle.grid.proofs.Courses.{Aside, move-demand}
 
@@ -81,7 +81,7 @@ unfolding reach
 inside-step s g t thick up = record { low = omega arith; high = omega arith }
 
 -- no overlap at the start
-pub start-free : (m : Aabb) (v : Box) → On m v → (fs : List Aabb) (ws : List Box) → OnAll fs ws → T (isFree m fs) → Free v ws
+start-free : (m : Aabb) (v : Box) → On m v → (fs : List Aabb) (ws : List Box) → OnAll fs ws → T (isFree m fs) → Free v ws
 unfolding isFree
 start-free m v M [] [] F t = tt
 start-free m v M [] (w ∷ ws) F t = absurd F

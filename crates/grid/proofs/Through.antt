@@ -4,7 +4,7 @@ use mathlib.Core.Path.{_≡_, refl, sym, ap, _∙_, subst}
 use mathlib.Core.Logic.{_⊎_, inl, inr}
 use mathlib.Core.Bool.{Bool, true, false, not, _&&_}
 use mathlib.Core.List.{List, [], _∷_, _++_, List·Memᴰ, List·Memᴰ·head, List·Memᴰ·tail, List·Memᴰ·cases-cons}
-use Prim.Native.Nat.{ℕ, zero, suc, _+_, _-_, _*_, _/_, _^_, _≤_, _<_}
+use Prim.Native.Nat.{ℕ, suc, _+_, _-_, _*_, _≤_, _<_}
 use native.Mathlib.Omega.{arith}
 use lib.Dec.{T, eqb, eqb→eq}
 use lib.ListN.{length}
@@ -36,15 +36,15 @@ use Rattle.moves.proofs.Order.{keptOf, collected-is, is-collected}
 use Rattle.moves.proofs.Refuses.{FiveOrSix, collect-refuses}
 use Rattle.grid.specs.Grid.{onGrid, vecOnGrid, isProper, isFree}
 use Rattle.grid.specs.Demand.{Demand3, keepsStep, IsSettled, shapesOnGrid, cellFrom, isFreeIn, windowOnGrid, keepsAmong, keepsStepIn, WindowDemand}
-use Rattle.grid.proofs.Axis.{Span, Meets, All}
+use Rattle.grid.proofs.Axis.{Span, Meets}
 use Rattle.grid.proofs.Whole.{Box, Solid, Overlap}
-use Rattle.grid.proofs.Exact.{On, OnAll, overlap-to, overlap-from}
+use Rattle.grid.proofs.Exact.{On, overlap-to, overlap-from}
 use Rattle.grid.proofs.Readings.{Knowns}
 use Rattle.grid.proofs.Courses.{Aside}
 use Rattle.grid.proofs.Starts.{Start, start, areaOf, from-start}
-use Rattle.grid.proofs.Cells.{T-true, Held, in-cells, in-layers}
-use Rattle.grid.proofs.Blocks.{InCells, InWindow, Settled, block}
-use Rattle.grid.proofs.Areas.{Area, area, area-on}
+use Rattle.grid.proofs.Cells.{T-true, in-cells, in-layers}
+use Rattle.grid.proofs.Blocks.{InCells, Settled, block}
+use Rattle.grid.proofs.Areas.{area, area-on}
 
 -- ---- what is in the lists together is in one of them
 in-either : {A : Type 0} (a : A) (xs ys : List A) → List·Memᴰ a (xs ++ ys) → List·Memᴰ a xs ⊎ List·Memᴰ a ys
@@ -138,7 +138,7 @@ module _ (records : List ℕ) (shapes : List Float) (cells : List ℕ) (w : Wind
   back : (o : Aabb) → List·Memᴰ o bs → IsSettled records shapes cells w o
   back o n =
       let r = in-order o (keptOf (lookAt cells w) records shapes (sweptArea m d h)) (rangeOf (sweptArea m d h))
-          (subst (λ (l : List Aabb). List·Memᴰ o l) (collected-is (lookAt cells w) records shapes (sweptArea m d h) bs C) n) in
+      (subst (λ (l : List Aabb). List·Memᴰ o l) (collected-is (lookAt cells w) records shapes (sweptArea m d h) bs C) n) in
       record { cell = r .at; is = of-overlapping (sweptArea m d h) o (settledBoxes (lookAt cells w) records shapes (r .at)) (r .is) }
 
   -- a box of a settled cell that overlaps the swept area: its cell is in the range
@@ -248,7 +248,7 @@ unfolding moveEntry moveAabb windowOnGrid keepsStepIn
 demand3-window records shapes cells w m d h ground t e =
     let c = collectBlockBoxes (lookAt cells w) records shapes (sweptArea m d h) in
     let a = accepted (not (eqb (tableRefusal records shapes) 0)) (not (eqb (windowRefusal (length cells) w) 0)) (not (isStep h)) (not (isBox m && isDelta d)) c m d h ground
-        (collect-refuses cells w records shapes (sweptArea m d h) .only) e in
+    (collect-refuses cells w records shapes (sweptArea m d h) .only) e in
     let bs = a .boxes in
     let W = N.accepted (length cells) w (eqb→eq (windowRefusal (length cells) w) 0 (no-not (eqb (windowRefusal (length cells) w) 0) (a .two))) in
     let R = fitted (tablesFit records shapes) (a .one) in
@@ -257,7 +257,7 @@ demand3-window records shapes cells w m d h ground t e =
     let t2 = and-r (shapesOnGrid records shapes) (vecOnGrid d && (onGrid h && isFreeIn records shapes cells w m)) t1 in
     let t3 = and-r (vecOnGrid d) (onGrid h && isFreeIn records shapes cells w m) t2 in
     let s : Start m d h = start m d h (and-l (isBox m) (isDelta d) bd) (and-l (isProper m) (shapesOnGrid records shapes && (vecOnGrid d && (onGrid h && isFreeIn records shapes cells w m))) t)
-        (and-r (isBox m) (isDelta d) bd) (and-l (vecOnGrid d) (onGrid h && isFreeIn records shapes cells w m) t2) (no-not (isStep h) (a .three)) (and-l (onGrid h) (isFreeIn records shapes cells w m) t3) in
+    (and-r (isBox m) (isDelta d) bd) (and-l (vecOnGrid d) (onGrid h && isFreeIn records shapes cells w m) t2) (no-not (isStep h) (a .three)) (and-l (onGrid h) (isFreeIn records shapes cells w m) t3) in
     let r = through records shapes cells w R W (and-l (shapesOnGrid records shapes) (vecOnGrid d && (onGrid h && isFreeIn records shapes cells w m)) t1) m d h s bs (a .collects) (and-r (onGrid h) (isFreeIn records shapes cells w m) t3) ground in
     let k : keepsAmong c m d h ground ≡ keepsStep bs m d h ground = ap (λ (x : Ask (List Aabb)). keepsAmong x m d h ground) (a .collects) in
     subst (λ (q : MoveResult). Demand3 (IsSettled records shapes cells w) (keepsAmong c m d h ground) m d q) (sym (a .result))

@@ -2,7 +2,7 @@
 -- (p - n) / 4096, either sign of zero allowed. Assumes nothing.
 use mathlib.Core.Path.{_≡_, refl, sym, ap, _∙_, subst}
 use mathlib.Core.Bool.{Bool, true, false, not, _&&_, _||_, cond}
-use Prim.Native.Nat.{ℕ, zero, suc, _+_, _-_, _*_, _^_, _≤_, _<_}
+use Prim.Native.Nat.{ℕ, _+_, _-_, _^_, _≤_, _<_}
 use native.Mathlib.Nat.{le-of-lt, le-antisymm, le-of-eq, not-le-of-lt, lt-of-lt-of-le, mul-assoc}
 use native.Mathlib.Omega.{arith}
 use lib.Dec.{T, ltb, leb, eqb, leb→le, le→leb, lit<, lit≤, ltb→lt, lt→ltb, nltb→le, eqb→eq}
@@ -24,7 +24,7 @@ pub record At (x : Float) (p n : ℕ) : Type 0 where
   pub units : Signed sign size p n
 
 -- fewer than 2 ^ 53 units are not rounded
-pub round-units : (s : Bool) (k : ℕ) → k < 2 ^ 53 → HasValue (round binary64 s k 4096) s k 4096
+round-units : (s : Bool) (k : ℕ) → k < 2 ^ 53 → HasValue (round binary64 s k 4096) s k 4096
 round-units s k K =
     round-exact binary64 s k 4096 k 1062 (lit< tt) K (lt-of-lt-of-le (shl-lt 53 1062 K) (pow-mono {i = 53 + 1062} {j = 1074 + 1024} (lit≤ tt)))
     (sym (mul-assoc k (2 ^ 1062) 4096))

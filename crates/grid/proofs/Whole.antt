@@ -1,14 +1,11 @@
 -- Three axes, over whole numbers: what one axis of a move leaves free, and how far it gets. Assumes nothing.
-use mathlib.Core.Path.{_≡_, refl}
 use mathlib.Core.Bool.{Bool, _&&_}
 use mathlib.Core.List.{List, [], _∷_}
 use Prim.Native.Nat.{ℕ, _+_, _-_, _≤_, _<_, min, max}
-use mathlib.Core.Logic.{_⊎_, inl, inr}
-use native.Mathlib.Nat.{le-refl}
+use mathlib.Core.Logic.{inl, inr}
 use native.Mathlib.Omega.{arith}
-use lib.Dec.{T}
 use lib.Ieee.Fits.{and-i, and-l, and-r}
-use Rattle.grid.proofs.Axis.{Span, meets, Meets, meets→, →meets, slid, Way, upward, downward, Next, Hits, All, Any, Travel, clips, travel, way-whole}
+use Rattle.grid.proofs.Axis.{Span, meets, Meets, meets→, →meets, slid, Way, upward, downward, Next, Hits, All, Any, Travel, clips, travel}
 
 pub record Box : Type 0 where
   pub x : Span
@@ -122,19 +119,6 @@ module _ (m : Box) (os : List Box) (g : ℕ) (M : Solid m) (O : All Solid os) (f
   pub sweep-z : Sweep (toZ m) (m .z .lo) os g (endZ m os g)
   unfolding endZ
   sweep-z = sweep (toZ m) m (besideZ m) (λ (o : Box). o .z) (m .z) (z-overlap m) (λ (q : ℕ). z-overlap (toZ m q)) (λ (q : ℕ). overlap-z (toZ m q)) (λ (o : Box) (s : Solid o). s .z) os g (M .z) O free
-
--- ---- the three in order
-unfoldable pub afterY : Box → List Box → ℕ → Box
-unfolding endY
-afterY m os g = toY m (endY m os g)
-
-unfoldable pub afterX : Box → List Box → ℕ → Box
-unfolding endX
-afterX m os g = toX m (endX m os g)
-
-unfoldable pub afterZ : Box → List Box → ℕ → Box
-unfolding endZ
-afterZ m os g = toZ m (endZ m os g)
 
 pub solid-y : (m : Box) (q : ℕ) → Solid m → Solid (toY m q)
 solid-y m q s = record { x = s .x; y = (let h : m .y .lo < m .y .hi = s .y in omega arith); z = s .z }

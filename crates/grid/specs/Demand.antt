@@ -18,7 +18,6 @@ use Rattle.boxes.specs.declared.Aabb.{Aabb}
 use Rattle.boxes.specs.declared.Swept.{Swept}
 use Rattle.boxes.specs.declared.BoxList.{BoxList}
 use Rattle.boxes.specs.declared.MoveResult.{MoveResult}
-use Rattle.boxes.specs.declared.MoveAnswer.{MoveAnswer}
 use Rattle.boxes.specs.Boxes.{vec, offsetBy, overlap}
 use Rattle.boxes.specs.Lists.{listOf}
 use Rattle.boxes.specs.Move.{clipSequence, steppedUp, flatSquare, triesStep}

@@ -2,7 +2,7 @@
 -- clips over f64 come to the same. So none of their differences is rounded.
 use mathlib.Core.Path.{_≡_}
 use mathlib.Core.Bool.{Bool, _&&_, _||_}
-use Prim.Native.Nat.{ℕ, _*_, _/_}
+use Prim.Native.Nat.{_*_, _/_}
 use lib.Dec.{T}
 use lib.IntN.{ℤ, pos, _-ℤ_}
 use lib.Signed.{ltZ, leZ}

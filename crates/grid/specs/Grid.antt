@@ -1,7 +1,7 @@
 -- The grid of multiples of 1/4096, and boxes on it: tests that anyone can compute from the numbers alone.
-use mathlib.Core.Bool.{Bool, true, false, not, _&&_, _||_}
+use mathlib.Core.Bool.{Bool, true, false, not, _&&_}
 use mathlib.Core.List.{List, [], _∷_}
-use Prim.Native.Nat.{ℕ, _*_, _%_}
+use Prim.Native.Nat.{_*_, _%_}
 use lib.Dec.{eqb}
 use lib.Ieee.{Float, nan, inf, fin, up, down, lt}
 use Rattle.boxes.specs.declared.Vec3.{Vec3}
