@@ -34,11 +34,11 @@ use Rattle.moves.specs.Collect.{CellShape, cube, boxes, originOf, one64, cubeAt
 use Rattle.moves.specs.Settled.{settled, settledBoxes}
 use Rattle.grid.specs.Grid.{onGrid, isProper}
 use Rattle.grid.specs.Demand.{cellAndHalf, isInCell, shapeOnGrid, shapesOnGrid}
-use Rattle.grid.proofs.Units.{At, add-at, at-same, le-at, lt-at}
+use Rattle.grid.proofs.Units.{At, add-at, at-same, T-true, le-at, lt-at}
 use Rattle.grid.proofs.Axis.{Span}
 use Rattle.grid.proofs.Exact.{base, OnSpan, zero-at}
 use Rattle.grid.proofs.Readings.{read, three, proper}
-use Rattle.grid.proofs.Cells.{numbered, subℕ-add, number, T-true, origin-at}
+use Rattle.grid.proofs.Cells.{numbered, subℕ-add, number, origin-at}
 
 -- ---- one side of a box of the cell n, at most `tall` units from the cell's lower end
 pub record InCell (a b : Float) (n tall : ℕ) : Type 0 where

@@ -18,7 +18,7 @@ use Rattle.floats.proofs.Cells.{cell-within, bottom}
 use Rattle.floats.proofs.Cells as C
 use Rattle.ranges.specs.declared.Axis.{Axis}
 use Rattle.ranges.specs.Ranges.{orZero, spanOf, onFrom, cellsBetween, layersBetween}
-use Rattle.grid.proofs.Units.{At, Signed, le-is}
+use Rattle.grid.proofs.Units.{At, Signed, T-true, le-is}
 use Rattle.grid.proofs.Exact.{base, top}
 
 abbrev pub numbered : ℕ → ℤ
@@ -109,10 +109,6 @@ floor-at (fin t m e) v h =
     go : (s : Bool) (k : ℕ) → Signed s k v base → m * up e * 4096 ≡ k * down e → signedOf s (floorSize s (m * up e) (down e)) ≡ numbered (v / 4096)
     go false k u w = ap pos (quotient (m * up e) (down e) k (down-pos e) w) ∙ sym (subℕ-pos (v / 4096) (2 ^ 28) (k / 4096) (omega arith))
     go true k u w = ap (λ (n : ℕ). negℤ (pos n)) (quotient-up (m * up e) (down e) k (down-pos e) w) ∙ below ((k + 4095) / 4096) (omega arith)
-
-pub T-true : (b : Bool) → T b → b ≡ true
-T-true true t = refl
-T-true false t = absurd t
 
 -- within 2 ^ 26, which is 2 ^ 38 units
 cell-at : (x : Float) (v : ℕ) → At x v base → base ≤ v + 2 ^ 38 → v ≤ base + 2 ^ 38 → cellOf x ≡ numbered (v / 4096)

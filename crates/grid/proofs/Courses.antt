@@ -44,7 +44,7 @@ or-split false b t = inr t
 from-lo : (x y : Float) (a b lo : ℕ) → At x a lo → At y b lo → le x y ≡ leb a b
 from-lo x y a b lo h j = le-is x y a lo b lo a b h j (omega arith)
 
-way→between : (d t : Float) (lo g e : ℕ) → At d g lo → At t e lo → Way lo g e → T (between zero64 d t)
+pub way→between : (d t : Float) (lo g e : ℕ) → At d g lo → At t e lo → Way lo g e → T (between zero64 d t)
 unfolding between
 way→between d t lo g e D E (upward h j) =
     or-l (le zero64 t && le t d) (le d t && le t zero64)
@@ -54,12 +54,12 @@ way→between d t lo g e D E (downward h j) =
     (and-i (le d t) (le t zero64) (subst T (sym (from-lo d t g e lo D E)) (le→leb g e h)) (subst T (sym (from-lo t zero64 e lo lo E (zero-at lo))) (le→leb e lo j)))
 
 -- a number on the grid that lies on the way to t lies at a place on the way to e
-record Place (r : Float) (lo e : ℕ) : Type 0 where
-  q : ℕ
-  at : At r q lo
-  way : Way lo e q
+pub record Place (r : Float) (lo e : ℕ) : Type 0 where
+  pub q : ℕ
+  pub at : At r q lo
+  pub way : Way lo e q
 
-place : (t r : Float) (lo e : ℕ) → At t e lo → T (onGrid r) → T (between zero64 t r) → Place r lo e
+pub place : (t r : Float) (lo e : ℕ) → At t e lo → T (onGrid r) → T (between zero64 t r) → Place r lo e
 unfolding between
 place t r lo e E G b = go (or-split (le zero64 r && le r t) (le t r && le r zero64) b)
   where
@@ -77,7 +77,7 @@ place t r lo e E G b = go (or-split (le zero64 r && le r t) (le t r && le r zero
         let w : e + R .minus ≤ R .plus + lo = leb→le (e + R .minus) (R .plus + lo) (subst T (le-at t r e lo (R .plus) (R .minus) E (R .at)) (and-l (le t r) (le r zero64) h)) in
         record { q = q; at = at-same (R .plus) (R .minus) q lo (omega arith) (R .at); way = downward (omega arith) (omega arith) }
 
-unit-at : At unit 1 0
+pub unit-at : At unit 1 0
 unit-at = record { sign = false; size = 1; value = (refl, refl); units = refl }
 
 short-up : (lo g e : ℕ) → Way lo g e → lo < g → ¬ (e ≡ g) → e < g

@@ -12,4 +12,5 @@ pub mod Blocks
 pub mod Areas
 pub mod Through
 pub mod Clips
+pub mod Once
 pub mod Samples

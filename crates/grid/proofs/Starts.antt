@@ -25,7 +25,7 @@ use Rattle.grid.proofs.Readings.{three, vec-within, ReadSpan, ReadBox, 
 use Rattle.grid.proofs.Courses.{Aside, move-demand}
 
 -- 128 and 4, in units
-delta-at : At (twoTo 7) (2 ^ 19) 0
+pub delta-at : At (twoTo 7) (2 ^ 19) 0
 delta-at = record { sign = false; size = 2 ^ 19; value = (refl, refl); units = omega arith }
 
 step-at : At (twoTo 2) (2 ^ 14) 0

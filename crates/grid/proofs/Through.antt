@@ -36,13 +36,14 @@ use Rattle.moves.proofs.Order.{keptOf, collected-is, is-collected}
 use Rattle.moves.proofs.Refuses.{FiveOrSix, collect-refuses}
 use Rattle.grid.specs.Grid.{onGrid, vecOnGrid, isProper, isFree}
 use Rattle.grid.specs.Demand.{Demand3, keepsStep, IsSettled, shapesOnGrid, cellFrom, isFreeIn, windowOnGrid, keepsAmong, keepsStepIn, WindowDemand}
+use Rattle.grid.proofs.Units.{T-true}
 use Rattle.grid.proofs.Axis.{Span, Meets}
 use Rattle.grid.proofs.Whole.{Box, Solid, Overlap}
 use Rattle.grid.proofs.Exact.{On, overlap-to, overlap-from}
 use Rattle.grid.proofs.Readings.{Knowns}
 use Rattle.grid.proofs.Courses.{Aside}
 use Rattle.grid.proofs.Starts.{Start, start, areaOf, from-start}
-use Rattle.grid.proofs.Cells.{T-true, in-cells, in-layers}
+use Rattle.grid.proofs.Cells.{in-cells, in-layers}
 use Rattle.grid.proofs.Blocks.{InCells, Settled, block}
 use Rattle.grid.proofs.Areas.{area, area-on}
 
@@ -141,6 +142,13 @@ module _ (records : List ℕ) (shapes : List Float) (cells : List ℕ) (w : Wind
       (subst (λ (l : List Aabb). List·Memᴰ o l) (collected-is (lookAt cells w) records shapes (sweptArea m d h) bs C) n) in
       record { cell = r .at; is = of-overlapping (sweptArea m d h) o (settledBoxes (lookAt cells w) records shapes (r .at)) (r .is) }
 
+  at-index : (o : Aabb) (p : Pos) → List·Memᴰ o (settledBoxes (lookAt cells w) records shapes p) → overlap o (sweptArea m d h) ≡ true → (x y z : ℕ)
+      → x < rangeOf (sweptArea m d h) .x .count → y < rangeOf (sweptArea m d h) .y .count → z < rangeOf (sweptArea m d h) .z .count
+      → p .x ≡ placeAt (rangeOf (sweptArea m d h)) x y z .x → p .y ≡ placeAt (rangeOf (sweptArea m d h)) x y z .y → p .z ≡ placeAt (rangeOf (sweptArea m d h)) x y z .z → List·Memᴰ o bs
+  at-index o p n e x y z hx hy hz px py pz =
+      let at : p ≡ placeAt (rangeOf (sweptArea m d h)) x y z = (λ j. record { x = px j; y = py j; z = pz j }) in
+      is-collected (lookAt cells w) records shapes (sweptArea m d h) bs C o x y z hx hy hz (subst (λ (q : Pos). List·Memᴰ o (settledBoxes (lookAt cells w) records shapes q)) at n) e
+
   -- a box of a settled cell that overlaps the swept area: its cell is in the range
   collected : (o : Aabb) (p : Pos) → List·Memᴰ o (settledBoxes (lookAt cells w) records shapes p) → (b : Settled w p o) → overlap o (sweptArea m d h) ≡ true → List·Memᴰ o bs
   collected o p n b e =
@@ -163,12 +171,7 @@ module _ (records : List ℕ) (shapes : List Float) (cells : List ℕ) (w : Wind
       let x = in-cells _ _ (areaOf s .x .lo) (areaOf s .x .hi) (i .x .number) (a .x .lo) (a .x .hi) (omega arith) (omega arith) in
       let y = in-layers _ _ (areaOf s .y .lo) (areaOf s .y .hi) (i .y .number) (a .y .lo) (a .y .hi) (omega arith) (omega arith) in
       let z = in-cells _ _ (areaOf s .z .lo) (areaOf s .z .hi) (i .z .number) (a .z .lo) (a .z .hi) (omega arith) (omega arith) in
-      let px : p .x ≡ placeAt (rangeOf (sweptArea m d h)) (x .index) (y .index) (z .index) .x = i .x .is ∙ sym (x .is) in
-      let py : p .y ≡ placeAt (rangeOf (sweptArea m d h)) (x .index) (y .index) (z .index) .y = i .y .is ∙ sym (y .is) in
-      let pz : p .z ≡ placeAt (rangeOf (sweptArea m d h)) (x .index) (y .index) (z .index) .z = i .z .is ∙ sym (z .is) in
-      let at : p ≡ placeAt (rangeOf (sweptArea m d h)) (x .index) (y .index) (z .index) = (λ j. record { x = px j; y = py j; z = pz j }) in
-      is-collected (lookAt cells w) records shapes (sweptArea m d h) bs C o (x .index) (y .index) (z .index) (x .below) (y .below) (z .below)
-      (subst (λ (q : Pos). List·Memᴰ o (settledBoxes (lookAt cells w) records shapes q)) at n) e
+      at-index o p n e (x .index) (y .index) (z .index) (x .below) (y .below) (z .below) (i .x .is ∙ sym (x .is)) (i .y .is ∙ sym (y .is)) (i .z .is ∙ sym (z .is))
 
   seen : (o : Aabb) → IsSettled records shapes cells w o → List·Memᴰ o bs ⊎ Aside (areaOf s) o
   seen o c = go (overlap o (sweptArea m d h)) refl

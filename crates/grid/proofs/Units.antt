@@ -77,6 +77,10 @@ at-same p n p' n' e h = record { sign = h .sign; size = h .size; value = h .valu
     go true k u = omega arith
 
 -- ---- the order: each test on floats is the test on whole numbers
+pub T-true : (b : Bool) → T b → b ≡ true
+T-true true t = refl
+T-true false t = absurd t
+
 pub bool-iff : (a b : Bool) → (T a → T b) → (T b → T a) → a ≡ b
 bool-iff true true f g = refl
 bool-iff true false f g = absurd (f tt)
@@ -96,7 +100,7 @@ and-yes : (b : Bool) → b && true ≡ b
 and-yes true = refl
 and-yes false = refl
 
-ltb-no : (a b : ℕ) → b ≤ a → ltb a b ≡ false
+pub ltb-no : (a b : ℕ) → b ≤ a → ltb a b ≡ false
 ltb-no a b h = bool-iff (ltb a b) false (λ (t : T (ltb a b)). not-le-of-lt (ltb→lt a b t) h) (λ (t : ⊥). absurd t)
 
 module _ (k l p n q m : ℕ) where

@@ -1,7 +1,10 @@
 -- Demand 3, over the definitions of the move: "an accepted move whose box corners, delta, step height and block shapes are multiples of 1/4096 within
 -- document 01's limits, all boxes of positive size, shapes inside their cell or up to half a block above it, and no overlap at the start. Then the box
--- ends overlapping no block box at all … Where no step-up is kept, the axes go y, x, z, and each travels towards its share of delta as far as it can
--- with no overlap at any multiple of 1/4096 on the way. Where one is kept, the end is free too." `Block b` says that b is one of the block boxes.
+-- ends overlapping no block box at all, where the block boxes, at start and end, are those of every cell whose shape the look-up settles without leaving
+-- the window, collected or not; in a move over a list they are the list's own, and no cell is needed. Where no step-up is kept, the axes go y, x, z, and
+-- each travels towards its share of delta as far as it can with no overlap at any multiple of 1/4096 on the way. Where one is kept, the end is free too."
+-- The limits are those that an accepted move was held to. `ListDemand` and `WindowDemand` are the two theorems; proofs/OverList and proofs/Through prove
+-- them. `T` of a test says that it is true, and `Block b` that b is one of the block boxes.
 use mathlib.Core.Path.{_≡_}
 use mathlib.Core.Bool.{Bool, false, not, _&&_, _||_}
 use mathlib.Core.List.{List, List·Memᴰ}
