@@ -13,7 +13,7 @@ use Rattle.moves.specs.Answers.{sweptArea}
 use Rattle.grid.proofs.Units.{At, add-at, at-same, le-is}
 use Rattle.grid.proofs.Axis.{Span}
 use Rattle.grid.proofs.Whole.{Box, reach}
-use Rattle.grid.proofs.Exact.{base, top, OnSpan, On, zero-at, choose-at}
+use Rattle.grid.proofs.Counted.{base, top, OnSpan, On, zero-at, choose-at}
 use Rattle.grid.proofs.Readings.{ReadSpan, Lead}
 use Rattle.grid.proofs.Cells.{Reached}
 use Rattle.grid.proofs.Starts.{Start, areaOf}

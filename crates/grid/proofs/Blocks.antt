@@ -36,7 +36,7 @@ use Rattle.grid.specs.Grid.{onGrid, isProper}
 use Rattle.grid.specs.Demand.{cellAndHalf, isInCell, shapeOnGrid, shapesOnGrid}
 use Rattle.grid.proofs.Units.{At, add-at, at-same, T-true, le-at, lt-at}
 use Rattle.grid.proofs.Axis.{Span}
-use Rattle.grid.proofs.Exact.{base, OnSpan, zero-at}
+use Rattle.grid.proofs.Counted.{base, OnSpan, zero-at}
 use Rattle.grid.proofs.Readings.{read, three, proper}
 use Rattle.grid.proofs.Cells.{numbered, subℕ-add, number, origin-at}
 

@@ -19,7 +19,7 @@ use Rattle.floats.proofs.Cells as C
 use Rattle.ranges.specs.declared.Axis.{Axis}
 use Rattle.ranges.specs.Ranges.{orZero, spanOf, onFrom, cellsBetween, layersBetween}
 use Rattle.grid.proofs.Units.{At, Signed, T-true, le-is}
-use Rattle.grid.proofs.Exact.{base, top}
+use Rattle.grid.proofs.Counted.{base, top}
 
 abbrev pub numbered : ℕ → ℤ
 numbered n = subℕ n (2 ^ 28)

@@ -18,7 +18,7 @@ use Rattle.boxes.specs.Limits.{twoTo, areWithin, sidesOf, isBox}
 use Rattle.grid.specs.Grid.{onGrid, vecOnGrid}
 use Rattle.grid.specs.Exact.{unitsOf, leastZ, greatestZ, apartZ, stopAtZ, Exact, ClipLaw}
 use Rattle.grid.proofs.Units.{At, Signed, sub-at, lt-at, le-at, ltb-iff, leb-iff}
-use Rattle.grid.proofs.Exact.{zero-at, and-is, or-is}
+use Rattle.grid.proofs.Counted.{zero-at, and-is, or-is}
 use Rattle.grid.proofs.Readings.{Read, read, at-grid, within-units, reach, limit-at, three, vec-within}
 use Rattle.grid.proofs.Cells.{subℕ-pos, subℕ-neg, subℕ-add}
 

@@ -24,7 +24,7 @@ use Rattle.grid.proofs.Units.{At, neg-at, add-at, sub-at, at-same, lt-i
 use Rattle.grid.proofs.Axis.{Span, slid, All, Way, upward, downward, above, beneath, way-whole, way-trans}
 use Rattle.grid.proofs.Whole.{Box, Solid, Free, Overlap, Sweep, toX, toY, toZ, endX, endY, endZ, solid-x, solid-y, sweep-x, sweep-y, sweep-z, Inside, reach, self-inside, way-inside, BoxInside, overlap-grow}
 use Rattle.grid.proofs.Whole as W
-use Rattle.grid.proofs.Exact.{top, On, OnAll, Leads, zero-at, all-x, all-y, all-z, on-x, on-y, on-z, overlap-to, overlap-from}
+use Rattle.grid.proofs.Counted.{top, On, OnAll, Leads, zero-at, all-x, all-y, all-z, on-x, on-y, on-z, overlap-to, overlap-from}
 use Rattle.grid.proofs.Readings.{read, at-grid}
 
 -- ---- the way, by tests on floats

@@ -1,8 +1,8 @@
--- Demand 3 holds.
+-- Demand 3 holds: `demand3-list` in OverList, `demand3-window` in Through; `clips-exact` in Clips; Samples and Once check the demand itself.
 pub mod Units
 pub mod Axis
 pub mod Whole
-pub mod Exact
+pub mod Counted
 pub mod Readings
 pub mod Courses
 pub mod Starts

@@ -16,7 +16,7 @@ use Rattle.grid.specs.Grid.{onGrid}
 use Rattle.grid.specs.Demand.{unit, further, Free, Struck, Travels}
 use Rattle.grid.proofs.Units.{At, add-at, sub-at, at-same, T-true, ltb-no, lt-is, eq-at}
 use Rattle.grid.proofs.Axis.{Way, upward, downward}
-use Rattle.grid.proofs.Exact.{base, zero-at}
+use Rattle.grid.proofs.Counted.{base, zero-at}
 use Rattle.grid.proofs.Readings.{read, at-grid, within-units}
 use Rattle.grid.proofs.Courses.{way→between, unit-at, Place, place}
 use Rattle.grid.proofs.Starts.{delta-at}

@@ -19,7 +19,7 @@ use Rattle.grid.specs.Grid.{onGrid, vecOnGrid, isSolid, isProper, arePro
 use Rattle.grid.proofs.Units.{At, Signed, at-same, lt-is, le-is}
 use Rattle.grid.proofs.Axis.{Span, All}
 use Rattle.grid.proofs.Whole.{Box, Solid}
-use Rattle.grid.proofs.Exact.{base, OnSpan, On, OnAll, Leads}
+use Rattle.grid.proofs.Counted.{base, OnSpan, On, OnAll, Leads}
 
 -- ---- a number
 pub record Read (x : Float) : Type 0 where

@@ -20,7 +20,7 @@ use Rattle.grid.specs.Demand.{Demand3, keepsStep}
 use Rattle.grid.proofs.Units.{At, le-is}
 use Rattle.grid.proofs.Axis.{Span, All}
 use Rattle.grid.proofs.Whole.{Box, Solid, Free, Overlap, Inside, reach}
-use Rattle.grid.proofs.Exact.{base, On, OnAll, zero-at, overlap-from}
+use Rattle.grid.proofs.Counted.{base, On, OnAll, zero-at, overlap-from}
 use Rattle.grid.proofs.Readings.{three, vec-within, ReadSpan, ReadBox, boxOf, box-on, box-solid, read-box, Lead, lead}
 use Rattle.grid.proofs.Courses.{Aside, move-demand}
 

@@ -39,7 +39,7 @@ use Rattle.grid.specs.Demand.{Demand3, keepsStep, IsSettled, shapesOnGri
 use Rattle.grid.proofs.Units.{T-true}
 use Rattle.grid.proofs.Axis.{Span, Meets}
 use Rattle.grid.proofs.Whole.{Box, Solid, Overlap}
-use Rattle.grid.proofs.Exact.{On, overlap-to, overlap-from}
+use Rattle.grid.proofs.Counted.{On, overlap-to, overlap-from}
 use Rattle.grid.proofs.Readings.{Knowns}
 use Rattle.grid.proofs.Courses.{Aside}
 use Rattle.grid.proofs.Starts.{Start, start, areaOf, from-start}

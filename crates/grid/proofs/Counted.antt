@@ -1,5 +1,5 @@
--- On the grid clipping is exact: it is `clip` of whole numbers of units (`clip-x-at`, `clip-y-at`, `clip-z-at`); so are the passes of a move
--- over a list, the offsets and the overlaps. Assumes nothing.
+-- The clips, passes, offsets and overlaps of a move, counted in units: over boxes on the grid each is that of whole numbers, `clip` and `Overlap` of
+-- `Axis` and `Whole`. Assumes nothing.
 use mathlib.Core.Path.{_≡_, refl, sym, ap, _∙_, subst}
 use mathlib.Core.Bool.{Bool, true, false, not, _&&_, _||_, cond}
 use mathlib.Core.List.{List, [], _∷_}
