@@ -1,0 +1,195 @@
+-- Cells of the grid: the cell n of an axis stands for the whole number n - 2 ^ 28, and has the places from 4096 * n to 4096 * (n + 1). The cell of a
+-- coordinate (`cell-at`), which cells a range holds (`in-cells`, `in-layers`), and where a cell's origin lies (`origin-at`). Assumes nothing.
+use mathlib.Core.Path.{_≡_, refl, sym, ap, _∙_, subst}
+use mathlib.Core.Bool.{Bool, true, false, not, cond}
+use Prim.Native.Nat.{ℕ, zero, suc, _+_, _-_, _*_, _/_, _%_, _^_, _≤_, _<_, min}
+use native.Mathlib.Nat.{mul-right-comm, div-add-mod', mod-lt, le-of-mul-le-mul-right, lt-of-mul-lt-mul-right}
+use native.Mathlib.Omega.{arith}
+use lib.IntN.{ℤ, pos, negsuc, negℤ, natAbs, subℕ, _+ℤ_, _-ℤ_, +ℤ-comm, +ℤ-negℤ-cancel}
+use lib.Signed.{leZ}
+use lib.Dec.{T, ltb, leb, ltb→lt, nltb→le, le→leb}
+use lib.Ieee.{Float, nan, inf, fin, binary64, up, down, round, ofInt, le}
+use lib.Ieee.Fits.{down-pos}
+use lib.Ieee.Back.{round-whole}
+use Rattle.base.specs.Choose.{choose}
+use Rattle.base.proofs.Values.{rescaled}
+use Rattle.floats.specs.Whole.{floorSize, floorInt, signedOf, cellOf}
+use Rattle.floats.proofs.Cells.{cell-within, bottom}
+use Rattle.floats.proofs.Cells as C
+use Rattle.ranges.specs.declared.Axis.{Axis}
+use Rattle.ranges.specs.Ranges.{orZero, spanOf, onFrom, cellsBetween, layersBetween}
+use Rattle.grid.proofs.Units.{At, Signed, T-true, le-is}
+use Rattle.grid.proofs.Counted.{base, top}
+
+abbrev pub numbered : ℕ → ℤ
+numbered n = subℕ n (2 ^ 28)
+
+-- ---- what `subℕ` is
+pub subℕ-pos : (a b n : ℕ) → b + n ≡ a → subℕ a b ≡ pos n
+subℕ-pos a b n h = go (ltb a b) (ltb→lt a b)
+  where
+    go : (u : Bool) → (T u → a < b) → cond u (negsuc (b - suc a)) (pos (a - b)) ≡ pos n
+    go true f = absurd (let w : a < b = f tt in omega arith)
+    go false f = ap pos (let z : a - b ≡ n = omega arith in z)
+
+pub subℕ-neg : (a b n : ℕ) → a + suc n ≡ b → subℕ a b ≡ negsuc n
+subℕ-neg a b n h = go (ltb a b) (nltb→le a b)
+  where
+    go : (u : Bool) → (T (not u) → b ≤ a) → cond u (negsuc (b - suc a)) (pos (a - b)) ≡ negsuc n
+    go true f = ap negsuc (let z : b - suc a ≡ n = omega arith in z)
+    go false f = absurd (let w : b ≤ a = f tt in omega arith)
+
+pub subℕ-add : (a c k : ℕ) → subℕ a c +ℤ pos k ≡ subℕ (a + k) c
+subℕ-add a c k = go (ltb a c) (ltb→lt a c) (nltb→le a c)
+  where
+    low : (a < c) → (u : Bool) → (T u → k < c - a) → (T (not u) → c - a ≤ k) → subℕ k (suc (c - suc a)) ≡ subℕ (a + k) c
+    low h true f f' = subℕ-neg k (suc (c - suc a)) (c - a - suc k) (let z : k < c - a = f tt in omega arith) ∙ sym (subℕ-neg (a + k) c (c - a - suc k) (let z : k < c - a = f tt in omega arith))
+    low h false f f' = subℕ-pos k (suc (c - suc a)) (a + k - c) (let z : c - a ≤ k = f' tt in omega arith) ∙ sym (subℕ-pos (a + k) c (a + k - c) (let z : c - a ≤ k = f' tt in omega arith))
+
+    go : (u : Bool) → (T u → a < c) → (T (not u) → c ≤ a) → cond u (negsuc (c - suc a)) (pos (a - c)) +ℤ pos k ≡ subℕ (a + k) c
+    go true f f' = low (f tt) (ltb k (c - a)) (ltb→lt k (c - a)) (nltb→le k (c - a))
+    go false f f' = sym (subℕ-pos (a + k) c (a - c + k) (let z : c ≤ a = f' tt in omega arith))
+
+subℕ-le : (a b c : ℕ) → a ≤ b → T (leZ (subℕ a c) (subℕ b c))
+subℕ-le a b c h = go (ltb a c) (ltb→lt a c) (nltb→le a c) (ltb b c) (ltb→lt b c) (nltb→le b c)
+  where
+    go : (u : Bool) → (T u → a < c) → (T (not u) → c ≤ a) → (w : Bool) → (T w → b < c) → (T (not w) → c ≤ b) → T (leZ (cond u (negsuc (c - suc a)) (pos (a - c))) (cond w (negsuc (c - suc b)) (pos (b - c))))
+    go true f f' true g g' = le→leb (c - suc b) (c - suc a) (omega arith)
+    go true f f' false g g' = tt
+    go false f f' true g g' = absurd (let x : c ≤ a = f' tt in let y : b < c = g tt in omega arith)
+    go false f f' false g g' = le→leb (a - c) (b - c) (omega arith)
+
+-- the number of a cell not far from 0
+pub record Numbered (z : ℤ) (far : ℕ) : Type 0 where
+  pub number : ℕ
+  pub is : z ≡ numbered number
+  pub low : 2 ^ 28 ≤ number + far
+  pub high : number ≤ 2 ^ 28 + far
+
+pub number : (z : ℤ) (far : ℕ) → natAbs z ≤ far → far ≤ 2 ^ 28 → Numbered z far
+number (pos k) far h small = record { number = 2 ^ 28 + k; is = sym (subℕ-pos (2 ^ 28 + k) (2 ^ 28) k refl); low = omega arith; high = omega arith }
+number (negsuc k) far h small =
+    let g : suc k ≤ far = h in
+    record { number = 2 ^ 28 - suc k; is = sym (subℕ-neg (2 ^ 28 - suc k) (2 ^ 28) k (omega arith)); low = omega arith; high = omega arith }
+
+-- ---- the cell of a coordinate
+quotient : (a c k : ℕ) → 0 < c → a * 4096 ≡ k * c → a / c ≡ k / 4096
+quotient a c k C e =
+    let q = a / c in
+    let r = a % c in
+    let R : r < c = mod-lt a C in
+    let x : q * c + r ≡ a = div-add-mod' a c in
+    let p : q * 4096 * c ≡ q * c * 4096 = mul-right-comm q 4096 c in
+    let l : q * 4096 ≤ k = le-of-mul-le-mul-right {m = q * 4096} {n = k} {k = c} (omega arith) C in
+    let t : k < q * 4096 + 4096 = lt-of-mul-lt-mul-right c {m = k} {n = q * 4096 + 4096} (omega arith) in
+    omega arith
+
+quotient-up : (a c k : ℕ) → 0 < c → a * 4096 ≡ k * c → (a + (c - 1)) / c ≡ (k + 4095) / 4096
+quotient-up a c k C e =
+    let q = (a + (c - 1)) / c in
+    let r = (a + (c - 1)) % c in
+    let R : r < c = mod-lt (a + (c - 1)) C in
+    let x : q * c + r ≡ a + (c - 1) = div-add-mod' (a + (c - 1)) c in
+    let p : q * 4096 * c ≡ q * c * 4096 = mul-right-comm q 4096 c in
+    let l : k ≤ q * 4096 = le-of-mul-le-mul-right {m = k} {n = q * 4096} {k = c} (omega arith) C in
+    let t : q * 4096 < k + 4096 = lt-of-mul-lt-mul-right c {m = q * 4096} {n = k + 4096} (omega arith) in
+    omega arith
+
+floor-at : (x : Float) (v : ℕ) → At x v base → floorInt x ≡ numbered (v / 4096)
+unfolding floorInt floorSize
+floor-at nan v h = absurd (h .value)
+floor-at (inf s) v h = absurd (h .value)
+floor-at (fin t m e) v h =
+    ap (λ (s : Bool). signedOf s (floorSize s (m * up e) (down e))) (h .value .0) ∙ go (h .sign) (h .size) (h .units) (h .value .1)
+  where
+    below : (n : ℕ) → v / 4096 + n ≡ 2 ^ 28 → negℤ (pos n) ≡ numbered (v / 4096)
+    below zero q = sym (subℕ-pos (v / 4096) (2 ^ 28) 0 (omega arith))
+    below (suc i) q = sym (subℕ-neg (v / 4096) (2 ^ 28) i q)
+
+    go : (s : Bool) (k : ℕ) → Signed s k v base → m * up e * 4096 ≡ k * down e → signedOf s (floorSize s (m * up e) (down e)) ≡ numbered (v / 4096)
+    go false k u w = ap pos (quotient (m * up e) (down e) k (down-pos e) w) ∙ sym (subℕ-pos (v / 4096) (2 ^ 28) (k / 4096) (omega arith))
+    go true k u w = ap (λ (n : ℕ). negℤ (pos n)) (quotient-up (m * up e) (down e) k (down-pos e) w) ∙ below ((k + 4095) / 4096) (omega arith)
+
+-- within 2 ^ 26, which is 2 ^ 38 units
+cell-at : (x : Float) (v : ℕ) → At x v base → base ≤ v + 2 ^ 38 → v ≤ base + 2 ^ 38 → cellOf x ≡ numbered (v / 4096)
+cell-at x v h lo hi =
+    sym (cell-within x
+    (le-is x C.top v base (2 ^ 38) 0 v (base + 2 ^ 38) h (record { sign = false; size = 2 ^ 38; value = (refl, refl); units = refl }) (omega arith) ∙ T-true (leb v (base + 2 ^ 38)) (le→leb v (base + 2 ^ 38) hi))
+    (le-is bottom x 0 (2 ^ 38) v base base (v + 2 ^ 38) (record { sign = true; size = 2 ^ 38; value = (refl, refl); units = refl }) h (omega arith) ∙ T-true (leb base (v + 2 ^ 38)) (le→leb base (v + 2 ^ 38) lo)))
+    ∙ floor-at x v h
+
+-- ---- ranges
+-- from a, k cells on
+difference : (a : ℤ) (k : ℕ) → (a +ℤ pos k) -ℤ a ≡ pos k
+difference a k = ap (λ (z : ℤ). z -ℤ a) (+ℤ-comm a (pos k)) ∙ +ℤ-negℤ-cancel (pos k) a
+
+span-is : (l h : ℕ) → l ≤ h → h < l + 2 ^ 30 → spanOf (numbered l) (numbered h) ≡ h - l + 1
+unfolding spanOf
+span-is l h le lt =
+    let k = h - l in
+    let e : numbered h ≡ numbered l +ℤ pos k = ap numbered (let z : h ≡ l + (h - l) = omega arith in z) ∙ sym (subℕ-add l (2 ^ 28) k) in
+    ap (λ (z : ℤ). min (orZero (z -ℤ numbered l +ℤ pos 1)) 4294967295) e
+    ∙ ap (λ (z : ℤ). min (orZero (z +ℤ pos 1)) 4294967295) (difference (numbered l) k)
+    ∙ small k (omega arith)
+  where
+    small : (k : ℕ) → k < 2 ^ 30 → min (k + 1) 4294967295 ≡ k + 1
+    small k h = omega arith
+
+on-is : (l k : ℕ) → l + k ≤ 2 ^ 28 + 2 ^ 26 → onFrom (numbered l) k ≡ numbered (l + k)
+unfolding onFrom choose
+on-is l k h =
+    let e : leZ (numbered l +ℤ pos k) (pos 67108864) ≡ true = ap (λ (z : ℤ). leZ z (pos 67108864)) (subℕ-add l (2 ^ 28) k) ∙ T-true (leZ (numbered (l + k)) (pos 67108864)) (subℕ-le (l + k) (2 ^ 28 + 2 ^ 26) (2 ^ 28) h) in
+    rw e (subℕ-add l (2 ^ 28) k)
+
+-- the cell c is one of the axis
+pub record Held (a : Axis) (c : ℤ) : Type 0 where
+  pub index : ℕ
+  pub below : index < a .count
+  pub is : onFrom (a .first) index ≡ c
+
+held : (f g : ℤ) (l h n : ℕ) → f ≡ numbered l → g ≡ numbered h → l ≤ n → n ≤ h → h < l + 2 ^ 30 → h ≤ 2 ^ 28 + 2 ^ 26 → Held record { first = f; count = spanOf f g } (numbered n)
+held f g l h n F G low high near small =
+    let e : spanOf f g ≡ h - l + 1 = ap (λ (z : ℤ). spanOf z g) F ∙ ap (λ (z : ℤ). spanOf (numbered l) z) G ∙ span-is l h (omega arith) near in
+    let k = n - l in
+    record {
+      index = k;
+      below = subst (λ (i : ℕ). k < i) (sym e) (omega arith);
+      is = ap (λ (z : ℤ). onFrom z k) F ∙ on-is l k (omega arith) ∙ ap numbered (let z : l + (n - l) ≡ n = omega arith in z);
+    }
+
+pub record Reached (x : Float) (v : ℕ) : Type 0 where
+  pub at : At x v base
+  pub low : base ≤ v + 2 ^ 38
+  pub high : v ≤ base + 2 ^ 38
+
+cell-of : (x : Float) (v : ℕ) → Reached x v → cellOf x ≡ numbered (v / 4096)
+cell-of x v r = cell-at x v (r .at) (r .low) (r .high)
+
+pub in-cells : (lo hi : Float) (a b n : ℕ) → Reached lo a → Reached hi b → a / 4096 ≤ n → n ≤ b / 4096 → Held (cellsBetween lo hi) (numbered n)
+in-cells lo hi a b n A B low high =
+    let al : base ≤ a + 2 ^ 38 = A .low in
+    let bh : b ≤ base + 2 ^ 38 = B .high in
+    held (cellOf lo) (cellOf hi) (a / 4096) (b / 4096) n (cell-of lo a A) (cell-of hi b B) low high (omega arith) (omega arith)
+
+pub in-layers : (lo hi : Float) (a b n : ℕ) → Reached lo a → Reached hi b → a / 4096 ≤ n + 1 → n ≤ b / 4096 → Held (layersBetween lo hi) (numbered n)
+in-layers lo hi a b n A B low high =
+    let al : base ≤ a + 2 ^ 38 = A .low in
+    let bh : b ≤ base + 2 ^ 38 = B .high in
+    let l = a / 4096 - 1 in
+    let e : numbered (a / 4096) ≡ numbered l +ℤ pos 1 = ap numbered (let z : a / 4096 ≡ a / 4096 - 1 + 1 = omega arith in z) ∙ sym (subℕ-add l (2 ^ 28) 1) in
+    held (cellOf lo -ℤ pos 1) (cellOf hi) l (b / 4096) n (ap (λ (z : ℤ). z -ℤ pos 1) (cell-of lo a A ∙ e) ∙ +ℤ-negℤ-cancel (numbered l) (pos 1)) (cell-of hi b B) (omega arith) high (omega arith) (omega arith)
+
+-- ---- the origin of a cell
+pub origin-at : (n : ℕ) → n < 2 ^ 29 → At (ofInt binary64 (numbered n)) (4096 * n) base
+unfolding ofInt
+origin-at n h = go (ltb n (2 ^ 28)) (ltb→lt n (2 ^ 28)) (nltb→le n (2 ^ 28))
+  where
+    go : (u : Bool) → (T u → n < 2 ^ 28) → (T (not u) → 2 ^ 28 ≤ n) → At (ofInt binary64 (cond u (negsuc (2 ^ 28 - suc n)) (pos (n - 2 ^ 28)))) (4096 * n) base
+    go true f f' =
+        let k = 2 ^ 28 - suc n in
+        let z : n < 2 ^ 28 = f tt in
+        record { sign = true; size = suc k * 4096; value = rescaled (round binary64 true (suc k) 1) true (suc k) 4096 (round-whole binary64 true (suc k) (omega arith)); units = omega arith }
+    go false f f' =
+        let k = n - 2 ^ 28 in
+        let z : 2 ^ 28 ≤ n = f' tt in
+        record { sign = false; size = k * 4096; value = rescaled (round binary64 false k 1) false k 4096 (round-whole binary64 false k (omega arith)); units = omega arith }

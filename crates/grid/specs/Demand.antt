@@ -1,0 +1,161 @@
+-- Demand 3, over the definitions of the move: "an accepted move whose box corners, delta, step height and block shapes are multiples of 1/4096 within
+-- document 01's limits, all boxes of positive size, shapes inside their cell or up to half a block above it, and no overlap at the start. Then the box
+-- ends overlapping no block box at all, where the block boxes, at start and end, are those of every cell whose shape the look-up settles without leaving
+-- the window, collected or not; in a move over a list they are the list's own, and no cell is needed. Where no step-up is kept, the axes go y, x, z, and
+-- each travels towards its share of delta as far as it can with no overlap at any multiple of 1/4096 on the way. Where one is kept, the end is free too."
+-- The limits are those that an accepted move was held to. `ListDemand` and `WindowDemand` are the two theorems; proofs/OverList and proofs/Through prove
+-- them. `T` of a test says that it is true, and `Block b` that b is one of the block boxes.
+use mathlib.Core.Path.{_≡_}
+use mathlib.Core.Bool.{Bool, false, not, _&&_, _||_}
+use mathlib.Core.List.{List, List·Memᴰ}
+use Prim.Native.Nat.{ℕ}
+use lib.Dec.{T}
+use lib.IntN.{pos, negsuc, _+ℤ_}
+use lib.Ieee.{Float, fin, binary64, ofBits, add, sub, lt, le, eq}
+use Rattle.base.specs.Choose.{choose}
+use Rattle.base.specs.Ask.{Ask, refused, found}
+use Rattle.base.specs.Every.{every}
+use Rattle.floats.specs.Numbers.{zero64}
+use Rattle.boxes.specs.declared.Vec3.{Vec3}
+use Rattle.boxes.specs.declared.Aabb.{Aabb}
+use Rattle.boxes.specs.declared.Swept.{Swept}
+use Rattle.boxes.specs.declared.BoxList.{BoxList}
+use Rattle.boxes.specs.declared.MoveResult.{MoveResult}
+use Rattle.boxes.specs.Boxes.{vec, offsetBy, overlap}
+use Rattle.boxes.specs.Lists.{listOf}
+use Rattle.boxes.specs.Move.{clipSequence, steppedUp, flatSquare, triesStep}
+use Rattle.boxes.specs.Entry.{moveOverList}
+use Rattle.cover.specs.Cover.{boxCount}
+use Rattle.tables.specs.Tables.{stateBoxes, boxAt}
+use Rattle.tables.specs.Check.{stateCount}
+use Rattle.window.specs.declared.Pos.{Pos}
+use Rattle.window.specs.declared.Window.{Window}
+use Rattle.window.specs.Look.{lookAt}
+use Rattle.moves.specs.Collect.{one64, toAabb, collectBlockBoxes}
+use Rattle.moves.specs.Settled.{settledBoxes}
+use Rattle.moves.specs.Answers.{sweptArea, moveEntry}
+use Rattle.grid.specs.Grid.{onGrid, vecOnGrid, isProper, areProper, isFree}
+
+-- ---- what is demanded
+
+-- a box that overlaps no block box, and one that overlaps some
+abbrev pub Free : (Aabb → Type 0) → Aabb → Type 0
+Free Block a = (b : Aabb) → Block b → T (not (overlap a b))
+
+pub record Struck (Block : Aabb → Type 0) (a : Aabb) : Type 0 where
+  pub by : Aabb
+  pub is : Block by
+  pub hits : T (overlap a by)
+
+-- x is between a and b, which may stand in either order
+unfoldable pub between : Float → Float → Float → Bool
+between a b x = (le a x && le x b) || (le b x && le x a)
+
+-- 1/4096, and a way longer by it, towards the share
+abbrev pub unit : Float
+unit = fin false 1 (negsuc 11)
+
+unfoldable pub further : Float → Float → Float
+further way share = choose (lt zero64 share) (add binary64 way unit) (sub binary64 way unit)
+
+-- On one axis, where `at s` is the box after the way s along it: the way taken is a multiple of 1/4096 towards the share; no multiple on it,
+-- both ends counted, overlaps; and if it falls short of the share, one multiple further would overlap.
+pub record Travels (Block : Aabb → Type 0) (at : Float → Aabb) (share way : Float) : Type 0 where
+  pub exact : T (onGrid way)
+  pub towards : T (between zero64 share way)
+  pub clear : (s : Float) → T (onGrid s) → T (between zero64 way s) → Free Block (at s)
+  pub far : T (not (eq way share)) → Struck Block (at (further way share))
+
+-- a box moved along one axis, as the move does it
+abbrev pub alongX : Aabb → Float → Aabb
+alongX b s = offsetBy b (vec s zero64 zero64)
+
+abbrev pub alongY : Aabb → Float → Aabb
+alongY b s = offsetBy b (vec zero64 s zero64)
+
+abbrev pub alongZ : Aabb → Float → Aabb
+alongZ b s = offsetBy b (vec zero64 zero64 s)
+
+-- y, then x, then z, each as far as it can
+pub record Farthest (Block : Aabb → Type 0) (aabb : Aabb) (delta : Vec3) (r : MoveResult) : Type 0 where
+  pub y : Travels Block (alongY aabb) (delta .y) (r .moved .y)
+  pub x : Travels Block (alongX (alongY aabb (r .moved .y))) (delta .x) (r .moved .x)
+  pub z : Travels Block (alongZ (alongX (alongY aabb (r .moved .y)) (r .moved .x))) (delta .z) (r .moved .z)
+  pub end : r .aabb ≡ alongZ (alongX (alongY aabb (r .moved .y)) (r .moved .x)) (r .moved .z)
+
+pub record Demand3 (Block : Aabb → Type 0) (stepKept : Bool) (aabb : Aabb) (delta : Vec3) (r : MoveResult) : Type 0 where
+  pub free : Free Block (r .aabb)
+  pub farthest : stepKept ≡ false → Farthest Block aabb delta r
+
+-- a step-up is kept: one is tried, and gets strictly farther horizontally
+unfoldable pub keepsStep : List Aabb → Aabb → Vec3 → Float → Bool → Bool
+keepsStep boxes aabb delta stepHeight wasOnGround =
+    let first : Swept = clipSequence boxes aabb delta in
+    triesStep delta stepHeight wasOnGround (first .moved) && lt (flatSquare (first .moved)) (flatSquare (steppedUp boxes aabb delta stepHeight .moved))
+
+-- ---- a move over a list: the block boxes are the list's own
+
+unfoldable pub listOnGrid : BoxList → Aabb → Vec3 → Float → Bool
+listOnGrid list aabb delta stepHeight =
+    isProper aabb && (areProper (listOf list) && (vecOnGrid delta && (onGrid stepHeight && isFree aabb (listOf list))))
+
+abbrev pub ListDemand : Type 0
+ListDemand =
+    (list : BoxList) (aabb : Aabb) (delta : Vec3) (stepHeight : Float) (wasOnGround : Bool)
+    → T (listOnGrid list aabb delta stepHeight)
+    → moveOverList list aabb delta stepHeight wasOnGround .refusal ≡ 0
+    → Demand3 (λ b. List·Memᴰ b (listOf list)) (keepsStep (listOf list) aabb delta stepHeight wasOnGround) aabb delta
+    (moveOverList list aabb delta stepHeight wasOnGround .result)
+
+-- ---- a move through a window: the block boxes are those of every cell whose shape the look-up settles without leaving the window
+
+pub record IsSettled (records : List ℕ) (shapes : List Float) (cells : List ℕ) (w : Window) (b : Aabb) : Type 0 where
+  pub cell : Pos
+  pub is : List·Memᴰ b (settledBoxes (lookAt cells w) records shapes cell)
+
+-- 1.5
+abbrev pub cellAndHalf : Float
+cellAndHalf = ofBits binary64 4609434218613702656
+
+-- "inside their cell or up to half a block above it"
+abbrev pub isInCell : Aabb → Bool
+isInCell b =
+    (le zero64 (b .min .x) && (le zero64 (b .min .y) && le zero64 (b .min .z)))
+    && (le (b .max .x) one64 && (le (b .max .y) cellAndHalf && le (b .max .z) one64))
+
+-- every box of a shape, and the shapes of all states
+unfoldable pub shapeOnGrid : List Float → Bool
+shapeOnGrid shape = every (boxCount shape) (λ k. isProper (toAabb (boxAt shape k)) && isInCell (toAabb (boxAt shape k)))
+
+unfoldable pub shapesOnGrid : List ℕ → List Float → Bool
+shapesOnGrid records shapes = every (stateCount records) (λ state. shapeOnGrid (stateBoxes records shapes state))
+
+-- the cell of the window that lies so far from its origin
+abbrev pub cellFrom : Window → ℕ → ℕ → ℕ → Pos
+cellFrom w x y z = record { x = w .origin .x +ℤ pos x; y = w .origin .y +ℤ pos y; z = w .origin .z +ℤ pos z }
+
+-- no overlap with the boxes of any cell of the window; no other cell is settled
+unfoldable pub isFreeIn : List ℕ → List Float → List ℕ → Window → Aabb → Bool
+isFreeIn records shapes cells w a =
+    every (w .sizes .y) (λ y. every (w .sizes .x) (λ x. every (w .sizes .z) (λ z. isFree a (settledBoxes (lookAt cells w) records shapes (cellFrom w x y z)))))
+
+unfoldable pub windowOnGrid : List ℕ → List Float → List ℕ → Window → Aabb → Vec3 → Float → Bool
+windowOnGrid records shapes cells w aabb delta stepHeight =
+    isProper aabb && (shapesOnGrid records shapes && (vecOnGrid delta && (onGrid stepHeight && isFreeIn records shapes cells w aabb)))
+
+-- a step-up is kept, among the boxes that the move collects
+abbrev pub keepsAmong : Ask (List Aabb) → Aabb → Vec3 → Float → Bool → Bool
+keepsAmong (refused n) aabb delta stepHeight wasOnGround = false
+keepsAmong (found boxes) aabb delta stepHeight wasOnGround = keepsStep boxes aabb delta stepHeight wasOnGround
+
+unfoldable pub keepsStepIn : List ℕ → List Float → List ℕ → Window → Aabb → Vec3 → Float → Bool → Bool
+keepsStepIn records shapes cells w aabb delta stepHeight wasOnGround =
+    keepsAmong (collectBlockBoxes (lookAt cells w) records shapes (sweptArea aabb delta stepHeight)) aabb delta stepHeight wasOnGround
+
+abbrev pub WindowDemand : Type 0
+WindowDemand =
+    (records : List ℕ) (shapes : List Float) (cells : List ℕ) (w : Window) (aabb : Aabb) (delta : Vec3) (stepHeight : Float) (wasOnGround : Bool)
+    → T (windowOnGrid records shapes cells w aabb delta stepHeight)
+    → moveEntry records shapes cells w aabb delta stepHeight wasOnGround .refusal ≡ 0
+    → Demand3 (IsSettled records shapes cells w) (keepsStepIn records shapes cells w aabb delta stepHeight wasOnGround) aabb delta
+    (moveEntry records shapes cells w aabb delta stepHeight wasOnGround .result)

@@ -1,0 +1,84 @@
+-- "Clipping shown exact on the 1/4096 grid": the clips of crates/boxes over whole numbers of 1/4096, line by line, and the law that on the grid the
+-- clips over f64 come to the same. So none of their differences is rounded.
+use mathlib.Core.Path.{_≡_}
+use mathlib.Core.Bool.{Bool, _&&_, _||_}
+use Prim.Native.Nat.{_*_, _/_}
+use lib.Dec.{T}
+use lib.IntN.{ℤ, pos, _-ℤ_}
+use lib.Signed.{ltZ, leZ}
+use lib.Ieee.{Float, nan, inf, fin, up, down}
+use Rattle.base.specs.Choose.{choose}
+use Rattle.floats.specs.Whole.{signedOf}
+use Rattle.boxes.specs.declared.Aabb.{Aabb}
+use Rattle.boxes.specs.Boxes.{clipX, clipY, clipZ}
+use Rattle.boxes.specs.Limits.{isBox}
+use Rattle.grid.specs.Grid.{onGrid, vecOnGrid}
+
+-- how many times 1/4096 a number on the grid is
+unfoldable pub unitsOf : Float → ℤ
+unitsOf nan = pos 0
+unitsOf (inf s) = pos 0
+unitsOf (fin s m e) = signedOf s (m * up e * 4096 / down e)
+
+abbrev pub leastZ : ℤ → ℤ → ℤ
+leastZ a b = choose (ltZ b a) b a
+
+abbrev pub greatestZ : ℤ → ℤ → ℤ
+greatestZ a b = choose (ltZ a b) b a
+
+abbrev pub apartZ : ℤ → ℤ → ℤ → ℤ → Bool
+apartZ lo hi from to = leZ to lo || leZ hi from
+
+abbrev pub stopAtZ : ℤ → ℤ → ℤ → ℤ → ℤ → ℤ
+stopAtZ lo hi from to d =
+    choose (ltZ (pos 0) d && leZ to lo) (leastZ d (lo -ℤ to))
+    (choose (ltZ d (pos 0) && leZ hi from) (greatestZ d (hi -ℤ from))
+    d)
+
+-- a box, in units
+pub record Units : Type 0 where
+  pub x0 : ℤ
+  pub y0 : ℤ
+  pub z0 : ℤ
+  pub x1 : ℤ
+  pub y1 : ℤ
+  pub z1 : ℤ
+
+abbrev pub boxUnits : Aabb → Units
+boxUnits b =
+    record {
+      x0 = unitsOf (b .min .x);
+      y0 = unitsOf (b .min .y);
+      z0 = unitsOf (b .min .z);
+      x1 = unitsOf (b .max .x);
+      y1 = unitsOf (b .max .y);
+      z1 = unitsOf (b .max .z);
+    }
+
+abbrev pub clipXZ : Units → Units → ℤ → ℤ
+clipXZ b m d = choose (apartZ (b .y0) (b .y1) (m .y0) (m .y1) || apartZ (b .z0) (b .z1) (m .z0) (m .z1)) d (stopAtZ (b .x0) (b .x1) (m .x0) (m .x1) d)
+
+abbrev pub clipYZ : Units → Units → ℤ → ℤ
+clipYZ b m d = choose (apartZ (b .x0) (b .x1) (m .x0) (m .x1) || apartZ (b .z0) (b .z1) (m .z0) (m .z1)) d (stopAtZ (b .y0) (b .y1) (m .y0) (m .y1) d)
+
+abbrev pub clipZZ : Units → Units → ℤ → ℤ
+clipZZ b m d = choose (apartZ (b .x0) (b .x1) (m .x0) (m .x1) || apartZ (b .y0) (b .y1) (m .y0) (m .y1)) d (stopAtZ (b .z0) (b .z1) (m .z0) (m .z1) d)
+
+-- a number on the grid that is n times 1/4096
+pub record Exact (x : Float) (n : ℤ) : Type 0 where
+  pub grid : T (onGrid x)
+  pub units : unitsOf x ≡ n
+
+pub record ClipsExactly (b mover : Aabb) (d : Float) : Type 0 where
+  pub x : Exact (clipX b mover d) (clipXZ (boxUnits b) (boxUnits mover) (unitsOf d))
+  pub y : Exact (clipY b mover d) (clipYZ (boxUnits b) (boxUnits mover) (unitsOf d))
+  pub z : Exact (clipZ b mover d) (clipZZ (boxUnits b) (boxUnits mover) (unitsOf d))
+
+-- boxes within document 01's limits, and any way
+abbrev pub ClipLaw : Type 0
+ClipLaw =
+    (b mover : Aabb) (d : Float)
+    → T (isBox b && (vecOnGrid (b .min) && vecOnGrid (b .max)))
+    → T (isBox mover && (vecOnGrid (mover .min) && vecOnGrid (mover .max)))
+    → T (onGrid d)
+    → ClipsExactly b mover d
