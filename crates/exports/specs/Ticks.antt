@@ -4,6 +4,7 @@ use Prim.Native.Nat.{ℕ}
 use lib.Dec.{eqb}
 use lib.IntN.{pos}
 use lib.Ieee.{Float, binary64, ofInt}
+use Rattle.base.specs.Loop.{stored}
 use Rattle.base.specs.Choose.{choose}
 use Rattle.base.specs.Ask.{Ask, refused, found, _>>=_}
 use Rattle.boxes.specs.declared.Vec3.{Vec3}
@@ -19,7 +20,7 @@ use Rattle.step.specs.declared.BodyNumbers.{BodyNumbers}
 use Rattle.step.specs.declared.Rules.{Rules}
 use Rattle.step.specs.declared.MotionNumbers.{MotionNumbers}
 use Rattle.step.specs.declared.StepAnswer.{StepAnswer}
-use Rattle.exports.specs.Moves.{vecAt, flagOf, stored}
+use Rattle.exports.specs.Moves.{vecAt, flagOf}
 
 -- ---- currents
 

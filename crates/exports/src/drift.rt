@@ -12,7 +12,7 @@ use window::Window;
 ghost use mathlib.Core.Path.{_≡_};
 ghost use Rattle.boxes.specs.Boxes.{vec};
 ghost use Rattle.window.specs.Look.{lookAt};
-ghost use Rattle.exports.specs.Moves.{stored};
+ghost use Rattle.base.specs.Loop.{stored};
 ghost use Rattle.exports.specs.Windows.{windowOf};
 ghost use Rattle.exports.specs.Ticks.{currentAt, currentNumbers, currentRefusal, currentWritten};
 

@@ -14,7 +14,7 @@ ghost use lib.IntN.{pos};
 ghost use lib.Ieee.{binary64, ofInt};
 ghost use Rattle.tables.specs.Tables.{kindNumber};
 ghost use Rattle.step.specs.Answers.{checkedEntry, stepEntry};
-ghost use Rattle.exports.specs.Moves.{stored};
+ghost use Rattle.base.specs.Loop.{stored};
 ghost use Rattle.exports.specs.Windows.{windowOf};
 ghost use Rattle.exports.specs.Ticks.{motionAt, bodyAt, rulesAt, stepNumbers, stepWritten};
 

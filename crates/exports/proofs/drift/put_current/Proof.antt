@@ -1,5 +1,5 @@
 -- `exports::drift::put_current` meets its contract. Assumes nothing.
-use Rattle.exports.specs.Moves.{stored}
+use Rattle.base.specs.Loop.{stored}
 use borrow.Author.Needs.{needs}
 use Rattle.exports.proofs.drift.put_current.Statement.{statement}
 use Rattle.exports.proofs.drift.put_current.Tie as tie

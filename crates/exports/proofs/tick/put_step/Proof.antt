@@ -1,5 +1,5 @@
 -- `exports::tick::put_step` meets its contract. Assumes nothing.
-use Rattle.exports.specs.Moves.{stored}
+use Rattle.base.specs.Loop.{stored}
 use borrow.Author.Needs.{needs}
 use Rattle.exports.proofs.tick.put_step.Statement.{statement}
 use Rattle.exports.proofs.tick.put_step.Tie as tie
