@@ -81,3 +81,19 @@ pub fn step_view<'r, 's, 'a>(
 {
     step::step_body_sensed(records, shapes, v.cells, v.window, rules, body, given, age)
 }
+
+// The same for a caller that has cells and numbers apart: its parameters are plain, so whoever calls it needs no proof by hand.
+pub fn step_window(
+    records: &[u32],
+    shapes: &[f32],
+    cells: &[u32],
+    w: Window,
+    rules: Rules,
+    body: BodyNumbers,
+    given: MotionNumbers,
+    age: u64,
+) -> StepAnswer
+    ensures { λ r. ⌜ r ≡ stepEntry (now (records .entry)) (now (shapes .entry)) (now (cells .entry)) w rules body given age ⌝ }
+{
+    step_view(records, shapes, view_of(cells, w), rules, body, given, age)
+}
