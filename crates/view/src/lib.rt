@@ -1,0 +1,99 @@
+// The window as one view: the lent cells and their numbers in one struct, and the thin functions that hand both on to what is proved over slice
+// and numbers. The borrow checker covers no function over such a struct, so each is proved by hand: keep them few.
+ghost use mathlib.Core.Path.{_≡_};
+ghost use lib.ListN.{length};
+ghost use Rattle.window.specs.Window.{windowRefusal};
+ghost use Rattle.window.specs.Look.{lookAt, asked};
+ghost use Rattle.moves.specs.Answers.{moveEntry};
+ghost use Rattle.step.specs.Answers.{stepEntry};
+use boxes::Aabb;
+use boxes::MoveAnswer;
+use boxes::Vec3;
+use step::BodyNumbers;
+use step::MotionNumbers;
+use step::Rules;
+use step::StepAnswer;
+use window::Cell;
+use window::Pos;
+use window::Window;
+
+pub struct View<'a> {
+    pub cells: &'a [u32],
+    pub window: Window,
+}
+
+// These cells, with these numbers.
+pub fn view_of<'a>(cells: &'a [u32], w: Window) -> View<'a>
+    ensures { λ r. ⌜ (r .cells ≡ cells .entry) × (r .window ≡ w) ⌝ }
+{
+    View { cells, window: w }
+}
+
+// The check of a view that a host hands in: 0, or 2.
+pub fn check_view<'a>(v: View<'a>) -> u32
+    ensures { λ r. ⌜ r ≡ windowRefusal (length (now (v .entry .cells))) (v .entry .window) ⌝ }
+{
+    window::check_window(v.cells, v.window)
+}
+
+// The look-up of the cell at p.
+pub fn look_view<'a>(v: View<'a>, p: Pos) -> Cell
+    ensures { λ r. ⌜ asked r ≡ lookAt (now (v .entry .cells)) (v .entry .window) p ⌝ }
+{
+    window::look(v.cells, v.window, p)
+}
+
+// For hosts: the move through a view, refused as `moves::move_aabb` refuses.
+pub fn move_view<'r, 's, 'a>(
+    records: &'r [u32],
+    shapes: &'s [f32],
+    v: View<'a>,
+    aabb: Aabb,
+    delta: Vec3,
+    step: f64,
+    ground: bool,
+) -> MoveAnswer
+    ensures { λ r. ⌜ r ≡ moveEntry (now (records .entry)) (now (shapes .entry)) (now (v .entry .cells)) (v .entry .window) aabb delta step ground ⌝ }
+{
+    moves::move_aabb(
+        records,
+        shapes,
+        v.cells,
+        v.window,
+        aabb,
+        delta,
+        step,
+        ground,
+    )
+}
+
+// For hosts: one tick of a body in a view, refused as `step::step_body_sensed` refuses.
+pub fn step_view<'r, 's, 'a>(
+    records: &'r [u32],
+    shapes: &'s [f32],
+    v: View<'a>,
+    rules: Rules,
+    body: BodyNumbers,
+    given: MotionNumbers,
+    age: u64,
+) -> StepAnswer
+    ensures { λ r. ⌜ r ≡ stepEntry (now (records .entry)) (now (shapes .entry)) (now (v .entry .cells)) (v .entry .window) rules body given age ⌝ }
+{
+    step::step_body_sensed(records, shapes, v.cells, v.window, rules, body, given, age)
+}
+
+// The same for a caller that has cells and numbers apart: its parameters are plain, so whoever calls it needs no proof by hand.
+pub fn step_window(
+    records: &[u32],
+    shapes: &[f32],
+    cells: &[u32],
+    w: Window,
+    rules: Rules,
+    body: BodyNumbers,
+    given: MotionNumbers,
+    age: u64,
+) -> StepAnswer
+    ensures { λ r. ⌜ r ≡ stepEntry (now (records .entry)) (now (shapes .entry)) (now (cells .entry)) w rules body given age ⌝ }
+{
+    step_view(records, shapes, view_of(cells, w), rules, body, given, age)
+}
