@@ -38,7 +38,7 @@ fn put_joined(text: &[u8]) {
     for i in 0..text.len() {
         if text[i] == b'\n' {
             crate::text::put(crate::text::part(text, at, i));
-            at = i + 1;
+            at = crate::text::sum(i, 1);
             if at < text.len() {
                 crate::text::put(b"; ");
             }

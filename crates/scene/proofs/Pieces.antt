@@ -14,7 +14,7 @@ use Rattle.tables.specs.declared.LiquidKind.{LiquidKind}
 use Rattle.tables.specs.declared.LiquidKind.the-variants.{None, Water, Lava}
 use Rattle.idents.specs.Bytes.{bytes}
 use Rattle.step.specs.declared.StepAnswer.{StepAnswer}
-use Rattle.scene.specs.Text.{newline, hexOf, joinedText, vecText, groundDigit, liquidText, linesOf, refusedText, textOf, room, writtenCount}
+use Rattle.scene.specs.Text.{newline, hexOf, joinedText, vecText, groundDigit, liquidText, linesOf, refusedText, textOf, room, written, writtenCount}
 
 -- each piece where the one before it ends
 abbrev pub storedAll : List ℕ → ℕ → List (List ℕ) → List ℕ
@@ -90,3 +90,12 @@ written-most out a = go (ltb (length out) room) (eqb (a .refusal) 0) (lines-most
     go true t h e = omega arith
     go false true h e = h
     go false false h e = omega arith
+
+-- the buffer keeps its length
+pub written-length : (out text : List ℕ) → length (written out text) ≡ length out
+unfolding written choose
+written-length out text = go (ltb (length out) room)
+  where
+    go : (b : Bool) → length (choose b out (stored out 0 text)) ≡ length out
+    go true = refl
+    go false = stored-length out 0 text
