@@ -1,7 +1,7 @@
 -- Blocks, the sum that wraps, how many words a block of each kind has, and how many blocks a part has. Assumes nothing.
-use mathlib.Core.Bool.{Bool, true, false, not, _||_}
+use mathlib.Core.Bool.{Bool, true, false}
 use mathlib.Core.List.{List, []}
-use mathlib.Core.Path.{_≡_, refl, sym, ap, _∙_}
+use mathlib.Core.Path.{_≡_, refl, sym, _∙_}
 use Prim.Native.Nat.{ℕ, suc, _+_, _-_, _*_, _/_, _%_, _≤_, _<_, min}
 use native.Mathlib.Nat.{div-le-self, mod-add-mod, mod-lt, div-add-mod', mul-le-mul}
 use native.Mathlib.Omega.{arith}
@@ -9,7 +9,7 @@ use lib.Dec.{T, eqb, eqb→eq}
 use lib.ListN.{length, take, drop, length-take}
 use borrow.Author.Tests.{lt-ltb, le-ltb}
 use Rattle.base.specs.Choose.{choose}
-use Rattle.idents.specs.Bytes.{bytes, equal}
+use Rattle.idents.specs.Bytes.{bytes}
 use Rattle.idents.proofs.Bytes.{unequal}
 use Rattle.blocks.specs.declared.Part.{Part}
 use Rattle.blocks.specs.Blocks.{blockOf, marked, sumOf, perBlock, blocksOf, endOf, bodyPart, recordPart, boxPart, windowPart}
@@ -97,6 +97,7 @@ words-most p = go (eqb (p .words % perBlock (p .kind)) 0) (eqb→eq (p .words % 
   where
     positive : {n : ℕ} → 6 ≤ n → 0 < n
     positive h = omega arith
+
     go : (b : Bool) → (T b → p .words % perBlock (p .kind) ≡ 0) → p .words / perBlock (p .kind) * perBlock (p .kind) + p .words % perBlock (p .kind) ≡ p .words
         → p .words % perBlock (p .kind) < perBlock (p .kind) → p .words ≤ (p .words / perBlock (p .kind) + choose b 0 1) * perBlock (p .kind)
     go true e d m = let z = e tt in omega arith

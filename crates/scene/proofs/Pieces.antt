@@ -53,7 +53,7 @@ module _ (a : StepAnswer) where
     where
       go : (k : LiquidKind) → 133 + length (liquidText k)
           ≡ length (joinedText (bytes "feet " ∷ vecText (a .motion .feet) ∷ bytes "velocity " ∷ vecText (a .motion .velocity) ∷ bytes "ground "
-              ∷ (groundDigit (a .motion .ground) ∷ []) ∷ newline ∷ bytes "liquid " ∷ liquidText k ∷ newline ∷ []))
+          ∷ (groundDigit (a .motion .ground) ∷ []) ∷ newline ∷ bytes "liquid " ∷ liquidText k ∷ newline ∷ []))
       go None = refl
       go Water = refl
       go Lava = refl

@@ -1,4 +1,10 @@
 // The numbers that a scene holds.
+use crate::Counted;
+use crate::Counts;
+use blocks::Part;
+use blocks::body_part;
+use blocks::part_word;
+use blocks::window_part;
 use boxes::Vec3;
 use step::BodyNumbers;
 use step::MotionNumbers;
@@ -6,12 +12,6 @@ use step::Rules;
 use window::Pos;
 use window::Sizes;
 use window::Window;
-use crate::Counted;
-use crate::Counts;
-use blocks::Part;
-use blocks::body_part;
-use blocks::part_word;
-use blocks::window_part;
 ghost use mathlib.Core.Path.{_≡_};
 ghost use Rattle.base.specs.Choose.{choose};
 ghost use Rattle.base.specs.Ask.{refused, found};

@@ -1,8 +1,8 @@
 // The answer of a tick as bytes. Every line but the last has a fixed width, so that each piece has its place.
+use crate::tick::tick_of;
 use boxes::Vec3;
 use step::StepAnswer;
 use tables::LiquidKind;
-use crate::tick::tick_of;
 ghost use mathlib.Core.Path.{_≡_};
 ghost use Prim.Native.Nat.{_-_, _*_, _%_};
 ghost use lib.ListN.{set, length};

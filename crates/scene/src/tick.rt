@@ -1,11 +1,13 @@
 // Which files are scenes, and the tick of a scene.
-use boxes::Vec3;
-use step::MotionNumbers;
-use step::StepAnswer;
-use tables::LiquidKind;
-use window::Window;
 use crate::Counted;
 use crate::Counts;
+use crate::numbers::age_in;
+use crate::numbers::body_in;
+use crate::numbers::counts_of;
+use crate::numbers::flap_fits;
+use crate::numbers::given_in;
+use crate::numbers::rules_in;
+use crate::numbers::window_in;
 use blocks::Part;
 use blocks::body_part;
 use blocks::box_part;
@@ -15,13 +17,11 @@ use blocks::part_fits;
 use blocks::part_word;
 use blocks::record_part;
 use blocks::window_part;
-use crate::numbers::age_in;
-use crate::numbers::body_in;
-use crate::numbers::counts_of;
-use crate::numbers::flap_fits;
-use crate::numbers::given_in;
-use crate::numbers::rules_in;
-use crate::numbers::window_in;
+use boxes::Vec3;
+use step::MotionNumbers;
+use step::StepAnswer;
+use tables::LiquidKind;
+use window::Window;
 ghost use mathlib.Core.Path.{_≡_};
 ghost use Prim.Native.Nat.{_*_, min};
 ghost use lib.ListN.{take, length};
@@ -205,8 +205,16 @@ fn refused_scene() -> StepAnswer
 {
     StepAnswer {
         motion: MotionNumbers {
-            feet: Vec3 { x: 0.0, y: 0.0, z: 0.0 },
-            velocity: Vec3 { x: 0.0, y: 0.0, z: 0.0 },
+            feet: Vec3 {
+                x: 0.0,
+                y: 0.0,
+                z: 0.0,
+            },
+            velocity: Vec3 {
+                x: 0.0,
+                y: 0.0,
+                z: 0.0,
+            },
             ground: 0,
         },
         liquid: LiquidKind::None,

@@ -1,6 +1,6 @@
-use borrow.Author.Tests.{eq-eqb}
 -- `blocks::block_fits` meets its contract. Assumes nothing.
 use borrow.Author.Tests.{eq-eqb, ne-eqb}
+-- `blocks::block_fits` meets its contract. Assumes nothing.
 use Rattle.blocks.specs.Blocks.{blockFits}
 use borrow.Author.Needs.{needs}
 use Rattle.blocks.proofs.block_fits.Statement.{statement}

@@ -3,7 +3,6 @@ use lib.ListN.{length-take}
 use native.Mathlib.Omega.{arith}
 use Rattle.blocks.proofs.Parts.{unmarked}
 use Rattle.blocks.specs.Blocks.{marked}
-use mathlib.Core.Path.{refl}
 use borrow.Author.Needs.{needs}
 use Rattle.blocks.proofs.is_marked.Statement.{statement}
 use Rattle.blocks.proofs.is_marked.Tie as tie

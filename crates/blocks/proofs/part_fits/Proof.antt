@@ -1,7 +1,7 @@
 -- `blocks::part_fits` meets its contract. Assumes nothing.
 use borrow.Author.Needs.{needs}
 use Rattle.blocks.proofs.Parts.{blocks-most}
-use Rattle.blocks.specs.Blocks.{partFits, blockFits, blockOf, blocksOf, usedIn}
+use Rattle.blocks.specs.Blocks.{partFits, blockFits, blockOf, usedIn}
 use Rattle.base.proofs.Every.{every-from, every-not}
 use borrow.Author.Count.{below-more, below-none}
 use native.Mathlib.Omega.{arith}

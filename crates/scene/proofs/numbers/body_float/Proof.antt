@@ -1,38 +1,27 @@
+-- `scene::numbers::body_float` meets its contract. Assumes nothing.
 use Rattle.scene.specs.Scene.{bodyFloat}
 use borrow.Author.Needs.{needs}
 use Rattle.scene.proofs.numbers.body_float.Statement.{statement}
 use Rattle.scene.proofs.numbers.body_float.Tie as tie
-use Rattle.scene.proofs.numbers.body_float.Reads as reads
-use Rattle.scene.proofs.numbers.body_float.Lts as lts
-use Rattle.floats.proofs.float_of_bits.Reads as float-of-bits-reads
-use Rattle.scene.proofs.numbers.body_word.Reads as body-word-reads
-use Rattle.scene.proofs.numbers.join.Reads as join-reads
 
--- src/numbers.rt:39:13
 mul-i : tie.Need-mul-i
 mul-i c = search needs
 
--- src/numbers.rt:40:9
 body-word-requires : tie.Need-body-word-requires
 body-word-requires c κs = search needs
 
--- src/numbers.rt:41:32
 add-body-word : tie.Need-add-body-word
 add-body-word c = search needs
 
--- src/numbers.rt:41:9
 body-word-requires-2 : tie.Need-body-word-requires-2
 body-word-requires-2 c κs = search needs
 
--- src/numbers.rt:42:27
 join-requires : tie.Need-join-requires
 join-requires c κs = search needs
 
--- src/numbers.rt:42:5
 float-of-bits-requires : tie.Need-float-of-bits-requires
 float-of-bits-requires c κs = search needs
 
--- src/numbers.rt:36:1
 returns : tie.Need-returns
 unfolding bodyFloat
 returns c = rw (← c .before .before .before .body-word .ensures, ← c .before .before .body-word2 .ensures, ← c .before .join .ensures, ← c .float-of-bits .ensures)

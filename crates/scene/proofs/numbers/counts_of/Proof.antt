@@ -5,10 +5,8 @@ use Rattle.blocks.specs.declared.Part.{Part}
 use mathlib.Core.Path.{sym, ap, _∙_}
 use borrow.Author.Tests.{le-leb, lt-leb}
 use Rattle.base.specs.Choose.{choose}
-use Rattle.scene.specs.Scene.{countsFit, sizesIn, countsIn}
 use Rattle.window.proofs.Check.{sizes-small, layer-count, cell-count}
 use native.Mathlib.Omega.{arith}
-use mathlib.Core.Path.{sym, _∙_}
 use borrow.Author.Needs.{needs}
 use Rattle.scene.proofs.numbers.counts_of.Statement.{statement}
 use Rattle.scene.proofs.numbers.counts_of.Tie as tie

@@ -1,24 +1,18 @@
+-- `scene::numbers::position` meets its contract. Assumes nothing.
 use Rattle.scene.specs.Scene.{bodyVec}
 use borrow.Author.Needs.{needs}
 use Rattle.scene.proofs.numbers.position.Statement.{statement}
 use Rattle.scene.proofs.numbers.position.Tie as tie
-use Rattle.scene.proofs.numbers.position.Reads as reads
-use Rattle.scene.proofs.numbers.position.Lts as lts
-use Rattle.scene.proofs.numbers.body_float.Reads as body-float-reads
 
--- src/numbers.rt:48:9
 body-float-requires : tie.Need-body-float-requires
 body-float-requires c κs = search needs
 
--- src/numbers.rt:49:9
 body-float-requires-2 : tie.Need-body-float-requires-2
 body-float-requires-2 c κs = search needs
 
--- src/numbers.rt:50:9
 body-float-requires-3 : tie.Need-body-float-requires-3
 body-float-requires-3 c κs = search needs
 
--- src/numbers.rt:45:1
 returns : tie.Need-returns
 unfolding bodyVec
 returns c = rw (← c .before .before .body-float .ensures, ← c .before .body-float2 .ensures, ← c .body-float3 .ensures)

@@ -1,8 +1,5 @@
 -- `scene::numbers::signed_of` meets its contract. Assumes nothing.
 use Rattle.scene.proofs.Signs.{low, high}
-use Rattle.scene.specs.Scene.{signedOf}
-use borrow.Author.Tests.{lt-ltb, le-ltb}
-use Rattle.base.specs.Choose.{choose}
 use borrow.Author.Needs.{needs}
 use Rattle.scene.proofs.numbers.signed_of.Statement.{statement}
 use Rattle.scene.proofs.numbers.signed_of.Tie as tie

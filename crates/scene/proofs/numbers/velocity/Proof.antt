@@ -1,24 +1,18 @@
+-- `scene::numbers::velocity` meets its contract. Assumes nothing.
 use Rattle.scene.specs.Scene.{bodyVec}
 use borrow.Author.Needs.{needs}
 use Rattle.scene.proofs.numbers.velocity.Statement.{statement}
 use Rattle.scene.proofs.numbers.velocity.Tie as tie
-use Rattle.scene.proofs.numbers.velocity.Reads as reads
-use Rattle.scene.proofs.numbers.velocity.Lts as lts
-use Rattle.scene.proofs.numbers.body_float.Reads as body-float-reads
 
--- src/numbers.rt:57:9
 body-float-requires : tie.Need-body-float-requires
 body-float-requires c κs = search needs
 
--- src/numbers.rt:58:9
 body-float-requires-2 : tie.Need-body-float-requires-2
 body-float-requires-2 c κs = search needs
 
--- src/numbers.rt:59:9
 body-float-requires-3 : tie.Need-body-float-requires-3
 body-float-requires-3 c κs = search needs
 
--- src/numbers.rt:54:1
 returns : tie.Need-returns
 unfolding bodyVec
 returns c = rw (← c .before .before .body-float .ensures, ← c .before .body-float2 .ensures, ← c .body-float3 .ensures)

@@ -4,11 +4,9 @@ use borrow.Author.Needs.{needs}
 use Rattle.scene.specs.Text.{hexAt, hexOf}
 use Rattle.base.proofs.Fill.{listed-turn, listed-end}
 use Rattle.base.specs.Loop.{stored, listed}
-use lib.ListN.{length}
-use native.Mathlib.Omega.{arith}
 use native.Mathlib.Nat.{add-zero}
 use Prim.Native.Nat.{ℕ, _+_, _-_, _≤_}
-use mathlib.Core.Path.{_≡_, refl, sym, ap, _∙_}
+use mathlib.Core.Path.{_≡_, refl, ap}
 use Rattle.scene.proofs.text.put_hex.Statement.{statement}
 use Rattle.scene.proofs.text.put_hex.Tie as tie
 

@@ -1,8 +1,7 @@
 -- `scene::text::put_lines` meets its contract. Assumes nothing.
 use Rattle.scene.proofs.Pieces.{stored-length, lines-by, liquid-most}
-use Prim.Native.Nat.{ℕ, _+_, _≤_}
+use Prim.Native.Nat.{_≤_}
 use lib.ListN.{length-set}
-
 use borrow.Author.Needs.{needs}
 use Rattle.scene.proofs.text.put_lines.Statement.{statement}
 use Rattle.scene.proofs.text.put_lines.Tie as tie

@@ -3,11 +3,9 @@ use lib.ListN.{length, drop, length-set}
 use borrow.Author.Needs.{needs}
 use Rattle.base.proofs.Fill.{text-turn, text-end}
 use Rattle.base.specs.Loop.{stored}
-use lib.ListN.{length, drop}
-use native.Mathlib.Omega.{arith}
 use native.Mathlib.Nat.{add-zero}
 use Prim.Native.Nat.{ℕ, _+_, _-_, _≤_}
-use mathlib.Core.Path.{_≡_, refl, sym, ap, _∙_}
+use mathlib.Core.Path.{_≡_, refl, ap}
 use Rattle.scene.proofs.text.put_text.Statement.{statement}
 use Rattle.scene.proofs.text.put_text.Tie as tie
 

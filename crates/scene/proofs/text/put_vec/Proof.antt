@@ -1,9 +1,8 @@
 -- `scene::text::put_vec` meets its contract. Assumes nothing.
-use Rattle.scene.specs.Text.{newline, vecText, hexOf, joinedText}
+use Rattle.scene.specs.Text.{newline, vecText, hexOf}
 use Rattle.idents.specs.Bytes.{bytes}
 use mathlib.Core.List.{[], _∷_}
 use Rattle.scene.proofs.Pieces.{stored-all}
-use Rattle.scene.specs.Text.{vecText, hexOf, joinedText}
 use Rattle.base.specs.Loop.{listed}
 use borrow.Author.Needs.{needs}
 use Rattle.scene.proofs.text.put_vec.Statement.{statement}

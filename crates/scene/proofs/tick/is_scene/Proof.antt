@@ -2,7 +2,6 @@
 use Rattle.scene.proofs.Scenes.{no-scene, scene-by}
 use Rattle.scene.specs.Scene.{countsAsked}
 use mathlib.Core.Path.{sym, ap, _∙_}
-use Rattle.scene.specs.Scene.{isScene}
 use borrow.Author.Needs.{needs}
 use Rattle.scene.proofs.tick.is_scene.Statement.{statement}
 use Rattle.scene.proofs.tick.is_scene.Tie as tie

@@ -1,24 +1,17 @@
+-- `scene::tick::rest_fits` meets its contract. Assumes nothing.
 use borrow.Author.Needs.{needs}
 use Rattle.scene.proofs.tick.rest_fits.Statement.{statement}
 use Rattle.scene.proofs.tick.rest_fits.Tie as tie
-use Rattle.scene.proofs.tick.rest_fits.Reads as reads
-use Rattle.scene.proofs.tick.rest_fits.Lts as lts
-use Rattle.scene.proofs.numbers.flap_fits.Reads as flap-fits-reads
-use Rattle.scene.proofs.tick.blocks_fit.Reads as blocks-fit-reads
 
--- src/tick.rt:59:8
 flap-fits-requires : tie.Need-flap-fits-requires
 flap-fits-requires c κs = search needs
 
--- src/tick.rt:60:9
 blocks-fit-requires : tie.Need-blocks-fit-requires
 blocks-fit-requires c κs = search needs
 
--- src/tick.rt:60:9
 returns : tie.Need-returns
 returns c = rw (← c .before .before .flap-fits .ensures, c .before .if1 .taken, ← c .blocks-fit .ensures)
 
--- src/tick.rt:56:1
 returns-2 : tie.Need-returns-2
 returns-2 c = rw (← c .before .flap-fits .ensures, c .if1 .left)
 

@@ -2,7 +2,6 @@
 use Rattle.scene.proofs.Scenes.{no-tick, tick-by}
 use Rattle.scene.specs.Scene.{countsAsked}
 use mathlib.Core.Path.{sym, ap, _∙_}
-use Rattle.scene.specs.Scene.{tickOf}
 use borrow.Author.Needs.{needs}
 use Rattle.scene.proofs.tick.tick_of.Statement.{statement}
 use Rattle.scene.proofs.tick.tick_of.Tie as tie

@@ -5,10 +5,10 @@ use Rattle.base.proofs.Fill.{turn, whole}
 use Rattle.base.specs.Loop.{listed}
 use native.Mathlib.Omega.{arith}
 use lib.ListN.{length, take, length-set}
-use Prim.Native.Nat.{ℕ, _-_, _≤_, min}
+use Prim.Native.Nat.{ℕ, _-_, _≤_}
 use native.Mathlib.Nat.{sub-zero}
 use mathlib.Core.List.{_++_}
-use mathlib.Core.Path.{_≡_, refl, sym, ap, _∙_}
+use mathlib.Core.Path.{_≡_, sym, ap}
 use Rattle.scene.proofs.tick.words_of.Statement.{statement}
 use Rattle.scene.proofs.tick.words_of.Tie as tie
 
