@@ -1,7 +1,7 @@
 -- The move over a list, in lent numbers: what a host hands over, and what is written back.
 use mathlib.Core.Bool.{Bool, not}
 use mathlib.Core.List.{List, [], _∷_}
-use Prim.Native.Nat.{ℕ, _+_, _*_, _/_}
+use Prim.Native.Nat.{ℕ, _+_, _*_, _/_, min}
 use lib.ListN.{length}
 use lib.Dec.{ltb, eqb}
 use lib.Ieee.{Float}
@@ -15,7 +15,8 @@ use Rattle.boxes.specs.declared.MoveAnswer.{MoveAnswer}
 use Rattle.boxes.specs.Boxes.{vec, box}
 use Rattle.boxes.specs.Lists.{room}
 use Rattle.boxes.specs.Move.{moveOver}
-use Rattle.boxes.specs.Entry.{answerOf}
+use Rattle.boxes.specs.Limits.{areBoxes}
+use Rattle.boxes.specs.Entry.{refusalOf, answerOf}
 use Rattle.tables.specs.Tables.{floatAt}
 use Rattle.moves.specs.Collect.{one64}
 
@@ -36,6 +37,10 @@ boxOf numbers k = aabbAt numbers (k * 6)
 abbrev pub countOf : List Float → ℕ
 countOf numbers = length numbers / 6
 
+-- as many of them as a list has room for
+abbrev pub firstOf : List Float → List Aabb
+firstOf numbers = listed (boxOf numbers) (min (countOf numbers) room) 0
+
 -- ---- the move
 
 -- mover: the box that moves, and its delta, nine numbers. More than 128 boxes: 6.
@@ -44,6 +49,14 @@ moveOf boxes mover step ground =
     answerOf
     (choose (ltb room (countOf boxes)) 6 0)
     (moveOver (listed (boxOf boxes) (countOf boxes) 0) (aabbAt mover 0) (vecAt mover 6) step (not (eqb ground 0)))
+    (aabbAt mover 0)
+
+-- move_over_list: 3, then 4, then 6, or the move; of more than 128 boxes the first 128 are looked at for 4
+unfoldable pub moveListOf : List Float → List Float → Float → ℕ → MoveAnswer
+moveListOf boxes mover step ground =
+    answerOf
+    (refusalOf (aabbAt mover 0) (vecAt mover 6) step (areBoxes (firstOf boxes)) (countOf boxes))
+    (moveOver (firstOf boxes) (aabbAt mover 0) (vecAt mover 6) step (not (eqb ground 0)))
     (aabbAt mover 0)
 
 -- ---- writing

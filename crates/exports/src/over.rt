@@ -1,16 +1,17 @@
 // The move over a list, in lent numbers.
 use boxes::Aabb;
 use boxes::BoxList;
+use boxes::MoveAnswer;
 use boxes::MoveResult;
 use boxes::Vec3;
 ghost use mathlib.Core.Path.{_≡_};
 ghost use mathlib.Core.List.{[], _∷_};
-ghost use Prim.Native.Nat.{_≤_, min};
+ghost use Prim.Native.Nat.{min};
 ghost use lib.ListN.{set};
-ghost use Rattle.base.specs.Loop.{listed, stored};
+ghost use Rattle.base.specs.Loop.{stored};
 ghost use Rattle.tables.specs.Tables.{floatAt};
 ghost use Rattle.boxes.specs.Lists.{room, listOf};
-ghost use Rattle.exports.specs.Moves.{vecAt, aabbAt, boxOf, countOf, moveOf, flagOf, numbersOf, writtenBy};
+ghost use Rattle.exports.specs.Moves.{vecAt, aabbAt, countOf, firstOf, moveOf, moveListOf, flagOf, numbersOf, writtenBy};
 
 pub(crate) fn number_at(numbers: &[f64], i: usize) -> f64
     ensures { λ r. ⌜ r ≡ floatAt (now (numbers .entry)) i ⌝ }
@@ -28,7 +29,7 @@ pub(crate) fn vec_at(numbers: &[f64], i: u32) -> Vec3
     Vec3 { x, y, z }
 }
 
-fn aabb_at(numbers: &[f64], i: u16) -> Aabb
+pub(crate) fn aabb_at(numbers: &[f64], i: u16) -> Aabb
     ensures { λ r. ⌜ r ≡ aabbAt (now (numbers .entry)) i ⌝ }
 {
     let k = i as u32;
@@ -44,18 +45,21 @@ fn counted(n: usize) -> usize
     if n < 128 { n } else { 128 }
 }
 
-// The boxes of a slice, as many as a list has room for. They are written in place: a push for each would copy the list.
+// The boxes of a slice, as many as a list has room for, and how many there are. They are written in place: a push for each would copy
+// the list.
 fn list_of(numbers: &[f64]) -> BoxList
-    ensures { λ r. ⌜ listOf r ≡ listed (boxOf (now (numbers .entry))) (min (countOf (now (numbers .entry))) room) 0 ⌝ }
+    ensures { λ r. ⌜ listOf r ≡ firstOf (now (numbers .entry)) ⌝ }
+    ensures { λ r. ⌜ r .count ≡ countOf (now (numbers .entry)) ⌝ }
 {
-    let n = counted(numbers.len() / 6);
+    let total = numbers.len() / 6;
+    let n = counted(total);
     let mut list = BoxList::new();
     let mut i = 0usize;
     while i < n {
         list.boxes[i] = aabb_at(numbers, (i * 6) as u16);
         i += 1;
     }
-    list.count = n;
+    list.count = total;
     list
 }
 
@@ -92,6 +96,17 @@ fn put_result(out: &mut [f64], m: MoveResult)
     put(out, 9, flag_of(m.ground));
 }
 
+pub(crate) fn move_into(out: &mut [f64], a: MoveAnswer) -> u32
+    ensures { λ r. ⌜ r ≡ a .refusal ⌝ }
+    ensures { λ _. ⌜ now (out .exit) ≡ writtenBy (now (out .entry)) a ⌝ }
+{
+    if a.refusal != 0 {
+        return a.refusal;
+    }
+    put_result(out, a.result);
+    0
+}
+
 // The move of a box over boxes, for any numbers: `boxes` has six numbers to a box, `mover` the box and its delta, nine numbers, and `ground`
 // is not 0 where the body was on the ground. It writes ten numbers and returns 0; for more than 128 boxes it writes nothing and
 // returns 6.
@@ -116,4 +131,21 @@ pub extern "C" fn boltjuniper_move_over(
         boxes::move_over(list_of(boxes), aabb, delta, step, ground != 0),
     );
     0
+}
+
+// The same for a host, who may hand over anything: it refuses 3, then 4, then 6, and of more than 128 boxes looks at the first 128 for 4.
+#[no_mangle]
+pub extern "C" fn boltjuniper_move_over_list(
+    boxes: &[f64],
+    mover: &[f64],
+    step: f64,
+    ground: u32,
+    out: &mut [f64],
+) -> u32
+    ensures { λ r. ⌜ r ≡ moveListOf (now (boxes .entry)) (now (mover .entry)) step ground .refusal ⌝ }
+    ensures { λ _. ⌜ now (out .exit) ≡ writtenBy (now (out .entry)) (moveListOf (now (boxes .entry)) (now (mover .entry)) step ground) ⌝ }
+{
+    let list = list_of(boxes);
+    let a = boxes::move_over_list(list, aabb_at(mover, 0), vec_at(mover, 6), step, ground != 0);
+    move_into(out, a)
 }

@@ -28,7 +28,7 @@ same-length c = search needs
 
 returns-2 : tie.Need-returns-2
 returns-2 c =
-    no-more (c .before .before .before .before .before .before .before .before .before .before .before .before .args .boxes .now) (c .before .before .before .before .before .before .before .before .before .before .before .before .args .mover .now) (c .before .before .before .before .before .before .before .before .before .before .before .before .args .step) (c .before .before .before .before .before .before .before .before .before .before .before .before .args .ground) (c .before .before .before .before .before .before .before .before .before .before .before .before .args .out .now) (c .before .before .before .before .before .before .before .aabb-at .result) (c .before .before .before .before .before .before .vec-at .result) (listOf (c .before .before .before .before .list-of .result)) (c .before .before .before .move-over .result) (c .before .before .put-result .last .0) (c .before .before .before .before .before .before .before .before .if1 .left) (c .before .before .before .before .before .before .before .aabb-at .ensures) (c .before .before .before .before .before .before .vec-at .ensures) (c .before .before .before .before .list-of .ensures) (c .before .before .before .move-over .ensures) (c .before .before .put-result .ensures)
+    no-more (c .before .before .before .before .before .before .before .before .before .before .before .before .args .boxes .now) (c .before .before .before .before .before .before .before .before .before .before .before .before .args .mover .now) (c .before .before .before .before .before .before .before .before .before .before .before .before .args .step) (c .before .before .before .before .before .before .before .before .before .before .before .before .args .ground) (c .before .before .before .before .before .before .before .before .before .before .before .before .args .out .now) (c .before .before .before .before .before .before .before .aabb-at .result) (c .before .before .before .before .before .before .vec-at .result) (listOf (c .before .before .before .before .list-of .result)) (c .before .before .before .move-over .result) (c .before .before .put-result .last .0) (c .before .before .before .before .before .before .before .before .if1 .left) (c .before .before .before .before .before .before .before .aabb-at .ensures) (c .before .before .before .before .before .before .vec-at .ensures) (c .before .before .before .before .list-of .ensures .0) (c .before .before .before .move-over .ensures) (c .before .before .put-result .ensures)
 
 pub boltjuniper-move-over-spec : {M : Type 1} → statement M
 boltjuniper-move-over-spec =

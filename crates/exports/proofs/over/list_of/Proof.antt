@@ -10,14 +10,15 @@ use Rattle.boxes.specs.declared.BoxList.{BoxList}
 use Rattle.boxes.specs.Lists.{noBox, emptyList}
 use Rattle.exports.specs.Moves.{boxOf}
 use Rattle.base.proofs.Fill.{turn, whole}
+use Rattle.exports.proofs.Answers.{take-room}
 use Rattle.exports.proofs.over.list_of.Statement.{statement}
 use Rattle.exports.proofs.over.list_of.Tie as tie
 
 abbrev Inv-loop : tie.InvT-loop
-Inv-loop numbers n list₀ i₀ list i = (i ≤ n) × (n ≤ 128) × (length (list .boxes) ≡ 128) × (take i (list .boxes) ++ listed (boxOf numbers) (n - i) i ≡ listed (boxOf numbers) n 0)
+Inv-loop numbers total n list₀ i₀ list i = (i ≤ n) × (n ≤ 128) × (length (list .boxes) ≡ 128) × (take i (list .boxes) ++ listed (boxOf numbers) (n - i) i ≡ listed (boxOf numbers) n 0)
 
 abbrev μ-loop : tie.MeasureT-loop
-μ-loop numbers n list₀ i₀ list i = n - i
+μ-loop numbers total n list₀ i₀ list i = n - i
 
 counted-requires : tie.Need-counted-requires Inv-loop μ-loop
 counted-requires c κs = search needs
@@ -54,7 +55,7 @@ loop-again : tie.Need-loop-again Inv-loop μ-loop
 loop-again c = (search needs, search needs, simp length-set (c .before .before .loop .inv .2), turn (boxOf (c .before .before .before .before .before .before .args .numbers .now)) (c .before .before .before .before .counted .result) (c .before .before .loop .i) (c .before .before .loop .list .boxes) _ (c .aabb-at .result) (c .aabb-at .ensures) (search needs) (search needs) (c .before .before .loop .inv .3))
 
 returns : tie.Need-returns Inv-loop μ-loop
-returns c = whole (boxOf (c .before .before .before .before .before .args .numbers .now)) (c .before .before .before .counted .result) (c .before .loop .i) (c .before .loop .list .boxes) _ (search needs) (c .before .loop .inv .0) (c .before .loop .inv .3) ∙ ap (λ (k : ℕ). listed (boxOf (c .before .before .before .before .before .args .numbers .now)) k 0) (c .before .before .before .counted .ensures)
+returns c = (take-room (c .before .loop .list .boxes) _ (c .before .before .before .counted .result) (c .before .loop .inv .2) (c .before .before .before .counted .ensures) ∙ whole (boxOf (c .before .before .before .before .before .args .numbers .now)) (c .before .before .before .counted .result) (c .before .loop .i) (c .before .loop .list .boxes) _ (search needs) (c .before .loop .inv .0) (c .before .loop .inv .3) ∙ ap (λ (k : ℕ). listed (boxOf (c .before .before .before .before .before .args .numbers .now)) k 0) (c .before .before .before .counted .ensures), refl)
 
 pub list-of-spec : {M : Type 1} → statement M
 list-of-spec =
