@@ -1,0 +1,158 @@
+//! Boltjuniper for hosts in Rust: safe wrappers around what hosts/boltjuniper.h declares. Link target/staticlib/libexports.a. An answer is
+//! what was written, or the number of the refusal (docs/REFUSALS.md).
+
+mod linked {
+    unsafe extern "C" {
+        pub fn boltjuniper_check_tables(records: *const u32, records_len: usize, shapes: *const f32, shapes_len: usize) -> u32;
+        pub fn boltjuniper_step(
+            records: *const u32, records_len: usize, shapes: *const f32, shapes_len: usize, cells: *const u32, cells_len: usize, ox: i32, oy: i32,
+            oz: i32, sx: u32, sy: u32, sz: u32, numbers: *const f64, numbers_len: usize, words: *const u32, words_len: usize, age: u64,
+            out: *mut f64, out_len: usize,
+        ) -> u32;
+        pub fn boltjuniper_step_checked(
+            records: *const u32, records_len: usize, shapes: *const f32, shapes_len: usize, cells: *const u32, cells_len: usize, ox: i32, oy: i32,
+            oz: i32, sx: u32, sy: u32, sz: u32, numbers: *const f64, numbers_len: usize, words: *const u32, words_len: usize, age: u64,
+            out: *mut f64, out_len: usize,
+        ) -> u32;
+        pub fn boltjuniper_move(
+            records: *const u32, records_len: usize, shapes: *const f32, shapes_len: usize, cells: *const u32, cells_len: usize, ox: i32, oy: i32,
+            oz: i32, sx: u32, sy: u32, sz: u32, mover: *const f64, mover_len: usize, step: f64, ground: u32, out: *mut f64, out_len: usize,
+        ) -> u32;
+        pub fn boltjuniper_move_over_list(
+            boxes: *const f64, boxes_len: usize, mover: *const f64, mover_len: usize, step: f64, ground: u32, out: *mut f64, out_len: usize,
+        ) -> u32;
+    }
+}
+
+/// The number of a refusal.
+pub type Refusal = u32;
+
+/// 20 words to a state, six numbers to a box.
+#[derive(Clone, Copy)]
+pub struct Tables<'a> {
+    pub records: &'a [u32],
+    pub shapes: &'a [f32],
+}
+
+/// The state of each cell at ((y * sizes z) + z) * sizes x + x, counted from the origin; `u32::MAX` is not loaded.
+#[derive(Clone, Copy)]
+pub struct Window<'a> {
+    pub cells: &'a [u32],
+    pub origin: [i32; 3],
+    pub sizes: [u32; 3],
+}
+
+/// A body in the order of a scene file's first block, as hosts/boltjuniper.h has it.
+#[derive(Clone, Copy)]
+pub struct Body {
+    pub numbers: [f64; 19],
+    pub words: [u32; 6],
+    pub age: u64,
+}
+
+#[derive(Clone, Copy, Debug, PartialEq)]
+pub enum Liquid {
+    None,
+    Water,
+    Lava,
+}
+
+#[derive(Clone, Copy, Debug, PartialEq)]
+pub struct Tick {
+    pub feet: [f64; 3],
+    pub velocity: [f64; 3],
+    pub ground: bool,
+    pub liquid: Liquid,
+}
+
+/// A box, min x y z and max x y z, with its delta, the step height, and whether the body was on the ground.
+#[derive(Clone, Copy)]
+pub struct Mover {
+    pub aabb: [f64; 6],
+    pub delta: [f64; 3],
+    pub step: f64,
+    pub ground: bool,
+}
+
+/// The box after a move, the way that it went, and whether it came to stand on the ground.
+#[derive(Clone, Copy, Debug, PartialEq)]
+pub struct Moved {
+    pub aabb: [f64; 6],
+    pub moved: [f64; 3],
+    pub ground: bool,
+}
+
+impl Mover {
+    fn numbers(&self) -> [f64; 9] {
+        let ([a, b, c, d, e, f], [x, y, z]) = (self.aabb, self.delta);
+        [a, b, c, d, e, f, x, y, z]
+    }
+}
+
+fn tick(refusal: u32, out: [f64; 8]) -> Result<Tick, Refusal> {
+    let [a, b, c, x, y, z, ground, liquid] = out;
+    let liquid = if liquid == 0.0 { Liquid::None } else if liquid == 1.0 { Liquid::Water } else { Liquid::Lava };
+    if refusal == 0 { Ok(Tick { feet: [a, b, c], velocity: [x, y, z], ground: ground != 0.0, liquid }) } else { Err(refusal) }
+}
+
+fn moved(refusal: u32, out: [f64; 10]) -> Result<Moved, Refusal> {
+    let [a, b, c, d, e, f, x, y, z, ground] = out;
+    if refusal == 0 { Ok(Moved { aabb: [a, b, c, d, e, f], moved: [x, y, z], ground: ground != 0.0 }) } else { Err(refusal) }
+}
+
+// Each call below hands over slices as pointer and length, and the linked function is proved to stay within them and to write to `out` alone.
+
+/// Whether tables keep every rule: refusal 1 where they do not.
+pub fn check_tables(t: Tables) -> Result<(), Refusal> {
+    match unsafe { linked::boltjuniper_check_tables(t.records.as_ptr(), t.records.len(), t.shapes.as_ptr(), t.shapes.len()) } {
+        0 => Ok(()),
+        n => Err(n),
+    }
+}
+
+/// One tick of a body.
+pub fn step(t: Tables, w: Window, b: &Body) -> Result<Tick, Refusal> {
+    let ([ox, oy, oz], [sx, sy, sz], mut out) = (w.origin, w.sizes, [0.0; 8]);
+    let refusal = unsafe {
+        linked::boltjuniper_step(
+            t.records.as_ptr(), t.records.len(), t.shapes.as_ptr(), t.shapes.len(), w.cells.as_ptr(), w.cells.len(), ox, oy, oz, sx, sy, sz,
+            b.numbers.as_ptr(), b.numbers.len(), b.words.as_ptr(), b.words.len(), b.age, out.as_mut_ptr(), out.len(),
+        )
+    };
+    tick(refusal, out)
+}
+
+/// The same for tables and a window that were checked before: it looks for neither 1 nor 2, and is as safe.
+pub fn step_checked(t: Tables, w: Window, b: &Body) -> Result<Tick, Refusal> {
+    let ([ox, oy, oz], [sx, sy, sz], mut out) = (w.origin, w.sizes, [0.0; 8]);
+    let refusal = unsafe {
+        linked::boltjuniper_step_checked(
+            t.records.as_ptr(), t.records.len(), t.shapes.as_ptr(), t.shapes.len(), w.cells.as_ptr(), w.cells.len(), ox, oy, oz, sx, sy, sz,
+            b.numbers.as_ptr(), b.numbers.len(), b.words.as_ptr(), b.words.len(), b.age, out.as_mut_ptr(), out.len(),
+        )
+    };
+    tick(refusal, out)
+}
+
+/// The move of a box through a window.
+pub fn move_through(t: Tables, w: Window, m: Mover) -> Result<Moved, Refusal> {
+    let ([ox, oy, oz], [sx, sy, sz], mover, mut out) = (w.origin, w.sizes, m.numbers(), [0.0; 10]);
+    let refusal = unsafe {
+        linked::boltjuniper_move(
+            t.records.as_ptr(), t.records.len(), t.shapes.as_ptr(), t.shapes.len(), w.cells.as_ptr(), w.cells.len(), ox, oy, oz, sx, sy, sz,
+            mover.as_ptr(), mover.len(), m.step, m.ground as u32, out.as_mut_ptr(), out.len(),
+        )
+    };
+    moved(refusal, out)
+}
+
+/// The move of a box over boxes of the host's own.
+pub fn move_over_list(boxes: &[[f64; 6]], m: Mover) -> Result<Moved, Refusal> {
+    let (boxes, mover, mut out) = (boxes.as_flattened(), m.numbers(), [0.0; 10]);
+    let refusal = unsafe {
+        linked::boltjuniper_move_over_list(
+            boxes.as_ptr(), boxes.len(), mover.as_ptr(), mover.len(), m.step, m.ground as u32, out.as_mut_ptr(), out.len(),
+        )
+    };
+    moved(refusal, out)
+}

@@ -1,0 +1,186 @@
+/* Holds the functions of hosts/boltjuniper.h to the stored answers of the original Rust (docs/VECTORS.md). Run by hosts/run. */
+#include "boltjuniper.h"
+#include <inttypes.h>
+#include <stdio.h>
+#include <stdlib.h>
+#include <string.h>
+
+enum { WORDS = 128 * 128, ROOM = 1 << 16 };
+
+static uint32_t file[WORDS], body[48], records[WORDS], boxes[WORDS], window[6], cells[WORDS];
+static float shapes[WORDS];
+static char line[ROOM];
+static int block, blocks;
+
+struct count { const char *what; int agree, differ; };
+static struct count steps = {"step", 0, 0}, malformed = {"files that are no scenes", 0, 0}, checked = {"step_checked", 0, 0},
+                    tables = {"check_tables", 0, 0}, moves = {"move", 0, 0}, lists = {"move_over_list", 0, 0};
+
+static void add(struct count *c, const char *ours, const char *theirs) {
+    if (strcmp(ours, theirs) == 0) {
+        c->agree++;
+    } else {
+        c->differ++;
+        printf("%s: %s, and the vectors have %s\n", c->what, ours, theirs);
+    }
+}
+
+static int tell(const struct count *c) {
+    printf("C, %s: %d agree, %d differ\n", c->what, c->agree, c->differ);
+    return c->differ != 0;
+}
+
+/* The words of the next part, `per` to a block: 0 where a block is missing or has more. */
+static int part(uint32_t kind, size_t per, size_t words, uint32_t *to) {
+    for (size_t at = 0; at < words; at += per, block++) {
+        if (block == blocks) return 0;
+        const uint32_t *w = file + 128 * block;
+        size_t used = words - at < per ? words - at : per;
+        if (w[1] != kind) return 0;
+        for (size_t k = 3 + used; k < 126; k++)
+            if (w[k]) return 0;
+        memcpy(to + at, w + 3, 4 * used);
+    }
+    return 1;
+}
+
+/* Reads a scene file (the machine is little-endian): 0 where it is malformed. */
+static int scene(const char *path) {
+    FILE *f = fopen(path, "rb");
+    if (!f) exit(2);
+    size_t n = fread(file, 1, sizeof file, f);
+    int more = fgetc(f) != EOF;
+    fclose(f);
+    if (more || n == 0 || n % 512) return 0;
+    block = 0, blocks = (int)(n / 512);
+    for (int b = 0; b < blocks; b++) {
+        const uint32_t *w = file + 128 * b;
+        uint32_t sum = 0;
+        for (int k = 0; k < 127; k++) sum += w[k];
+        if (memcmp(w, "SCN1", 4) || w[2] != (uint32_t)b || w[126] || w[127] != sum) return 0;
+    }
+    if (!part(1, 48, 48, body)) return 0;
+    if (body[46] < 1 || body[46] > 4096 || body[47] > 16384 || (!body[44] && (body[24] || body[25]))) return 0;
+    if (!part(2, 120, 20 * (size_t)body[46], records) || !part(3, 120, 6 * (size_t)body[47], boxes) || !part(4, 6, 6, window)) return 0;
+    for (int k = 3; k < 6; k++)
+        if (window[k] < 1 || window[k] > 64) return 0;
+    if (!part(5, 123, (size_t)window[3] * window[4] * window[5], cells)) return 0;
+    memcpy(shapes, boxes, sizeof shapes);
+    return block == blocks;
+}
+
+static char *put(char *to, const char *what, const double *x, int n) {
+    to += sprintf(to, "%s", what);
+    for (int k = 0; k < n; k++) {
+        uint64_t bits;
+        memcpy(&bits, x + k, 8);
+        to += sprintf(to, " %016" PRIx64, bits);
+    }
+    return to;
+}
+
+/* A refusal writes nothing: the place still has the -1 that were there. */
+static void tick_text(char *to, uint32_t refusal, const double *out) {
+    static const char *liquid[] = {"none", "water", "lava"};
+    if (refusal == 0) {
+        to = put(put(to, "feet", out, 3), "; velocity", out + 3, 3);
+        sprintf(to, "; ground %d; liquid %s", (int)out[6], liquid[(int)out[7]]);
+        return;
+    }
+    to += sprintf(to, "refused %" PRIu32, refusal);
+    for (int k = 0; k < 8; k++)
+        if (out[k] != -1) sprintf(to, ", and something written");
+}
+
+static void move_text(char *to, uint32_t refusal, const double *out) {
+    if (refusal) to += sprintf(to, "refused %" PRIu32 " ", refusal);
+    to = put(put(to, "box", out, 6), " moved", out + 6, 3);
+    sprintf(to, " ground %d", (int)out[9]);
+}
+
+typedef uint32_t step_function(const uint32_t *, size_t, const float *, size_t, const uint32_t *, size_t, int32_t, int32_t, int32_t, uint32_t,
+                               uint32_t, uint32_t, const double *, size_t, const uint32_t *, size_t, uint64_t, double *, size_t);
+
+static void step(struct count *c, step_function *f, const char *theirs) {
+    double numbers[19], out[8];
+    uint64_t age;
+    char ours[512];
+    memcpy(numbers, body, sizeof numbers);
+    memcpy(&age, body + 38, 8);
+    for (int k = 0; k < 8; k++) out[k] = -1;
+    uint32_t refusal = f(records, 20 * (size_t)body[46], shapes, 6 * (size_t)body[47], cells, (size_t)window[3] * window[4] * window[5],
+                         (int32_t)window[0], (int32_t)window[1], (int32_t)window[2], window[3], window[4], window[5], numbers, 19, body + 40, 6,
+                         age, out, 8);
+    tick_text(ours, refusal, out);
+    add(c, ours, theirs);
+}
+
+static void one_scene(char *theirs) {
+    char path[64], ours[64];
+    sprintf(path, "crates/replay/data/%.4s.scn", theirs);
+    theirs += 5;
+    if (!scene(path)) {
+        add(&malformed, "refused 8", theirs);
+        return;
+    }
+    int bad = !strcmp(theirs, "refused 1"), early = bad || !strcmp(theirs, "refused 2");
+    size_t n = 20 * (size_t)body[46], m = 6 * (size_t)body[47], k = (size_t)window[3] * window[4] * window[5];
+    step(&steps, boltjuniper_step, theirs);
+    if (!early) step(&checked, boltjuniper_step_checked, theirs);
+    sprintf(ours, "%" PRIu32, boltjuniper_check_tables(records, n, shapes, m));
+    add(&tables, ours, bad ? "1" : "0");
+    /* A move through the window meets 1 and 2 as the step does; its step height is then 3. */
+    double mover[9] = {0}, out[10];
+    sprintf(ours, "refused %" PRIu32, boltjuniper_move(records, n, shapes, m, cells, k, (int32_t)window[0], (int32_t)window[1],
+                                                       (int32_t)window[2], window[3], window[4], window[5], mover, 9, 5, 0, out, 10));
+    add(&moves, ours, early ? theirs : "refused 3");
+}
+
+/* movelist box6 delta3 step ground n box6*n => answer */
+static void one_list(char *call) {
+    static double numbers[ROOM / 17];
+    char ours[512], *theirs = strstr(call, "=> ") + 3;
+    size_t n = 0;
+    theirs[-3] = 0;
+    strtok(call, " ");
+    for (char *t; (t = strtok(NULL, " ")); n++) {
+        uint64_t bits = strtoull(t, NULL, 16);
+        memcpy(numbers + n, &bits, 8);
+    }
+    uint64_t ground;
+    memcpy(&ground, numbers + 10, 8);
+    /* A refused move returns its box, moved zero, ground false: that is what stands there before. */
+    double out[10] = {0};
+    memcpy(out, numbers, 6 * sizeof *out);
+    uint32_t refusal = boltjuniper_move_over_list(numbers + 12, n - 12, numbers, 9, numbers[9], (uint32_t)ground, out, 10);
+    move_text(ours, refusal, out);
+    add(&lists, ours, theirs);
+}
+
+/* Case A of the requirements: what its step does to the box. */
+static void case_a(void) {
+    static const uint32_t states[40] = {[0] = 1, [20] = 3, [28] = 1, [39] = 15}, ground[16] = {1, 1, 1, 1, 1, 1, 1, 1};
+    static const float cube[6] = {0, 0, 0, 1, 1, 1};
+    static const double mover[9] = {0, 1.25, 0, 1, 2.25, 1, 0.25, -0.5, 0}, theirs[10] = {0.25, 1, 0, 1.25, 2, 1, 0.25, -0.25, 0, 1};
+    double out[10];
+    char a[512], b[512];
+    move_text(a, boltjuniper_move(states, 40, cube, 6, ground, 16, 0, -1, 0, 2, 4, 2, mover, 9, 0, 0, out, 10), out);
+    move_text(b, 0, theirs);
+    add(&moves, a, b);
+}
+
+int main(void) {
+    FILE *f = fopen("crates/replay/stdout", "r");
+    if (!f) return 2;
+    while (fgets(line, sizeof line, f)) {
+        line[strcspn(line, "\n")] = 0;
+        if (line[0] >= '0' && line[0] <= '9') one_scene(line);
+        if (!strncmp(line, "movelist ", 9)) one_list(line);
+    }
+    fclose(f);
+    case_a();
+    const struct count *all[] = {&steps, &malformed, &checked, &tables, &moves, &lists};
+    int bad = 0;
+    for (int k = 0; k < 6; k++) bad |= tell(all[k]);
+    return bad;
+}
