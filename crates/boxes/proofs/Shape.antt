@@ -11,9 +11,8 @@ use Rattle.boxes.specs.declared.Aabb.{Aabb}
 use Rattle.boxes.specs.declared.Swept.{Swept}
 use Rattle.boxes.specs.declared.Request.{Request}
 use Rattle.boxes.specs.declared.Sweep.{Sweep}
-use Rattle.boxes.specs.declared.MoveResult.{MoveResult}
-use Rattle.boxes.specs.Move.{clipSequence, steppedUp, longer, stoppedFalling, moveOver}
-use Rattle.boxes.specs.Passes.{axisOf, clipAlong, wantedOf, goneOf, tries, nextOf, passOf, passesFrom, sweepOf}
+use Rattle.boxes.specs.Move.{clipSequence, steppedUp, longer, moveOver}
+use Rattle.boxes.specs.Passes.{axisOf, clipAlong, wantedOf, goneOf, tries, nextOf, passOf, passesFrom, sweepOf, endOf}
 
 module _ (boxes : List Aabb) (q : Request) where
   abbrev first : Swept
@@ -54,13 +53,9 @@ module _ (boxes : List Aabb) (q : Request) where
   pub swept : sweepOf boxes q .now ≡ choose (tries q (first .moved)) (longer first stepped) first
   swept = by _ refl
 
--- what the passes end with, as a move
-abbrev pub resultOf : Vec3 → Swept → MoveResult
-resultOf delta kept = record { aabb = kept .aabb; moved = kept .moved; ground = stoppedFalling (delta .y) (kept .moved .y) }
-
-pub moves : (boxes : List Aabb) (q : Request) (s : Sweep) → s ≡ sweepOf boxes q → resultOf (q .delta) (s .now) ≡ moveOver boxes (q .aabb) (q .delta) (q .step) (q .ground)
+pub moves : (boxes : List Aabb) (q : Request) (s : Sweep) → s ≡ sweepOf boxes q → endOf q s ≡ moveOver boxes (q .aabb) (q .delta) (q .step) (q .ground)
 unfolding moveOver
-moves boxes q s e = ap (λ (k : Sweep). resultOf (q .delta) (k .now)) e ∙ ap (resultOf (q .delta)) (swept boxes q)
+moves boxes q s e = ap (endOf q) e ∙ ap (λ (k : Swept). endOf q record { now = k; first = k; over = true }) (swept boxes q)
 
 -- with no step height there is one attempt
 pub one-attempt : (boxes : List Aabb) (aabb : Aabb) (delta : Vec3) (s : Sweep) → s ≡ sweepOf boxes record { aabb = aabb; delta = delta; step = zero64; ground = false } → s .now ≡ clipSequence boxes aabb delta

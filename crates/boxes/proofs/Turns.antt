@@ -24,15 +24,18 @@ module _ (l : BoxList) (whole : length (l .boxes) ≡ room) (n i : ℕ) (counts 
   unfolding clipAll
   clip-turn z d e w h q inv = let t = rw (at-box l whole n i counts z h) at inv in rw q t
 
-  pub clip-end : (d w : Float) → n ≤ i → clipAll clip (drop i (listOf l)) mover d ≡ w → d ≡ w
+  clip-end : (d w : Float) → n ≤ i → clipAll clip (drop i (listOf l)) mover d ≡ w → d ≡ w
   unfolding clipAll
   clip-end d w h inv = rw (past-boxes l whole n i counts h) at inv
 
-module _ (boxes : List Aabb) (q : Request) (pass : ℕ) (s t : Sweep) where
-  pub pass-is : (axis : ℕ) (d e : Float) (got : Swept) → axis ≡ axisOf pass → d ≡ wantedOf pass axis q (s .now) → e ≡ clipAll (clipAlong axis) boxes (s .now .aabb) d → got ≡ goneOf pass axis (s .now) e → t ≡ nextOf pass q (s .first) got → t ≡ passOf pass boxes q s
-  unfolding passOf
-  pass-is axis d e got ea ed ee eg et = rw (et, eg, ee, ed, ea)
+-- a pass whose boxes were gone through, step by step as the code makes it
+pub made : (l : BoxList) → length (l .boxes) ≡ room → (n i : ℕ) → n ≡ min (l .count) room → (q : Request) (pass : ℕ) (s t : Sweep) (got : Swept) (axis : ℕ) (d e : Float) → axis ≡ axisOf pass → d ≡ wantedOf pass axis q (s .now) → n ≤ i → clipAll (clipAlong axis) (drop i (listOf l)) (s .now .aabb) e ≡ clipAll (clipAlong axis) (listOf l) (s .now .aabb) d → got ≡ goneOf pass axis (s .now) e → t ≡ nextOf pass q (s .first) got → t ≡ passOf pass (listOf l) q s
+unfolding passOf
+made l whole n i counts q pass s t got axis d e ea ed h inv eg et =
+    let ee : e ≡ clipAll (clipAlong axis) (listOf l) (s .now .aabb) d = clip-end l whole n i counts (clipAlong axis) (s .now .aabb) e _ h inv in
+    rw (et, eg, ee, ed, ea)
 
+module _ (boxes : List Aabb) (q : Request) (pass : ℕ) (s t : Sweep) where
   module _ (w : Sweep) (is : t ≡ passOf pass boxes q s) where
     turn : pass < 7 → passesFrom (7 - pass) pass boxes q s ≡ w → choose (t .over) t (passesFrom (7 - (pass + 1)) (pass + 1) boxes q t) ≡ w
     unfolding passesFrom

@@ -13,8 +13,9 @@ use Rattle.boxes.specs.declared.Aabb.{Aabb}
 use Rattle.boxes.specs.declared.Swept.{Swept}
 use Rattle.boxes.specs.declared.Request.{Request}
 use Rattle.boxes.specs.declared.Sweep.{Sweep}
+use Rattle.boxes.specs.declared.MoveResult.{MoveResult}
 use Rattle.boxes.specs.Boxes.{vec, offsetBy, clipX, clipY, clipZ}
-use Rattle.boxes.specs.Move.{clipAll, longer, triesStep}
+use Rattle.boxes.specs.Move.{clipAll, longer, stoppedFalling, triesStep}
 
 -- y, x, z: 0 is x, 1 is y, 2 is z
 unfoldable pub axisOf : ℕ → ℕ
@@ -71,3 +72,8 @@ startOf q =
 
 abbrev pub sweepOf : List Aabb → Request → Sweep
 sweepOf boxes q = passesFrom 7 0 boxes q (startOf q)
+
+-- what a move comes to whose passes are over
+abbrev pub endOf : Request → Sweep → MoveResult
+endOf q s =
+    record { aabb = s .now .aabb; moved = s .now .moved; ground = stoppedFalling (q .delta .y) (s .now .moved .y) }

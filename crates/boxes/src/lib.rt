@@ -9,8 +9,15 @@ pub use entry::is_box;
 pub use entry::is_delta;
 pub use entry::is_step;
 pub use entry::move_over_list;
+pub use passes::axis_of;
+pub use passes::begun;
+pub use passes::clip_along;
 pub use passes::clip_sequence;
+pub use passes::ended;
+pub use passes::gone;
 pub use passes::move_over;
+pub use passes::next;
+pub use passes::wanted;
 ghost use mathlib.Core.Path.{_≡_};
 ghost use Rattle.boxes.specs.Boxes.{vec, box, fromFeet, offsetBy, below0, above0, downOf, upOf, expandTowards, inflateBy, meet, overlap, feetOf, clipX, clipY, clipZ};
 ghost use Rattle.boxes.specs.Sides.{onX, onY, onZ, apartOn, clipOn};
@@ -61,18 +68,18 @@ pub struct MoveAnswer {
 }
 
 // What a move is asked for.
-struct Request {
-    aabb: Aabb,
-    delta: Vec3,
-    step: f64,
-    ground: bool,
+pub struct Request {
+    pub aabb: Aabb,
+    pub delta: Vec3,
+    pub step: f64,
+    pub ground: bool,
 }
 
 // Where a move stands between two passes: the attempt at hand, the first attempt, and whether the move is over.
-struct Sweep {
-    now: Swept,
-    first: Swept,
-    over: bool,
+pub struct Sweep {
+    pub now: Swept,
+    pub first: Swept,
+    pub over: bool,
 }
 
 // A box and a mover on one axis: the box from lo to hi, the mover from `from` to `to`.

@@ -1,5 +1,5 @@
 // The move over a list. All passes of a move stand in one loop of one function: a list goes by value, and each call that takes it
-// may copy it.
+// may copy it. What a pass is made of is public, for whoever holds a list of his own and makes the passes where it lies.
 use crate::Aabb;
 use crate::BoxList;
 use crate::MoveResult;
@@ -11,19 +11,19 @@ use crate::list::counted;
 ghost use mathlib.Core.Path.{_≡_};
 ghost use Rattle.boxes.specs.Lists.{listOf};
 ghost use Rattle.boxes.specs.Move.{flatSquare, longer, stoppedFalling, blockedHorizontally, clipSequence, moveOver};
-ghost use Rattle.boxes.specs.Passes.{axisOf, clipAlong, wantedOf, goneOf, tries, nextOf, sweepOf};
+ghost use Rattle.boxes.specs.Passes.{axisOf, clipAlong, wantedOf, goneOf, tries, nextOf, startOf, sweepOf, endOf};
 
 // The axes in the order of the passes: y, x, z. 0 is x, 1 is y, 2 is z.
 const ORDER: [u32; 3] = [1, 0, 2];
 
-fn axis_of(pass: u32) -> u32
+pub fn axis_of(pass: u32) -> u32
     ensures { λ r. ⌜ r ≡ axisOf pass ⌝ }
 {
     let k = (pass % 3) as usize;
     ORDER[k]
 }
 
-fn clip_along(axis: u32, b: Aabb, mover: Aabb, d: f64) -> f64
+pub fn clip_along(axis: u32, b: Aabb, mover: Aabb, d: f64) -> f64
     ensures { λ r. ⌜ r ≡ clipAlong axis b mover d ⌝ }
 {
     if axis == 0 {
@@ -36,7 +36,7 @@ fn clip_along(axis: u32, b: Aabb, mover: Aabb, d: f64) -> f64
 }
 
 // The way that a pass starts with.
-fn wanted(pass: u32, axis: u32, q: Request, s: Swept) -> f64
+pub fn wanted(pass: u32, axis: u32, q: Request, s: Swept) -> f64
     ensures { λ r. ⌜ r ≡ wantedOf pass axis q s ⌝ }
 {
     if axis == 0 {
@@ -55,7 +55,7 @@ fn wanted(pass: u32, axis: u32, q: Request, s: Swept) -> f64
 }
 
 // The attempt s after a pass that came to d.
-fn gone(pass: u32, axis: u32, s: Swept, d: f64) -> Swept
+pub fn gone(pass: u32, axis: u32, s: Swept, d: f64) -> Swept
     ensures { λ r. ⌜ r ≡ goneOf pass axis s d ⌝ }
 {
     if axis == 0 {
@@ -132,7 +132,7 @@ fn longer_of(moved: Swept, stepped: Swept) -> Swept
 }
 
 // Where the move stands after a pass whose attempt came to `got`.
-fn next(pass: u32, q: Request, first: Swept, got: Swept) -> Sweep
+pub fn next(pass: u32, q: Request, first: Swept, got: Swept) -> Sweep
     ensures { λ r. ⌜ r ≡ nextOf pass q first got ⌝ }
 {
     if pass == 2 {
@@ -165,19 +165,40 @@ fn next(pass: u32, q: Request, first: Swept, got: Swept) -> Sweep
     }
 }
 
+// Where a move stands before its first pass.
+pub fn begun(q: Request) -> Sweep
+    ensures { λ r. ⌜ r ≡ startOf q ⌝ }
+{
+    let aabb = q.aabb;
+    let delta = q.delta;
+    let start = Swept { aabb, moved: delta };
+    Sweep {
+        now: start,
+        first: start,
+        over: false,
+    }
+}
+
+// What a move comes to whose passes are over. The flag is worked out after the step, from the attempt that was kept.
+pub fn ended(q: Request, s: Sweep) -> MoveResult
+    ensures { λ r. ⌜ r ≡ endOf q s ⌝ }
+{
+    let kept = s.now;
+    let aabb = kept.aabb;
+    let moved = kept.moved;
+    MoveResult {
+        aabb,
+        moved,
+        ground: stopped_falling(q.delta.y, kept.moved.y),
+    }
+}
+
 // All passes of a move over a list. The axis is fixed while the boxes are gone through.
 fn swept_over(list: BoxList, q: Request) -> Sweep
     ensures { λ r. ⌜ r ≡ sweepOf (listOf list) q ⌝ }
 {
     let n = counted(list.count);
-    let aabb = q.aabb;
-    let delta = q.delta;
-    let start = Swept { aabb, moved: delta };
-    let mut s = Sweep {
-        now: start,
-        first: start,
-        over: false,
-    };
+    let mut s = begun(q);
     let mut pass = 0u32;
     while pass < 7 {
         let axis = axis_of(pass);
@@ -204,24 +225,13 @@ fn swept_over(list: BoxList, q: Request) -> Sweep
 pub fn move_over(list: BoxList, aabb: Aabb, delta: Vec3, step: f64, ground: bool) -> MoveResult
     ensures { λ r. ⌜ r ≡ moveOver (listOf list) aabb delta step ground ⌝ }
 {
-    let s = swept_over(
-        list,
-        Request {
-            aabb,
-            delta,
-            step,
-            ground,
-        },
-    );
-    let kept = s.now;
-    let at = kept.aabb;
-    let moved = kept.moved;
-    // The flag is worked out after the step, from the attempt that was kept.
-    MoveResult {
-        aabb: at,
-        moved,
-        ground: stopped_falling(delta.y, kept.moved.y),
-    }
+    let q = Request {
+        aabb,
+        delta,
+        step,
+        ground,
+    };
+    ended(q, swept_over(list, q))
 }
 
 // One attempt: y, then x, then z. It is the move that may not step up.

@@ -1,8 +1,8 @@
--- Collection cell by cell and box by box, as the code does it, comes to `collectBlockBoxes`. Assumes nothing.
+-- Collection cell by cell and box by box, as the code does it, comes to `collectBlockBoxes`, and a move over it to `moveAabb`. Assumes nothing.
 use mathlib.Core.Path.{_≡_, refl, sym, ap, _∙_}
 use mathlib.Core.Bool.{Bool, true, false}
 use mathlib.Core.List.{List, [], _∷_, _++_}
-use Prim.Native.Nat.{ℕ, zero, suc, _+_, _-_, _≤_, _<_}
+use Prim.Native.Nat.{ℕ, zero, suc, _+_, _-_, _≤_, _<_, min}
 use native.Mathlib.Numerals.{add-one}
 use native.Mathlib.Omega.{arith}
 use lib.Dec.{ltb}
@@ -15,10 +15,17 @@ use Rattle.base.specs.Loop.{listed}
 use Rattle.base.specs.Ask.{Ask, refused, found, _>>=_, Turn, next, done, onward, turning}
 use Rattle.boxes.specs.declared.Aabb.{Aabb}
 use Rattle.boxes.specs.declared.BoxList.{BoxList}
+use Rattle.boxes.specs.declared.Vec3.{Vec3}
+use Rattle.boxes.specs.declared.Request.{Request}
+use Rattle.boxes.specs.declared.Sweep.{Sweep}
+use Rattle.boxes.specs.declared.MoveResult.{MoveResult}
 use Rattle.boxes.specs.Boxes.{overlap}
+use Rattle.boxes.specs.Passes.{sweepOf, endOf}
+use Rattle.boxes.proofs.Shape.{moves}
 use Rattle.boxes.specs.Lists.{room, listOf, emptyList, noBox, Held, held}
 use Rattle.window.specs.declared.Pos.{Pos}
-use Rattle.window.specs.Look.{Block}
+use Rattle.window.specs.declared.Window.{Window}
+use Rattle.window.specs.Look.{Block, lookAt}
 use Rattle.ranges.specs.declared.Range.{Range}
 use Rattle.ranges.specs.Ranges.{placeAt}
 use Rattle.ranges.specs.Walk.{line, layer, walk}
@@ -26,7 +33,7 @@ use Rattle.moves.specs.Collect.{CellShape, cellShape, offer, offerAll, v
 use Rattle.tables.specs.Tables.{boxesAt}
 use Rattle.moves.specs.declared.Shape.{Shape}
 use Rattle.moves.specs.Parts.{shapeIn, countOf, nthAabb}
-use Rattle.moves.specs.Answers.{heldAsked}
+use Rattle.moves.specs.Answers.{heldAsked, sweptArea, moveAabb}
 use Rattle.moves.proofs.Boxes.{listed-all}
 
 -- ---- one after the other
@@ -181,23 +188,46 @@ full area b l room-l h o =
     let t : ltb (length (listOf l)) room ≡ false = le-ltb (length (listOf l)) room (omega arith) in
     rw (o, t)
 
+-- every box of such a list counts
+pub fully : (l : BoxList) → Room l → l .count ≡ min (l .count) room
+fully l room-l = let c = room-l .counts in omega arith
+
 -- ---- the answers, for r the range of the area
 module _ (look : Pos → Ask Block) (records : List ℕ) (shapes : List Float) (area : Aabb) (r : Range) (e : r ≡ rangeOf area) where
-  pub collected : (l : BoxList) → Room l → found (next (listOf l)) ≡ all push look records shapes area r [] → record { refusal = 0; count = l .count; boxes = listOf l } ≡ heldAsked (collectBlockBoxes look records shapes area)
+  pub was-collected : (l : BoxList) → found (next (listOf l)) ≡ all push look records shapes area r [] → collectBlockBoxes look records shapes area ≡ found (listOf l)
   unfolding collectBlockBoxes
+  was-collected l h = rw (← e, ← h)
+
+  pub was-refused : (k : ℕ) → refused k ≡ all push look records shapes area r [] → collectBlockBoxes look records shapes area ≡ refused k
+  unfolding collectBlockBoxes
+  was-refused k h = rw (← e, ← h)
+
+  pub collected : (l : BoxList) → Room l → found (next (listOf l)) ≡ all push look records shapes area r [] → record { refusal = 0; count = l .count; boxes = listOf l } ≡ heldAsked (collectBlockBoxes look records shapes area)
   collected l q h =
       let w = q .whole in
       let c = q .counts in
       let n : length (listOf l) ≡ l .count = length-take-le (l .count) (l .boxes) (omega arith) in
-      rw (← e, ← h, n)
+      rw (was-collected l h, n)
 
   pub not-collected : (k : ℕ) → refused k ≡ all push look records shapes area r [] → held k [] ≡ heldAsked (collectBlockBoxes look records shapes area)
-  unfolding collectBlockBoxes
-  not-collected k h = rw (← e, ← h)
+  not-collected k h = rw (was-refused k h)
 
   pub hit-told : (m : Ask (Turn Bool Bool)) → m ≡ all hit look records shapes area r false → (m >>= λ t. found (isHit t)) ≡ collidesWithBlocks look records shapes area
   unfolding collidesWithBlocks
   hit-told m h = rw (← e, ← h)
+
+-- ---- the move over what was collected from the swept area
+module _ (cells : List ℕ) (w : Window) (records : List ℕ) (shapes : List Float) (aabb : Aabb) (delta : Vec3) (step : Float) (ground : Bool) (area : Aabb) (e : area ≡ sweptArea aabb delta step) (r : Range) (er : r ≡ rangeOf area) where
+  abbrev request : Request
+  request = record { aabb = aabb; delta = delta; step = step; ground = ground }
+
+  pub moved : (l : BoxList) → found (next (listOf l)) ≡ all push (lookAt cells w) records shapes area r [] → (s : Sweep) → s ≡ sweepOf (listOf l) request → (m : MoveResult) → m ≡ endOf request s → found m ≡ moveAabb (lookAt cells w) records shapes aabb delta step ground
+  unfolding moveAabb
+  moved l h s es m em = rw (← e, was-collected (lookAt cells w) records shapes area r er l h, em, moves (listOf l) request s es)
+
+  pub not-moved : (k : ℕ) → refused k ≡ all push (lookAt cells w) records shapes area r [] → refused k ≡ moveAabb (lookAt cells w) records shapes aabb delta step ground
+  unfolding moveAabb
+  not-moved k h = rw (← e, was-refused (lookAt cells w) records shapes area r er k h)
 
 -- a box that overlaps is a hit, and another is none
 pub is-hit : (area b : Aabb) → overlap b area ≡ true → offer hit area b false ≡ found (done true)

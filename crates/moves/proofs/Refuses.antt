@@ -131,27 +131,3 @@ pub collides-refuses : (cells : List ℕ) (w : Window) (records : List ℕ) (sha
 unfolding collidesWithBlocks
 collides-refuses cells w records shapes area =
     after _ _ (walks _ _ (visit-refuses (lookAt cells w) (look-refuses cells w) records (λ n e. e) hit (λ b s. finds _) area shapes) false) (λ t. finds _)
-
--- ---- what the number of a collection's refusal tells
-never-zero : FiveOrSix 0 → ⊥
-never-zero (inl e) = omega arith
-never-zero (inr e) = omega arith
-
-pub was-collected : (m : Ask (List Aabb)) (c : Collected) → Refuses FiveOrSix m → heldIn c ≡ heldAsked m → c .refusal ≡ 0 → m ≡ found (listOf (c .list))
-was-collected (refused k) c h e z = absurd (never-zero (h .only 0 (ap refused (sym (ap (λ (x : Held). x .refusal) e) ∙ z))))
-was-collected (found bs) c h e z = ap found (sym (ap (λ (x : Held). x .boxes) e))
-
-pub was-refused : (m : Ask (List Aabb)) (c : Collected) → heldIn c ≡ heldAsked m → (c .refusal ≡ 0 → ⊥) → m ≡ refused (c .refusal)
-was-refused (refused k) c e z = ap refused (sym (ap (λ (x : Held). x .refusal) e))
-was-refused (found bs) c e z = absurd (z (ap (λ (x : Held). x .refusal) e))
-
--- ---- the move over what was collected from the swept area
-module _ (cells : List ℕ) (w : Window) (records : List ℕ) (shapes : List Float) (aabb : Aabb) (delta : Vec3) (step : Float) (ground : Bool) (area : Aabb) (c : Collected)
-    (e : area ≡ sweptArea aabb delta step) (h : heldIn c ≡ heldAsked (collectBlockBoxes (lookAt cells w) records shapes area)) where
-  pub move-refused : (c .refusal ≡ 0 → ⊥) → refused (c .refusal) ≡ moveAabb (lookAt cells w) records shapes aabb delta step ground
-  unfolding moveAabb
-  move-refused z = rw (← e, was-refused (collectBlockBoxes (lookAt cells w) records shapes area) c h z)
-
-  pub move-done : (m : MoveResult) → c .refusal ≡ 0 → m ≡ moveOver (listOf (c .list)) aabb delta step ground → found m ≡ moveAabb (lookAt cells w) records shapes aabb delta step ground
-  unfolding moveAabb
-  move-done m z q = rw (← e, was-collected (collectBlockBoxes (lookAt cells w) records shapes area) c (collect-refuses cells w records shapes area) h z, q)

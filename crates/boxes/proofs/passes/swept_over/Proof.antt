@@ -1,13 +1,13 @@
 -- `boxes::passes::swept_over` meets its contract. Assumes nothing.
-use mathlib.Core.Path.{_≡_, refl, sym, _∙_}
+use mathlib.Core.Path.{_≡_, refl, sym, ap, _∙_}
 use Prim.Native.Nat.{_-_}
 use native.Mathlib.Omega.{arith}
 use lib.ListN.{length, drop, length-map}
 use borrow.Author.Needs.{needs}
 use Rattle.boxes.specs.Lists.{room, listOf}
 use Rattle.boxes.specs.Move.{clipAll}
-use Rattle.boxes.specs.Passes.{clipAlong, passesFrom}
-use Rattle.boxes.proofs.Turns.{clip-turn, clip-end, pass-is, pass-on, pass-over, passes-end}
+use Rattle.boxes.specs.Passes.{clipAlong, passesFrom, sweepOf}
+use Rattle.boxes.proofs.Turns.{clip-turn, made, pass-on, pass-over, passes-end}
 use Rattle.boxes.proofs.passes.swept_over.Statement.{statement}
 use Rattle.boxes.proofs.passes.swept_over.Tie as tie
 
@@ -18,7 +18,7 @@ abbrev μ-loop2 : tie.MeasureT-loop2
 μ-loop2 q list n s pass axis now mover d₀ i₀ d i = n - i
 
 abbrev Inv-loop : tie.InvT-loop
-Inv-loop q list n s₀ pass₀ s pass = passesFrom (7 - pass) pass (listOf list) q s ≡ passesFrom 7 0 (listOf list) q s₀
+Inv-loop q list n s₀ pass₀ s pass = passesFrom (7 - pass) pass (listOf list) q s ≡ sweepOf (listOf list) q
 
 abbrev μ-loop : tie.MeasureT-loop
 μ-loop q list n s₀ pass₀ s pass = 7 - pass
@@ -30,8 +30,11 @@ whole c = sym (length-map (c .args .t1 .boxes) _) ∙ c .good .0 .1 .1 .0 .1 .0 
 counted-requires : tie.Need-counted-requires Inv-loop2 μ-loop2 Inv-loop μ-loop
 counted-requires c κs = search needs
 
+begun-requires : tie.Need-begun-requires Inv-loop2 μ-loop2 Inv-loop μ-loop
+begun-requires c κs = search needs
+
 loop-holds : tie.Need-loop-holds Inv-loop2 μ-loop2 Inv-loop μ-loop
-loop-holds c = refl
+loop-holds c = ap (passesFrom 7 0 _ _) (c .begun .ensures)
 
 axis-of-requires : tie.Need-axis-of-requires Inv-loop2 μ-loop2 Inv-loop μ-loop
 axis-of-requires c κs = search needs
@@ -59,10 +62,7 @@ loop2-less c = omega arith
 
 loop2-again : tie.Need-loop2-again Inv-loop2 μ-loop2 Inv-loop μ-loop
 loop2-again c =
-    let k = c .before .before .before .before .before .before .before .before .before .before .before .before .before in
-    let x = c .before .before .before .loop2 in
-    clip-turn (k .args .t1) (whole k) (c .before .before .before .before .before .before .before .before .before .before .before .before .counted .result) (x .i) (c .before .before .before .before .before .before .before .before .before .before .before .before .counted .ensures) (clipAlong (c .before .before .before .before .before .before .before .axis-of .result)) (c .before .before .before .before .before .before .before .before .before .loop .s .now .aabb)
-    _ (x .d) (c .clip-along .result) _ (c .before .before .loop2-test .taken) (c .clip-along .ensures) (x .inv)
+    clip-turn (c .before .before .before .before .before .before .before .before .before .before .before .before .args .t1) (whole (c .before .before .before .before .before .before .before .before .before .before .before .before)) _ (c .before .before .before .loop2 .i) (c .before .before .before .before .before .before .before .before .before .before .before .counted .ensures) (clipAlong (c .before .before .before .before .before .before .before .axis-of .result)) (c .before .before .before .before .before .before .before .before .before .loop .s .now .aabb) _ (c .before .before .before .loop2 .d) _ _ (c .before .before .loop2-test .taken) (c .clip-along .ensures) (c .before .before .before .loop2 .inv)
 
 gone-requires : tie.Need-gone-requires Inv-loop2 μ-loop2 Inv-loop μ-loop
 gone-requires c κs = search needs
@@ -72,13 +72,7 @@ next-requires c κs = search needs
 
 returns : tie.Need-returns Inv-loop2 μ-loop2 Inv-loop μ-loop
 returns c =
-    let k = c .before .before .before .before .before .before .before .before .before .before .before .before .before .before .before in
-    let x = c .before .before .before .before .before .loop2 in
-    let a = c .before .before .before .before .before .before .before .before .before .axis-of in
-    let l = c .before .before .before .before .before .before .before .before .before .before .before .loop in
-    let e = clip-end (k .args .t1) (whole k) (c .before .before .before .before .before .before .before .before .before .before .before .before .before .before .counted .result) (x .i) (c .before .before .before .before .before .before .before .before .before .before .before .before .before .before .counted .ensures) (clipAlong (a .result)) (l .s .now .aabb) (x .d) _ (c .before .before .before .before .loop2-test .left) (x .inv) in
-    let is = pass-is (listOf (k .args .t1)) (k .args .q) (l .pass) (l .s) (c .before .next .result) (a .result) (c .before .before .before .before .before .before .wanted .result) (x .d) (c .before .before .gone .result) (a .ensures) (c .before .before .before .before .before .before .wanted .ensures) e (c .before .before .gone .ensures) (c .before .next .ensures) in
-    pass-over (listOf (k .args .t1)) (k .args .q) (l .pass) (l .s) (c .before .next .result) _ is (c .before .before .before .before .before .before .before .before .before .before .loop-test .taken) (c .if1 .taken) (l .inv)
+    pass-over _ _ (c .before .before .before .before .before .before .before .before .before .before .before .loop .pass) (c .before .before .before .before .before .before .before .before .before .before .before .loop .s) (c .before .next .result) _ (made (c .before .before .before .before .before .before .before .before .before .before .before .before .before .before .args .t1) (whole (c .before .before .before .before .before .before .before .before .before .before .before .before .before .before)) _ _ (c .before .before .before .before .before .before .before .before .before .before .before .before .before .counted .ensures) _ (c .before .before .before .before .before .before .before .before .before .before .before .loop .pass) (c .before .before .before .before .before .before .before .before .before .before .before .loop .s) _ _ _ _ (c .before .before .before .before .before .loop2 .d) (c .before .before .before .before .before .before .before .before .before .axis-of .ensures) (c .before .before .before .before .before .before .wanted .ensures) (c .before .before .before .before .loop2-test .left) (c .before .before .before .before .before .loop2 .inv) (c .before .before .gone .ensures) (c .before .next .ensures)) (c .before .before .before .before .before .before .before .before .before .before .loop-test .taken) (c .if1 .taken) (c .before .before .before .before .before .before .before .before .before .before .before .loop .inv)
 
 add-pass : tie.Need-add-pass Inv-loop2 μ-loop2 Inv-loop μ-loop
 add-pass c = omega arith
@@ -88,16 +82,10 @@ loop-less c = omega arith
 
 loop-again : tie.Need-loop-again Inv-loop2 μ-loop2 Inv-loop μ-loop
 loop-again c =
-    let k = c .before .before .before .before .before .before .before .before .before .before .before .before .before .before .before in
-    let x = c .before .before .before .before .before .loop2 in
-    let a = c .before .before .before .before .before .before .before .before .before .axis-of in
-    let l = c .before .before .before .before .before .before .before .before .before .before .before .loop in
-    let e = clip-end (k .args .t1) (whole k) (c .before .before .before .before .before .before .before .before .before .before .before .before .before .before .counted .result) (x .i) (c .before .before .before .before .before .before .before .before .before .before .before .before .before .before .counted .ensures) (clipAlong (a .result)) (l .s .now .aabb) (x .d) _ (c .before .before .before .before .loop2-test .left) (x .inv) in
-    let is = pass-is (listOf (k .args .t1)) (k .args .q) (l .pass) (l .s) (c .before .next .result) (a .result) (c .before .before .before .before .before .before .wanted .result) (x .d) (c .before .before .gone .result) (a .ensures) (c .before .before .before .before .before .before .wanted .ensures) e (c .before .before .gone .ensures) (c .before .next .ensures) in
-    pass-on (listOf (k .args .t1)) (k .args .q) (l .pass) (l .s) (c .before .next .result) _ is (c .before .before .before .before .before .before .before .before .before .before .loop-test .taken) (c .if1 .left) (l .inv)
+    pass-on _ _ (c .before .before .before .before .before .before .before .before .before .before .before .loop .pass) (c .before .before .before .before .before .before .before .before .before .before .before .loop .s) (c .before .next .result) _ (made (c .before .before .before .before .before .before .before .before .before .before .before .before .before .before .args .t1) (whole (c .before .before .before .before .before .before .before .before .before .before .before .before .before .before)) _ _ (c .before .before .before .before .before .before .before .before .before .before .before .before .before .counted .ensures) _ (c .before .before .before .before .before .before .before .before .before .before .before .loop .pass) (c .before .before .before .before .before .before .before .before .before .before .before .loop .s) _ _ _ _ (c .before .before .before .before .before .loop2 .d) (c .before .before .before .before .before .before .before .before .before .axis-of .ensures) (c .before .before .before .before .before .before .wanted .ensures) (c .before .before .before .before .loop2-test .left) (c .before .before .before .before .before .loop2 .inv) (c .before .before .gone .ensures) (c .before .next .ensures)) (c .before .before .before .before .before .before .before .before .before .before .loop-test .taken) (c .if1 .left) (c .before .before .before .before .before .before .before .before .before .before .before .loop .inv)
 
 returns-2 : tie.Need-returns-2 Inv-loop2 μ-loop2 Inv-loop μ-loop
-returns-2 c = passes-end (listOf (c .before .before .before .before .before .args .t1)) (c .before .before .before .before .before .args .q) (c .before .loop .pass) (c .before .loop .s) _ (c .loop-test .left) (c .before .loop .inv)
+returns-2 c = passes-end _ _ (c .before .loop .pass) (c .before .loop .s) _ (c .loop-test .left) (c .before .loop .inv)
 
 pub swept-over-spec : {M : Type 1} → statement M
 swept-over-spec =
@@ -108,6 +96,7 @@ swept-over-spec =
     Inv-loop
     μ-loop
     counted-requires
+    begun-requires
     loop-holds
     axis-of-requires
     wanted-requires
