@@ -22,14 +22,14 @@ use Rattle.boxes.specs.declared.MoveResult.{MoveResult}
 use Rattle.boxes.specs.Boxes.{overlap}
 use Rattle.boxes.specs.Passes.{sweepOf, endOf}
 use Rattle.boxes.proofs.Shape.{moves}
-use Rattle.boxes.specs.Lists.{room, listOf, emptyList, noBox, Held, held}
+use Rattle.boxes.specs.Lists.{room, listOf, emptyList, noBox, held}
 use Rattle.window.specs.declared.Pos.{Pos}
 use Rattle.window.specs.declared.Window.{Window}
 use Rattle.window.specs.Look.{Block, lookAt}
 use Rattle.ranges.specs.declared.Range.{Range}
 use Rattle.ranges.specs.Ranges.{placeAt}
 use Rattle.ranges.specs.Walk.{line, layer, walk}
-use Rattle.moves.specs.Collect.{CellShape, cellShape, offer, offerAll, visit, push, pushed, hit, isHit, rangeOf, collectBlockBoxes, collidesWithBlocks}
+use Rattle.moves.specs.Collect.{cellShape, offer, offerAll, visit, push, hit, isHit, rangeOf, collectBlockBoxes, collidesWithBlocks}
 use Rattle.tables.specs.Tables.{boxesAt}
 use Rattle.moves.specs.declared.Shape.{Shape}
 use Rattle.moves.specs.Parts.{shapeIn, countOf, nthAabb}

@@ -1,5 +1,5 @@
 -- Which refusals can come up: a look-up and a connection refuse 5 alone, collection 5 and 6, `collides` 5. Assumes nothing.
-use mathlib.Core.Path.{_≡_, refl, sym, ap, _∙_}
+use mathlib.Core.Path.{_≡_, refl}
 use mathlib.Core.Bool.{Bool, true, false, _&&_}
 use mathlib.Core.Logic.{_⊎_, inl, inr}
 use mathlib.Core.List.{List, [], _∷_}
@@ -11,11 +11,6 @@ use lib.Ieee.{Float}
 use Rattle.base.specs.Choose.{choose}
 use Rattle.base.specs.Ask.{Ask, refused, found, _>>=_, Turn, next, done, onward, turning}
 use Rattle.boxes.specs.declared.Aabb.{Aabb}
-use Rattle.boxes.specs.declared.Vec3.{Vec3}
-use Rattle.boxes.specs.declared.Collected.{Collected}
-use Rattle.boxes.specs.declared.MoveResult.{MoveResult}
-use Rattle.boxes.specs.Move.{moveOver}
-use Rattle.boxes.specs.Lists.{Held, heldIn, held, listOf}
 use Rattle.cover.specs.declared.Side.{Side}
 use Rattle.cover.specs.declared.Side.the-variants.{North, East, South, West}
 use Rattle.window.specs.declared.Pos.{Pos}
@@ -27,7 +22,6 @@ use Rattle.ranges.specs.Walk.{line, layer, walk}
 use Rattle.connect.specs.declared.Joined.{Joined}
 use Rattle.connect.specs.Connect.{connectsAs, joins, post, besideNeighbours, connectedState}
 use Rattle.moves.specs.Collect.{connectedShape, shapeOf, cellShape, offer, offerAll, visit, push, hit, collectBlockBoxes, collidesWithBlocks}
-use Rattle.moves.specs.Answers.{heldAsked, sweptArea, moveAabb}
 
 -- what a refusal's number can be
 pub record Refuses {A : Type 0} (P : ℕ → Type 0) (m : Ask A) : Type 0 where

@@ -1,7 +1,7 @@
--- `moves::swept_area` meets its contract. Assumes nothing.
+-- `moves::through::swept_area` meets its contract. Assumes nothing.
 use borrow.Author.Needs.{needs}
-use Rattle.moves.proofs.swept_area.Statement.{statement}
-use Rattle.moves.proofs.swept_area.Tie as tie
+use Rattle.moves.proofs.through.swept_area.Statement.{statement}
+use Rattle.moves.proofs.through.swept_area.Tie as tie
 
 expand-towards-requires : tie.Need-expand-towards-requires
 expand-towards-requires c κs = search needs

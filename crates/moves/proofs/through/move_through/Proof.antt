@@ -1,4 +1,4 @@
--- `moves::move_through` meets its contract: its first four loops leave what `Collects.antt` says, and the passes over what they left are
+-- `moves::through::move_through` meets its contract: its first four loops leave what `Collects.antt` says, and the passes over what they left are
 -- those of a move over a list. Assumes nothing.
 use mathlib.Core.Path.{_≡_, refl, sym, ap, _∙_}
 use mathlib.Core.Logic.{⊎-elim}
@@ -15,8 +15,8 @@ use Rattle.window.specs.Look.{lookAt}
 use Rattle.moves.specs.Collect.{push, cellShape}
 use Rattle.moves.specs.Parts.{nthAabb, partAsked}
 use Rattle.moves.proofs.Collects.{Room, all, layersFrom, linesFrom, cellsFrom, boxesFrom, walk-begins, layer-begins, line-begins, cell-begins, cell-refused, box-next, box-refused, boxes-end, cells-end, lines-end, layers-end, kept, passed, full, empty-room, fully, moved, not-moved}
-use Rattle.moves.proofs.move_through.Statement.{statement}
-use Rattle.moves.proofs.move_through.Tie as tie
+use Rattle.moves.proofs.through.move_through.Statement.{statement}
+use Rattle.moves.proofs.through.move_through.Tie as tie
 
 abbrev Inv-loop4 : tie.InvT-loop4
 Inv-loop4 records shapes cells w aabb delta step ground area r list₀ y x z p part shape n k₀ list k = Room list × (boxesFrom push (lookAt cells w) records shapes area r y x z (nthAabb (part .cube) shape p) n k (listOf list) ≡ all push (lookAt cells w) records shapes area r [])
