@@ -1,4 +1,4 @@
--- Which refusals can come up: a look-up and a connection refuse 5 alone, collection 5 and 6, `collides` 5. Assumes nothing.
+-- Which refusals can come up: a look-up and a connection refuse 5 alone, collection and the move 5 and 6, `collides` 5. Assumes nothing.
 use mathlib.Core.Path.{_≡_, refl}
 use mathlib.Core.Bool.{Bool, true, false, _&&_}
 use mathlib.Core.Logic.{_⊎_, inl, inr}
@@ -9,8 +9,9 @@ use lib.Dec.{ltb, eqb}
 use lib.ListN.{length}
 use lib.Ieee.{Float}
 use Rattle.base.specs.Choose.{choose}
-use Rattle.base.specs.Ask.{Ask, refused, found, _>>=_, Turn, next, done, onward, turning}
+use Rattle.base.specs.Ask.{Ask, refused, found, _>>=_, asking, Turn, next, done, resume, onward, turning}
 use Rattle.boxes.specs.declared.Aabb.{Aabb}
+use Rattle.boxes.specs.declared.Vec3.{Vec3}
 use Rattle.cover.specs.declared.Side.{Side}
 use Rattle.cover.specs.declared.Side.the-variants.{North, East, South, West}
 use Rattle.window.specs.declared.Pos.{Pos}
@@ -21,11 +22,15 @@ use Rattle.ranges.specs.declared.Range.{Range}
 use Rattle.ranges.specs.Walk.{line, layer, walk}
 use Rattle.connect.specs.declared.Joined.{Joined}
 use Rattle.connect.specs.Connect.{connectsAs, joins, post, besideNeighbours, connectedState}
+use Rattle.moves.specs.Answers.{moveAabb}
 use Rattle.moves.specs.Collect.{connectedShape, shapeOf, cellShape, offer, offerAll, visit, push, hit, collectBlockBoxes, collidesWithBlocks}
 
 -- what a refusal's number can be
 pub record Refuses {A : Type 0} (P : ℕ → Type 0) (m : Ask A) : Type 0 where
   pub only : (n : ℕ) → m ≡ refused n → P n
+
+pub wider : {A : Type 0} {P Q : ℕ → Type 0} (m : Ask A) → ((n : ℕ) → P n → Q n) → Refuses P m → Refuses Q m
+wider m f h = record { only = λ n e. f n (h .only n e) }
 
 abbrev pub Five : ℕ → Type 0
 Five n = n ≡ 5
@@ -35,18 +40,18 @@ FiveOrSix n = (n ≡ 5) ⊎ (n ≡ 6)
 
 -- ---- found, chosen, asked one after the other, asked in a loop
 module _ {P : ℕ → Type 0} where
-  finds : {A : Type 0} (a : A) → Refuses P (found a)
+  pub finds : {A : Type 0} (a : A) → Refuses P (found a)
   finds a = record { only = λ n e. let z : _≡_ {A = ℕ} 0 1 = cc in absurd (omega arith) }
 
-  names : {A : Type 0} (k : ℕ) → P k → Refuses {A = A} P (refused k)
+  pub names : {A : Type 0} (k : ℕ) → P k → Refuses {A = A} P (refused k)
   names k p = record { only = λ n e. let q : k ≡ n = cc in rw q at p }
 
-  either : {A : Type 0} (t : Bool) (a b : Ask A) → Refuses P a → Refuses P b → Refuses P (choose t a b)
+  pub either : {A : Type 0} (t : Bool) (a b : Ask A) → Refuses P a → Refuses P b → Refuses P (choose t a b)
   unfolding choose
   either true a b h g = h
   either false a b h g = g
 
-  after : {A B : Type 0} (m : Ask A) (k : A → Ask B) → Refuses P m → ((a : A) → Refuses P (k a)) → Refuses P (m >>= k)
+  pub after : {A B : Type 0} (m : Ask A) (k : A → Ask B) → Refuses P m → ((a : A) → Refuses P (k a)) → Refuses P (m >>= k)
   after (refused j) k h g = names j (h .only j refl)
   after (found a) k h g = g a
 
@@ -62,9 +67,18 @@ module _ {P : ℕ → Type 0} where
   loops f h zero i s = finds (next s)
   loops f h (suc k) i s = on (f i s) (turning f k (i + 1)) (h i s) (loops f h k (i + 1))
 
-  walks : {S R : Type 0} (f : Pos → S → Ask (Turn S R)) (r : Range) → ((p : Pos) (s : S) → Refuses P (f p s)) → (s : S) → Refuses P (walk f r s)
+  pub walks : {S R : Type 0} (f : Pos → S → Ask (Turn S R)) (r : Range) → ((p : Pos) (s : S) → Refuses P (f p s)) → (s : S) → Refuses P (walk f r s)
   unfolding walk layer line
   walks f r h = loops (layer f r) (λ y. loops (line f r y) (λ x. loops _ (λ z. h _) (r .z .count) 0) (r .x .count) 0) (r .y .count) 0
+
+  pub asks : {S : Type 0} (f : ℕ → S → Ask S) → ((i : ℕ) (s : S) → Refuses P (f i s)) → (k i : ℕ) (s : S) → Refuses P (asking f k i s)
+  unfolding asking
+  asks f h zero i s = finds s
+  asks f h (suc k) i s = after (f i s) (asking f k (i + 1)) (h i s) (asks f h k (i + 1))
+
+  pub resumes : {S R : Type 0} (k : S → Ask R) → ((a : S) → Refuses P (k a)) → (t : Turn S R) → Refuses P (resume k t)
+  resumes k h (next a) = h a
+  resumes k h (done r) = finds r
 
 -- ---- look-ups and connections
 pub look-refuses : (cells : List ℕ) (w : Window) (p : Pos) → Refuses Five (lookAt cells w p)
@@ -111,7 +125,7 @@ module _ (look : Pos → Ask Block) (h : (p : Pos) → Refuses Five (look p)) (r
 
     visit-refuses : (p : Pos) (s : S) → Refuses P (visit accept area look records shapes p s)
     unfolding visit
-    visit-refuses p s = after (cellShape look records p) _ record { only = λ n e. five n (cell-refuses p .only n e) } (λ shape. offers-refuse _ s)
+    visit-refuses p s = after (cellShape look records p) _ (wider _ five (cell-refuses p)) (λ shape. offers-refuse _ s)
 
 push-refuses : (b : Aabb) (bs : List Aabb) → Refuses FiveOrSix (push b bs)
 push-refuses b bs = either _ _ _ (finds _) (names 6 (inr refl))
@@ -125,3 +139,7 @@ pub collides-refuses : (cells : List ℕ) (w : Window) (records : List ℕ) (sha
 unfolding collidesWithBlocks
 collides-refuses cells w records shapes area =
     after _ _ (walks _ _ (visit-refuses (lookAt cells w) (look-refuses cells w) records (λ n e. e) hit (λ b s. finds _) area shapes) false) (λ t. finds _)
+
+pub move-refuses : (cells : List ℕ) (w : Window) (records : List ℕ) (shapes : List Float) (aabb : Aabb) (delta : Vec3) (step : Float) (ground : Bool) → Refuses FiveOrSix (moveAabb (lookAt cells w) records shapes aabb delta step ground)
+unfolding moveAabb
+move-refuses cells w records shapes aabb delta step ground = after _ _ (collect-refuses cells w records shapes _) (λ bs. finds _)
