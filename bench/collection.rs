@@ -1,4 +1,4 @@
-//! Collection of block boxes: ours (the native static library of crates/exports) against the original Rust, whose text bench/original takes out
+//! Collection of block boxes: ours (the native static library of crates/timed) against the original Rust, whose text bench/original takes out
 //! of its files when the bench is built. Both look into the same window over the same tables, which were checked before; every answer is
 //! compared bit for bit first. What is handed back is the top of one box of the list, so that neither side can leave the list out.
 use std::hint::black_box;

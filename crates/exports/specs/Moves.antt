@@ -12,18 +12,19 @@ use Rattle.boxes.specs.declared.Vec3.{Vec3}
 use Rattle.boxes.specs.declared.Aabb.{Aabb}
 use Rattle.boxes.specs.declared.MoveResult.{MoveResult}
 use Rattle.boxes.specs.declared.MoveAnswer.{MoveAnswer}
-use Rattle.boxes.specs.Boxes.{vec, box}
+use Rattle.boxes.specs.Boxes.{box}
 use Rattle.boxes.specs.Lists.{room}
 use Rattle.boxes.specs.Move.{moveOver}
 use Rattle.boxes.specs.Limits.{areBoxes}
 use Rattle.boxes.specs.Entry.{refusalOf, answerOf}
 use Rattle.tables.specs.Tables.{floatAt}
 use Rattle.moves.specs.Collect.{one64}
+use Rattle.step.specs.Numbers.{vecFrom}
 
 -- ---- reading: a number that is not there is +0
 
 abbrev pub vecAt : List Float → ℕ → Vec3
-vecAt numbers i = vec (floatAt numbers i) (floatAt numbers (i + 1)) (floatAt numbers (i + 2))
+vecAt numbers i = vecFrom (floatAt numbers) i
 
 -- min x y z, max x y z
 abbrev pub aabbAt : List Float → ℕ → Aabb

@@ -20,7 +20,8 @@ use Rattle.step.specs.declared.BodyNumbers.{BodyNumbers}
 use Rattle.step.specs.declared.Rules.{Rules}
 use Rattle.step.specs.declared.MotionNumbers.{MotionNumbers}
 use Rattle.step.specs.declared.StepAnswer.{StepAnswer}
-use Rattle.exports.specs.Moves.{vecAt, flagOf}
+use Rattle.step.specs.Numbers.{motionFrom, bodyFrom, rulesFrom}
+use Rattle.exports.specs.Moves.{flagOf}
 
 -- ---- currents
 
@@ -44,41 +45,16 @@ abbrev pub currentWritten : List Float → Ask Current → List Float
 currentWritten out (refused n) = out
 currentWritten out (found c) = stored out 0 (currentNumbers c)
 
--- ---- the step: a body in the order of a scene file's first block, 19 numbers and 6 words; what is not there is +0, or 0
+-- ---- the step: a body in the order of a scene file, 19 numbers and 6 words; what is not there is +0, or 0
 
--- feet, velocity; ground
 abbrev pub motionAt : List Float → List ℕ → MotionNumbers
-motionAt numbers words = record { feet = vecAt numbers 0; velocity = vecAt numbers 3; ground = wordAt words 0 0 }
+motionAt numbers words = motionFrom (floatAt numbers) (wordAt words 0)
 
--- width, height, offset, gravity, vertical and horizontal drag, flap, step height; model, stage, ground friction, flap present
 abbrev pub bodyAt : List Float → List ℕ → BodyNumbers
-bodyAt numbers words =
-    record {
-      width = floatAt numbers 6;
-      height = floatAt numbers 7;
-      offset = floatAt numbers 8;
-      gravity = floatAt numbers 9;
-      vertical = floatAt numbers 10;
-      horizontal = floatAt numbers 11;
-      step = floatAt numbers 13;
-      flap = floatAt numbers 12;
-      flaps = wordAt words 0 4;
-      model = wordAt words 0 1;
-      stage = wordAt words 0 2;
-      friction = wordAt words 0 3;
-    }
+bodyAt numbers words = bodyFrom (floatAt numbers) (wordAt words 0)
 
--- default friction, sample depth, liquid gravity, water drag, lava drag; air state
 abbrev pub rulesAt : List Float → List ℕ → Rules
-rulesAt numbers words =
-    record {
-      friction = floatAt numbers 14;
-      depth = floatAt numbers 15;
-      gravity = floatAt numbers 16;
-      water = floatAt numbers 17;
-      lava = floatAt numbers 18;
-      air = wordAt words 0 5;
-    }
+rulesAt numbers words = rulesFrom (floatAt numbers) (wordAt words 0)
 
 -- feet, velocity, ground, and the liquid: 0 none, 1 water, 2 lava; eight numbers
 abbrev pub stepNumbers : StepAnswer → List Float

@@ -7,7 +7,6 @@ mod tick;
 pub use drift::boltjuniper_item_current;
 pub use over::boltjuniper_move_over;
 pub use over::boltjuniper_move_over_list;
-pub use through::boltjuniper_collected_top;
 pub use through::boltjuniper_move;
 pub use tick::boltjuniper_step;
 pub use tick::boltjuniper_step_checked;

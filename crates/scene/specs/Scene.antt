@@ -10,7 +10,6 @@ use Rattle.base.specs.Choose.{choose}
 use Rattle.base.specs.Loop.{listed}
 use Rattle.base.specs.Ask.{Ask, refused, found}
 use Rattle.floats.specs.Numbers.{zero64}
-use Rattle.boxes.specs.declared.Vec3.{Vec3}
 use Rattle.boxes.specs.Boxes.{vec}
 use Rattle.tables.specs.declared.LiquidKind.the-variants.{None}
 use Rattle.window.specs.declared.Sizes.{Sizes}
@@ -20,6 +19,7 @@ use Rattle.step.specs.declared.BodyNumbers.{BodyNumbers}
 use Rattle.step.specs.declared.MotionNumbers.{MotionNumbers}
 use Rattle.step.specs.declared.Rules.{Rules}
 use Rattle.step.specs.declared.StepAnswer.{StepAnswer}
+use Rattle.step.specs.Numbers.{motionFrom, bodyFrom, rulesFrom}
 use Rattle.step.specs.Answers.{stepEntry}
 use Rattle.blocks.specs.declared.Part.{Part}
 use Rattle.scene.specs.declared.Counts.{Counts}
@@ -40,43 +40,18 @@ joined low high = low + high * 4294967296
 unfoldable pub bodyFloat : List ℕ → ℕ → Float
 bodyFloat file k = ofBits binary64 (joined (bodyWord file (k * 2)) (bodyWord file (k * 2 + 1)))
 
-unfoldable pub bodyVec : List ℕ → ℕ → Vec3
-bodyVec file k = vec (bodyFloat file k) (bodyFloat file (k + 1)) (bodyFloat file (k + 2))
+-- word k of those behind the numbers and the age
+abbrev pub lateWord : List ℕ → ℕ → ℕ
+lateWord file k = bodyWord file (40 + k)
 
--- "position, velocity", and the word "ground"
 unfoldable pub givenIn : List ℕ → MotionNumbers
-givenIn file = record { feet = bodyVec file 0; velocity = bodyVec file 3; ground = bodyWord file 40 }
+givenIn file = motionFrom (bodyFloat file) (lateWord file)
 
--- "width, height, network offset, gravity, vertical drag, horizontal drag, flap, step height", and the words "model, stage, ground friction,
--- flap present"
 unfoldable pub bodyIn : List ℕ → BodyNumbers
-bodyIn file =
-    record {
-      width = bodyFloat file 6;
-      height = bodyFloat file 7;
-      offset = bodyFloat file 8;
-      gravity = bodyFloat file 9;
-      vertical = bodyFloat file 10;
-      horizontal = bodyFloat file 11;
-      step = bodyFloat file 13;
-      flap = bodyFloat file 12;
-      flaps = bodyWord file 44;
-      model = bodyWord file 41;
-      stage = bodyWord file 42;
-      friction = bodyWord file 43;
-    }
+bodyIn file = bodyFrom (bodyFloat file) (lateWord file)
 
--- "default friction, sample depth, liquid gravity, water drag, lava drag", and the word "air state"
 unfoldable pub rulesIn : List ℕ → Rules
-rulesIn file =
-    record {
-      friction = bodyFloat file 14;
-      depth = bodyFloat file 15;
-      gravity = bodyFloat file 16;
-      water = bodyFloat file 17;
-      lava = bodyFloat file 18;
-      air = bodyWord file 45;
-    }
+rulesIn file = rulesFrom (bodyFloat file) (lateWord file)
 
 -- "age (low, high)"
 unfoldable pub ageIn : List ℕ → ℕ

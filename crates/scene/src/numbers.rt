@@ -16,7 +16,8 @@ ghost use mathlib.Core.Path.{_≡_};
 ghost use Rattle.base.specs.Choose.{choose};
 ghost use Rattle.base.specs.Ask.{refused, found};
 ghost use Rattle.window.specs.Window.{sizesFit};
-ghost use Rattle.scene.specs.Scene.{bodyWord, joined, bodyFloat, bodyVec, givenIn, bodyIn, rulesIn, ageIn, flapFits, signedOf, windowIn, countsFit, countsOf, countsAsked};
+ghost use Rattle.step.specs.Numbers.{vecFrom};
+ghost use Rattle.scene.specs.Scene.{bodyWord, joined, bodyFloat, givenIn, bodyIn, rulesIn, ageIn, flapFits, signedOf, windowIn, countsFit, countsOf, countsAsked};
 
 // Payload word i of the body.
 fn body_word(file: &[u8], i: u32) -> u32
@@ -43,7 +44,7 @@ fn body_float(file: &[u8], k: u8) -> f64
 }
 
 fn position(file: &[u8]) -> Vec3
-    ensures { λ r. ⌜ r ≡ bodyVec (now (file .entry)) 0 ⌝ }
+    ensures { λ r. ⌜ r ≡ vecFrom (bodyFloat (now (file .entry))) 0 ⌝ }
 {
     let x = body_float(file, 0);
     let y = body_float(file, 1);
@@ -52,7 +53,7 @@ fn position(file: &[u8]) -> Vec3
 }
 
 fn velocity(file: &[u8]) -> Vec3
-    ensures { λ r. ⌜ r ≡ bodyVec (now (file .entry)) 3 ⌝ }
+    ensures { λ r. ⌜ r ≡ vecFrom (bodyFloat (now (file .entry))) 3 ⌝ }
 {
     let x = body_float(file, 3);
     let y = body_float(file, 4);

@@ -1,5 +1,4 @@
 -- `scene::numbers::position` meets its contract. Assumes nothing.
-use Rattle.scene.specs.Scene.{bodyVec}
 use borrow.Author.Needs.{needs}
 use Rattle.scene.proofs.numbers.position.Statement.{statement}
 use Rattle.scene.proofs.numbers.position.Tie as tie
@@ -14,7 +13,6 @@ body-float-requires-3 : tie.Need-body-float-requires-3
 body-float-requires-3 c κs = search needs
 
 returns : tie.Need-returns
-unfolding bodyVec
 returns c = rw (← c .before .before .body-float .ensures, ← c .before .body-float2 .ensures, ← c .body-float3 .ensures)
 
 pub position-spec : {M : Type 1} → statement M

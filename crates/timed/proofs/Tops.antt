@@ -13,7 +13,7 @@ use Rattle.boxes.specs.declared.Aabb.{Aabb}
 use Rattle.boxes.specs.declared.Collected.{Collected}
 use Rattle.boxes.specs.Lists.{Held, heldIn, listOf, noBox}
 use Rattle.moves.specs.Answers.{heldAsked}
-use Rattle.exports.specs.Windows.{topOf}
+use Rattle.timed.specs.Tops.{topOf}
 
 -- inside a list the default does not matter
 inside : {A : Type 0} (l : List A) (i : ℕ) (d e : A) → i < length l → getD l i d ≡ getD l i e

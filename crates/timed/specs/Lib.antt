@@ -1,0 +1,2 @@
+-- The definition of what is timed alone.
+pub mod Tops
