@@ -2,3 +2,4 @@
 pub mod Scenes
 pub mod Signs
 pub mod Pieces
+pub mod Refusals

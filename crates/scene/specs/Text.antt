@@ -58,7 +58,7 @@ linesOf a =
     ∷ bytes "ground " ∷ (groundDigit (a .motion .ground) ∷ []) ∷ newline
     ∷ bytes "liquid " ∷ liquidText (a .liquid) ∷ newline ∷ [])
 
--- "or `refused N`": a refusal's number has one digit
+-- "or `refused N`": the number of a file's refusal has one digit (`one-digit`)
 unfoldable pub refusedText : ℕ → List ℕ
 refusedText n = joinedText (bytes "refused " ∷ ((48 + n % 10) ∷ []) ∷ newline ∷ [])
 

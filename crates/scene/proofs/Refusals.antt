@@ -1,0 +1,33 @@
+-- What a file's tick can be refused by: 1 to 9, so that a refusal is written whole. Assumes nothing.
+use mathlib.Core.Path.{_≡_, refl}
+use mathlib.Core.Bool.{Bool, true, false}
+use mathlib.Core.Logic.{_⊎_, inl, inr}
+use mathlib.Core.List.{List}
+use Prim.Native.Nat.{ℕ, _≤_, _%_}
+use native.Mathlib.Omega.{arith}
+use Rattle.base.specs.Choose.{choose}
+use Rattle.step.specs.declared.StepAnswer.{StepAnswer}
+use Rattle.step.proofs.Refuses.{Named, step-refusal}
+use Rattle.scene.specs.declared.Counts.{Counts}
+use Rattle.scene.specs.Scene.{isScene, countsOf, malformed, stepIn, tickOf}
+
+within : (n : ℕ) → (n ≡ 0) ⊎ Named n → n ≤ 9
+within n (inl e) = omega arith
+within n (inr k) = omega arith
+
+step-within : (file : List ℕ) (n : Counts) → stepIn file n .refusal ≤ 9
+unfolding stepIn
+step-within file n = within _ (step-refusal _ _ _ _ _ _ _ _)
+
+chosen : (t : Bool) (a : StepAnswer) → a .refusal ≤ 9 → choose t a malformed .refusal ≤ 9
+unfolding choose
+chosen true a h = h
+chosen false a h = omega arith
+
+pub tick-within : (file : List ℕ) → tickOf file .refusal ≤ 9
+unfolding tickOf
+tick-within file = chosen (isScene file) (stepIn file (countsOf file)) (step-within file (countsOf file))
+
+-- the digit that is written is the number
+pub one-digit : (file : List ℕ) → tickOf file .refusal % 10 ≡ tickOf file .refusal
+one-digit file = let h = tick-within file in omega arith
