@@ -12,7 +12,6 @@ use Rattle.tables.specs.declared.LiquidKind.{LiquidKind}
 use Rattle.tables.specs.declared.LiquidKind.the-variants.{None, Water, Lava}
 use Rattle.idents.specs.Bytes.{bytes}
 use Rattle.step.specs.declared.StepAnswer.{StepAnswer}
-use Rattle.scene.specs.Scene.{tickOf}
 
 -- a newline
 abbrev pub newline : List ℕ
