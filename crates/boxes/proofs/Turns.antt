@@ -28,12 +28,15 @@ module _ (l : BoxList) (whole : length (l .boxes) ≡ room) (n i : ℕ) (counts 
   unfolding clipAll
   clip-end d w h inv = rw (past-boxes l whole n i counts h) at inv
 
--- a pass whose boxes were gone through, step by step as the code makes it
-pub made : (l : BoxList) → length (l .boxes) ≡ room → (n i : ℕ) → n ≡ min (l .count) room → (q : Request) (pass : ℕ) (s t : Sweep) (got : Swept) (axis : ℕ) (d e : Float) → axis ≡ axisOf pass → d ≡ wantedOf pass axis q (s .now) → n ≤ i → clipAll (clipAlong axis) (drop i (listOf l)) (s .now .aabb) e ≡ clipAll (clipAlong axis) (listOf l) (s .now .aabb) d → got ≡ goneOf pass axis (s .now) e → t ≡ nextOf pass q (s .first) got → t ≡ passOf pass (listOf l) q s
+-- a pass, step by step as the code makes it
+pub pass-is : (boxes : List Aabb) (q : Request) (pass : ℕ) (s t : Sweep) (got : Swept) (axis : ℕ) (d e : Float) → axis ≡ axisOf pass → d ≡ wantedOf pass axis q (s .now) → e ≡ clipAll (clipAlong axis) boxes (s .now .aabb) d → got ≡ goneOf pass axis (s .now) e → t ≡ nextOf pass q (s .first) got → t ≡ passOf pass boxes q s
 unfolding passOf
+pass-is boxes q pass s t got axis d e ea ed ee eg et = rw (et, eg, ee, ed, ea)
+
+-- the same of a list whose boxes were gone through
+pub made : (l : BoxList) → length (l .boxes) ≡ room → (n i : ℕ) → n ≡ min (l .count) room → (q : Request) (pass : ℕ) (s t : Sweep) (got : Swept) (axis : ℕ) (d e : Float) → axis ≡ axisOf pass → d ≡ wantedOf pass axis q (s .now) → n ≤ i → clipAll (clipAlong axis) (drop i (listOf l)) (s .now .aabb) e ≡ clipAll (clipAlong axis) (listOf l) (s .now .aabb) d → got ≡ goneOf pass axis (s .now) e → t ≡ nextOf pass q (s .first) got → t ≡ passOf pass (listOf l) q s
 made l whole n i counts q pass s t got axis d e ea ed h inv eg et =
-    let ee : e ≡ clipAll (clipAlong axis) (listOf l) (s .now .aabb) d = clip-end l whole n i counts (clipAlong axis) (s .now .aabb) e _ h inv in
-    rw (et, eg, ee, ed, ea)
+    pass-is (listOf l) q pass s t got axis d e ea ed (clip-end l whole n i counts (clipAlong axis) (s .now .aabb) e _ h inv) eg et
 
 module _ (boxes : List Aabb) (q : Request) (pass : ℕ) (s t : Sweep) where
   module _ (w : Sweep) (is : t ≡ passOf pass boxes q s) where

@@ -86,7 +86,7 @@ fn are_boxes(list: BoxList) -> bool
 }
 
 // 3, then 4, then 6; sound says whether the list's boxes are boxes.
-fn refusal_of(aabb: Aabb, delta: Vec3, step: f64, sound: bool, count: usize) -> u32
+pub fn refusal_of(aabb: Aabb, delta: Vec3, step: f64, sound: bool, count: usize) -> u32
     ensures { λ r. ⌜ r ≡ refusalOf aabb delta step sound count ⌝ }
 {
     if is_step(step) {

@@ -9,6 +9,7 @@ pub use entry::is_box;
 pub use entry::is_delta;
 pub use entry::is_step;
 pub use entry::move_over_list;
+pub use entry::refusal_of;
 pub use passes::axis_of;
 pub use passes::begun;
 pub use passes::clip_along;

@@ -10,6 +10,7 @@ use Rattle.base.specs.Loop.{listed, stored}
 use Rattle.floats.specs.Numbers.{zero64}
 use Rattle.boxes.specs.declared.Vec3.{Vec3}
 use Rattle.boxes.specs.declared.Aabb.{Aabb}
+use Rattle.boxes.specs.declared.Request.{Request}
 use Rattle.boxes.specs.declared.MoveResult.{MoveResult}
 use Rattle.boxes.specs.declared.MoveAnswer.{MoveAnswer}
 use Rattle.boxes.specs.Boxes.{box}
@@ -44,21 +45,29 @@ firstOf numbers = listed (boxOf numbers) (min (countOf numbers) room) 0
 
 -- ---- the move
 
--- mover: the box that moves, and its delta, nine numbers. More than 128 boxes: 6.
+-- mover: the box that moves, and its delta, nine numbers
+abbrev pub requestOf : List Float → Float → ℕ → Request
+requestOf mover step ground = record { aabb = aabbAt mover 0; delta = vecAt mover 6; step = step; ground = not (eqb ground 0) }
+
+-- more than 128 boxes: 6
 unfoldable pub moveOf : List Float → List Float → Float → ℕ → MoveAnswer
 moveOf boxes mover step ground =
+    let q : Request = requestOf mover step ground in
     answerOf
     (choose (ltb room (countOf boxes)) 6 0)
-    (moveOver (listed (boxOf boxes) (countOf boxes) 0) (aabbAt mover 0) (vecAt mover 6) step (not (eqb ground 0)))
-    (aabbAt mover 0)
+    (moveOver (listed (boxOf boxes) (countOf boxes) 0) (q .aabb) (q .delta) (q .step) (q .ground))
+    (q .aabb)
 
 -- move_over_list: 3, then 4, then 6, or the move; of more than 128 boxes the first 128 are looked at for 4
-unfoldable pub moveListOf : List Float → List Float → Float → ℕ → MoveAnswer
-moveListOf boxes mover step ground =
+unfoldable pub answerFor : List Float → Request → MoveAnswer
+answerFor boxes q =
     answerOf
-    (refusalOf (aabbAt mover 0) (vecAt mover 6) step (areBoxes (firstOf boxes)) (countOf boxes))
-    (moveOver (firstOf boxes) (aabbAt mover 0) (vecAt mover 6) step (not (eqb ground 0)))
-    (aabbAt mover 0)
+    (refusalOf (q .aabb) (q .delta) (q .step) (areBoxes (firstOf boxes)) (countOf boxes))
+    (moveOver (firstOf boxes) (q .aabb) (q .delta) (q .step) (q .ground))
+    (q .aabb)
+
+abbrev pub moveListOf : List Float → List Float → Float → ℕ → MoveAnswer
+moveListOf boxes mover step ground = answerFor boxes (requestOf mover step ground)
 
 -- ---- writing
 
