@@ -1,8 +1,8 @@
--- Boxes that are lent: read with one test, and gone through where they lie. w is what the whole comes to. Assumes nothing.
+-- Boxes that are lent: they are gone through where they lie. w is what the whole comes to. Assumes nothing.
 use mathlib.Core.Path.{_≡_, ap, _∙_}
 use mathlib.Core.Bool.{Bool, true, false}
 use mathlib.Core.List.{List, [], _∷_}
-use Prim.Native.Nat.{ℕ, suc, _+_, _-_, _≤_, _<_}
+use Prim.Native.Nat.{ℕ, suc, _+_, _-_, _*_, _≤_, _<_, min}
 use native.Mathlib.Omega.{arith}
 use lib.ListN.{length, getD}
 use lib.Ieee.{Float}
@@ -13,7 +13,12 @@ use Rattle.boxes.specs.Boxes.{vec, box}
 use Rattle.boxes.specs.Limits.{isBox, areBoxes}
 use Rattle.boxes.specs.Move.{clipAll}
 use Rattle.tables.proofs.Lists.{getD-any}
-use Rattle.exports.specs.Moves.{aabbAt}
+use Rattle.boxes.specs.Lists.{room}
+use Rattle.exports.specs.Moves.{aabbAt, countOf}
+
+-- all six numbers of a box are there
+pub there : (l : List Float) (n i : ℕ) → n ≡ min (countOf l) room → i < n → i * 6 + 5 < length l
+there l n i e h = omega arith
 
 pub whole-box : (l : List Float) (i : ℕ) (d : Float) → i + 5 < length l
     → box (vec (getD l i d) (getD l (i + 1) d) (getD l (i + 2) d)) (vec (getD l (i + 3) d) (getD l (i + 4) d) (getD l (i + 5) d)) ≡ aabbAt l i

@@ -31,25 +31,9 @@ pub(crate) fn vec_at(numbers: &[f64], i: u32) -> Vec3
     Vec3 { x, y, z }
 }
 
-// Read with one test where all six are there.
 pub(crate) fn aabb_at(numbers: &[f64], i: u16) -> Aabb
     ensures { λ r. ⌜ r ≡ aabbAt (now (numbers .entry)) i ⌝ }
 {
-    let at = i as usize;
-    if at + 5 < numbers.len() {
-        return Aabb {
-            min: Vec3 {
-                x: numbers[at],
-                y: numbers[at + 1],
-                z: numbers[at + 2],
-            },
-            max: Vec3 {
-                x: numbers[at + 3],
-                y: numbers[at + 4],
-                z: numbers[at + 5],
-            },
-        };
-    }
     let k = i as u32;
     let min = vec_at(numbers, k);
     let max = vec_at(numbers, k + 3);
@@ -95,7 +79,19 @@ fn moved_over(numbers: &[f64], q: Request) -> MoveResult
         let mut d = boxes::wanted(pass, axis, q, now);
         let mut i = 0usize;
         while i < n {
-            let b = aabb_at(numbers, (i * 6) as u16);
+            let at = i * 6;
+            let b = Aabb {
+                min: Vec3 {
+                    x: numbers[at],
+                    y: numbers[at + 1],
+                    z: numbers[at + 2],
+                },
+                max: Vec3 {
+                    x: numbers[at + 3],
+                    y: numbers[at + 4],
+                    z: numbers[at + 5],
+                },
+            };
             d = boxes::clip_along(axis, b, mover, d);
             i += 1;
         }

@@ -10,7 +10,7 @@ use Rattle.boxes.specs.Passes.{clipAlong, passesFrom, sweepOf}
 use Rattle.boxes.proofs.Shape.{moves}
 use Rattle.boxes.proofs.Turns.{pass-is, pass-on, pass-over, passes-end}
 use Rattle.exports.specs.Moves.{boxOf, firstOf}
-use Rattle.exports.proofs.Lent.{clip-turn, clip-end}
+use Rattle.exports.proofs.Lent.{there, whole-box, clip-turn, clip-end}
 use Rattle.exports.proofs.over.moved_over.Statement.{statement}
 use Rattle.exports.proofs.over.moved_over.Tie as tie
 
@@ -44,14 +44,59 @@ wanted-requires c κs = search needs
 loop2-holds : tie.Need-loop2-holds Inv-loop2 μ-loop2 Inv-loop μ-loop
 loop2-holds c = ap (λ (k : ℕ). clipAll (clipAlong (c .before .before .before .axis-of .result)) (listed (boxOf (c .before .before .before .before .before .before .before .before .before .args .numbers .now)) k 0) (c .before .before .before .before .before .loop .s .now .aabb) (c .wanted .result)) (sub-zero _ ∙ c .before .before .before .before .before .before .before .looked-at .ensures)
 
-mul-aabb-at : tie.Need-mul-aabb-at Inv-loop2 μ-loop2 Inv-loop μ-loop
-mul-aabb-at c = let e = c .before .before .before .before .before .before .before .before .before .looked-at .ensures in omega arith
+mul-at : tie.Need-mul-at Inv-loop2 μ-loop2 Inv-loop μ-loop
+mul-at c = let t = there (c .before .before .before .before .before .before .before .before .before .before .before .args .numbers .now) _ _ (c .before .before .before .before .before .before .before .before .before .looked-at .ensures) (c .loop2-test .taken) in search needs
 
-cast-aabb-at : tie.Need-cast-aabb-at Inv-loop2 μ-loop2 Inv-loop μ-loop
-cast-aabb-at c = let e = c .before .before .before .before .before .before .before .before .before .looked-at .ensures in omega arith
+mul-t16 : tie.Need-mul-t16 Inv-loop2 μ-loop2 Inv-loop μ-loop
+mul-t16 c = let t = there (c .before .before .before .before .before .before .before .before .before .before .before .args .numbers .now) _ _ (c .before .before .before .before .before .before .before .before .before .looked-at .ensures) (c .loop2-test .taken) in search needs
 
-aabb-at-requires : tie.Need-aabb-at-requires Inv-loop2 μ-loop2 Inv-loop μ-loop
-aabb-at-requires c κs = search needs
+shared-slice-read-t18 : tie.Need-shared-slice-read-t18 Inv-loop2 μ-loop2 Inv-loop μ-loop
+shared-slice-read-t18 c = let t = there (c .before .before .before .before .before .before .before .before .before .before .before .before .args .numbers .now) _ _ (c .before .before .before .before .before .before .before .before .before .before .looked-at .ensures) (c .before .loop2-test .taken) in search needs
+
+add-t19 : tie.Need-add-t19 Inv-loop2 μ-loop2 Inv-loop μ-loop
+add-t19 c = let t = there (c .before .before .before .before .before .before .before .before .before .before .before .before .args .numbers .now) _ _ (c .before .before .before .before .before .before .before .before .before .before .looked-at .ensures) (c .before .loop2-test .taken) in search needs
+
+mul-t20 : tie.Need-mul-t20 Inv-loop2 μ-loop2 Inv-loop μ-loop
+mul-t20 c = let t = there (c .before .before .before .before .before .before .before .before .before .before .before .before .args .numbers .now) _ _ (c .before .before .before .before .before .before .before .before .before .before .looked-at .ensures) (c .before .loop2-test .taken) in search needs
+
+shared-slice-read-t22 : tie.Need-shared-slice-read-t22 Inv-loop2 μ-loop2 Inv-loop μ-loop
+shared-slice-read-t22 c = let t = there (c .before .before .before .before .before .before .before .before .before .before .before .before .before .args .numbers .now) _ _ (c .before .before .before .before .before .before .before .before .before .before .before .looked-at .ensures) (c .before .before .loop2-test .taken) in search needs
+
+add-t23 : tie.Need-add-t23 Inv-loop2 μ-loop2 Inv-loop μ-loop
+add-t23 c = let t = there (c .before .before .before .before .before .before .before .before .before .before .before .before .before .args .numbers .now) _ _ (c .before .before .before .before .before .before .before .before .before .before .before .looked-at .ensures) (c .before .before .loop2-test .taken) in search needs
+
+mul-t24 : tie.Need-mul-t24 Inv-loop2 μ-loop2 Inv-loop μ-loop
+mul-t24 c = let t = there (c .before .before .before .before .before .before .before .before .before .before .before .before .before .args .numbers .now) _ _ (c .before .before .before .before .before .before .before .before .before .before .before .looked-at .ensures) (c .before .before .loop2-test .taken) in search needs
+
+shared-slice-read-t26 : tie.Need-shared-slice-read-t26 Inv-loop2 μ-loop2 Inv-loop μ-loop
+shared-slice-read-t26 c = let t = there (c .before .before .before .before .before .before .before .before .before .before .before .before .before .before .args .numbers .now) _ _ (c .before .before .before .before .before .before .before .before .before .before .before .before .looked-at .ensures) (c .before .before .before .loop2-test .taken) in search needs
+
+add-t28 : tie.Need-add-t28 Inv-loop2 μ-loop2 Inv-loop μ-loop
+add-t28 c = let t = there (c .before .before .before .before .before .before .before .before .before .before .before .before .before .before .args .numbers .now) _ _ (c .before .before .before .before .before .before .before .before .before .before .before .before .looked-at .ensures) (c .before .before .before .loop2-test .taken) in search needs
+
+mul-t29 : tie.Need-mul-t29 Inv-loop2 μ-loop2 Inv-loop μ-loop
+mul-t29 c = let t = there (c .before .before .before .before .before .before .before .before .before .before .before .before .before .before .args .numbers .now) _ _ (c .before .before .before .before .before .before .before .before .before .before .before .before .looked-at .ensures) (c .before .before .before .loop2-test .taken) in search needs
+
+shared-slice-read-t31 : tie.Need-shared-slice-read-t31 Inv-loop2 μ-loop2 Inv-loop μ-loop
+shared-slice-read-t31 c = let t = there (c .before .before .before .before .before .before .before .before .before .before .before .before .before .before .before .args .numbers .now) _ _ (c .before .before .before .before .before .before .before .before .before .before .before .before .before .looked-at .ensures) (c .before .before .before .before .loop2-test .taken) in search needs
+
+add-t32 : tie.Need-add-t32 Inv-loop2 μ-loop2 Inv-loop μ-loop
+add-t32 c = let t = there (c .before .before .before .before .before .before .before .before .before .before .before .before .before .before .before .args .numbers .now) _ _ (c .before .before .before .before .before .before .before .before .before .before .before .before .before .looked-at .ensures) (c .before .before .before .before .loop2-test .taken) in search needs
+
+mul-t33 : tie.Need-mul-t33 Inv-loop2 μ-loop2 Inv-loop μ-loop
+mul-t33 c = let t = there (c .before .before .before .before .before .before .before .before .before .before .before .before .before .before .before .args .numbers .now) _ _ (c .before .before .before .before .before .before .before .before .before .before .before .before .before .looked-at .ensures) (c .before .before .before .before .loop2-test .taken) in search needs
+
+shared-slice-read-t35 : tie.Need-shared-slice-read-t35 Inv-loop2 μ-loop2 Inv-loop μ-loop
+shared-slice-read-t35 c = let t = there (c .before .before .before .before .before .before .before .before .before .before .before .before .before .before .before .before .args .numbers .now) _ _ (c .before .before .before .before .before .before .before .before .before .before .before .before .before .before .looked-at .ensures) (c .before .before .before .before .before .loop2-test .taken) in search needs
+
+add-t36 : tie.Need-add-t36 Inv-loop2 μ-loop2 Inv-loop μ-loop
+add-t36 c = let t = there (c .before .before .before .before .before .before .before .before .before .before .before .before .before .before .before .before .args .numbers .now) _ _ (c .before .before .before .before .before .before .before .before .before .before .before .before .before .before .looked-at .ensures) (c .before .before .before .before .before .loop2-test .taken) in search needs
+
+mul-t37 : tie.Need-mul-t37 Inv-loop2 μ-loop2 Inv-loop μ-loop
+mul-t37 c = let t = there (c .before .before .before .before .before .before .before .before .before .before .before .before .before .before .before .before .args .numbers .now) _ _ (c .before .before .before .before .before .before .before .before .before .before .before .before .before .before .looked-at .ensures) (c .before .before .before .before .before .loop2-test .taken) in search needs
+
+shared-slice-read-t39 : tie.Need-shared-slice-read-t39 Inv-loop2 μ-loop2 Inv-loop μ-loop
+shared-slice-read-t39 c = let t = there (c .before .before .before .before .before .before .before .before .before .before .before .before .before .before .before .before .before .args .numbers .now) _ _ (c .before .before .before .before .before .before .before .before .before .before .before .before .before .before .before .looked-at .ensures) (c .before .before .before .before .before .before .loop2-test .taken) in search needs
 
 clip-along-requires : tie.Need-clip-along-requires Inv-loop2 μ-loop2 Inv-loop μ-loop
 clip-along-requires c κs = search needs
@@ -63,7 +108,7 @@ loop2-less : tie.Need-loop2-less Inv-loop2 μ-loop2 Inv-loop μ-loop
 loop2-less c = omega arith
 
 loop2-again : tie.Need-loop2-again Inv-loop2 μ-loop2 Inv-loop μ-loop
-loop2-again c = clip-turn (boxOf (c .before .before .before .before .before .before .before .before .before .before .before .before .before .args .numbers .now)) _ (c .before .before .before .loop2 .i) (clipAlong (c .before .before .before .before .before .before .before .axis-of .result)) (c .before .before .before .before .before .before .before .before .before .loop .s .now .aabb) _ (c .before .before .before .loop2 .d) _ _ (c .before .before .loop2-test .taken) (c .before .aabb-at .ensures) (c .clip-along .ensures) (c .before .before .before .loop2 .inv)
+loop2-again c = clip-turn (boxOf (c .before .before .before .before .before .before .before .before .before .before .before .before .before .before .before .before .before .before .args .numbers .now)) _ (c .before .before .before .before .before .before .before .before .loop2 .i) (clipAlong (c .before .before .before .before .before .before .before .before .before .before .before .before .axis-of .result)) (c .before .before .before .before .before .before .before .before .before .before .before .before .before .before .loop .s .now .aabb) _ (c .before .before .before .before .before .before .before .before .loop2 .d) _ _ (c .before .before .before .before .before .before .before .loop2-test .taken) (whole-box (c .before .before .before .before .before .before .before .before .before .before .before .before .before .before .before .before .before .before .args .numbers .now) _ _ (there (c .before .before .before .before .before .before .before .before .before .before .before .before .before .before .before .before .before .before .args .numbers .now) _ _ (c .before .before .before .before .before .before .before .before .before .before .before .before .before .before .before .before .looked-at .ensures) (c .before .before .before .before .before .before .before .loop2-test .taken))) (c .clip-along .ensures) (c .before .before .before .before .before .before .before .before .loop2 .inv)
 
 gone-requires : tie.Need-gone-requires Inv-loop2 μ-loop2 Inv-loop μ-loop
 gone-requires c κs = search needs
@@ -106,9 +151,24 @@ moved-over-spec =
     axis-of-requires
     wanted-requires
     loop2-holds
-    mul-aabb-at
-    cast-aabb-at
-    aabb-at-requires
+    mul-at
+    mul-t16
+    shared-slice-read-t18
+    add-t19
+    mul-t20
+    shared-slice-read-t22
+    add-t23
+    mul-t24
+    shared-slice-read-t26
+    add-t28
+    mul-t29
+    shared-slice-read-t31
+    add-t32
+    mul-t33
+    shared-slice-read-t35
+    add-t36
+    mul-t37
+    shared-slice-read-t39
     clip-along-requires
     add-i
     loop2-less
