@@ -1,5 +1,6 @@
 // The move over a list. All passes of a move stand in one loop of one function: a list goes by value, and each call that takes it
-// may copy it. What a pass is made of is public, for whoever holds a list of his own and makes the passes where it lies.
+// may copy it. What a pass is made of is public: the move through a window and the move over lent boxes
+// make their passes where their boxes lie.
 use crate::Aabb;
 use crate::BoxList;
 use crate::MoveResult;
