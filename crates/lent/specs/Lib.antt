@@ -1,0 +1,2 @@
+-- The check of lent data, which every entry makes first.
+pub mod Lent

@@ -1,0 +1,15 @@
+// The check of lent tables and of a lent window, which every entry makes before any other.
+use window::Window;
+ghost use mathlib.Core.Path.{_≡_};
+ghost use Rattle.lent.specs.Lent.{lentRefusal};
+
+// 0; 1 where the tables break a rule; else 2 where the window does.
+pub fn check_lent(records: &[u32], shapes: &[f32], cells: &[u32], w: Window) -> u32
+    ensures { λ r. ⌜ r ≡ lentRefusal (now (records .entry)) (now (shapes .entry)) (now (cells .entry)) w ⌝ }
+{
+    let tables = tables::check_tables(records, shapes);
+    if tables == 0 {
+        return window::check_window(cells, w);
+    }
+    tables
+}
