@@ -5,9 +5,12 @@ use lib.Ieee.{Float, nan, inf, fin, binary64, ofBits, lt, le}
 use Rattle.base.specs.Choose.{choose}
 use Rattle.floats.specs.declared.Answer.{Answer}
 
--- +0
+-- +0 and 1
 abbrev pub zero64 : Float
 zero64 = ofBits binary64 0
+
+abbrev pub one64 : Float
+one64 = ofBits binary64 4607182418800017408
 
 -- neither a NaN nor an infinity
 abbrev pub isFinite : Float → Bool
