@@ -162,7 +162,7 @@ under n j m (suc a) k h lo l g =
 -- ---- the result
 
 -- v is the nearest root of x = fin false (suc m) e, which is U units, where v is q * 2 ^ k units
-module _ (m : ℕ) (e : ℤ) (U : ℕ) (units : suc m * up e * 2 ^ 1074 ≡ U * down e) (M q k : ℕ) (B : Scaled U M q k) (v : Float) (val : HasValue v false (q * 2 ^ k) (2 ^ 1074)) where
+module _ (m : ℕ) (e : ℤ) (U : ℕ) (units : suc m * up e * 2 ^ 1074 ≡ U * down e) (M q k : ℕ) (B : Scaled U M q k) (v : Float) (held : T (fits binary64 v)) (val : HasValue v false (q * 2 ^ k) (2 ^ 1074)) where
   lo : 2 ^ 52 ≤ q
   lo = nearest-low M q (B .low) (B .root)
 
@@ -189,6 +189,7 @@ module _ (m : ℕ) (e : ℤ) (U : ℕ) (units : suc m * up e * 2 ^ 1074 ≡ U * 
 
   pub root-is : Root (fin false (suc m) e) v
   root-is = record {
+    held = held;
     is = positive-of-value v (q * 2 ^ k) (2 ^ 1074) val (mul-pos (lt-of-lt-of-le (lit< tt) lo) (pow-pos k));
     less = λ n d f. let u = in-units n d f in is-less n (u .0) d (u .1) (u .2);
     more = λ n d f. let u = in-units n d f in is-more n (u .0) d (u .1) (u .2);

@@ -197,35 +197,35 @@ exactly U M q k B = go (eq-or-lt-of-le (nearest-high M q (B .high) (B .root)))
         (ap (λ (x : ℕ). x * 2 ^ k * 2 ^ 1074) z ∙ ap (λ (x : ℕ). x * 2 ^ 1074) (double (2 ^ k) ∙ ap (λ (x : ℕ). 2 ^ 52 * x) (sym (pow-succ' 2 k))))
     go (inr l) = round-exact binary64 false (q * 2 ^ k) (2 ^ 1074) q k (pow-pos 1074) l (under q k l (le-of-lt (B .small))) refl
 
+root-fits : (m : ℕ) (e : ℤ) → T (fits binary64 (fin false (suc m) e)) → T (fits binary64 (rootOf (fin false (suc m) e)))
+root-fits m e t =
+    let r = root-raised m e (fitting binary64 false m e t) in
+    subst (λ (v : Float). T (fits binary64 v)) (sym (r .value)) (round-fits binary64 false (r .q * 2 ^ r .k) (2 ^ 1074))
+
 pub root-nearest : (m : ℕ) (e : ℤ) → T (fits binary64 (fin false (suc m) e)) → Root (fin false (suc m) e) (rootOf (fin false (suc m) e))
 root-nearest m e t =
     let F = fitting binary64 false m e t in
     let u = in-units m e F in
     let r = root-raised m e F in
-    root-is m e (u .U) (u .units) (r .M) (r .q) (r .k) (r .is) (rootOf (fin false (suc m) e))
+    root-is m e (u .U) (u .units) (r .M) (r .q) (r .k) (r .is) (rootOf (fin false (suc m) e)) (root-fits m e t)
     (subst (λ (v : Float). HasValue v false (r .q * 2 ^ r .k) (2 ^ 1074)) (sym (r .value)) (exactly (u .U) (r .M) (r .q) (r .k) (r .is)))
 
-pub root-fits : (m : ℕ) (e : ℤ) → T (fits binary64 (fin false (suc m) e)) → T (fits binary64 (rootOf (fin false (suc m) e)))
-root-fits m e t =
-    let r = root-raised m e (fitting binary64 false m e t) in
-    subst (λ (v : Float). T (fits binary64 v)) (sym (r .value)) (round-fits binary64 false (r .q * 2 ^ r .k) (2 ^ 1074))
-
 -- ---- one answer
-pub root-unique : (x r s : Float) → T (fits binary64 r) → T (fits binary64 s) → Root x r → Root x s → r ≡ s
-root-unique x nan s f g R S = absurd (R .is)
-root-unique x (inf b) s f g R S = absurd (R .is)
-root-unique x (fin true n d) s f g R S = absurd (R .is)
-root-unique x (fin false n d) nan f g R S = absurd (S .is)
-root-unique x (fin false n d) (inf b) f g R S = absurd (S .is)
-root-unique x (fin false n d) (fin true k c) f g R S = absurd (S .is)
-root-unique x (fin false n d) (fin false k c) f g R S =
-    value-unique binary64 (fin false n d) (fin false k c) false (n * up d) (down d) (down-pos d) f g (refl, refl) (refl, same)
+pub root-unique : (x r s : Float) → Root x r → Root x s → r ≡ s
+root-unique x nan s R S = absurd (R .is)
+root-unique x (inf b) s R S = absurd (R .is)
+root-unique x (fin true n d) s R S = absurd (R .is)
+root-unique x (fin false n d) nan R S = absurd (S .is)
+root-unique x (fin false n d) (inf b) R S = absurd (S .is)
+root-unique x (fin false n d) (fin true k c) R S = absurd (S .is)
+root-unique x (fin false n d) (fin false k c) R S =
+    value-unique binary64 (fin false n d) (fin false k c) false (n * up d) (down d) (down-pos d) (R .held) (S .held) (refl, refl) (refl, same)
   where
     between : (a b : ℕ) → (a < b → ⊥) → (b < a → ⊥) → b ≡ a
     between a b h l = omega arith
 
     same : k * up c * down d ≡ n * up d * down c
-    same = between (n * up d * down c) (k * up c * down d) (unique x n k d c f g R S) (unique x k n c d g f S R)
+    same = between (n * up d * down c) (k * up c * down d) (unique x n k d c R S) (unique x k n c d S R)
 
 -- the half-way point of the root and another f64 is never the exact root
 pub no-tie : (x r : Float) (n : ℕ) (d : ℤ) → Root x r → T (fits binary64 (fin false n d)) → (n * up d * den r ≡ num r * down d → ⊥)

@@ -14,7 +14,7 @@ use Rattle.floats.proofs.Ends.{none, at-zero, above, at-infinity, below
 use Rattle.floats.proofs.Shift.{nearest-low, nearest-high, bits-le}
 use Rattle.floats.proofs.Value.{pattern, written, no-nan}
 use Rattle.floats.proofs.Near.{root-is}
-use Rattle.floats.proofs.Roots.{root-nearest, root-fits, root-unique}
+use Rattle.floats.proofs.Roots.{root-nearest, root-unique}
 use Rattle.floats.proofs.sqrt.Statement.{statement}
 use Rattle.floats.proofs.sqrt.Tie as tie
 
@@ -47,8 +47,8 @@ is-root m e r h b =
     let x = fin false (suc m) e in
     let s = b .is in
     let val = written r (b .k) (b .q) (b .bits) (nearest-low (b .m) (b .q) (s .low) (s .root)) (nearest-high (b .m) (b .q) (s .high) (s .root)) (s .small) in
-    root-unique x (ofBits binary64 r) (rootOf x) (ofBits-fits binary64 r) (root-fits m e h)
-    (root-is m e (unitsOf (toBits binary64 x)) (pattern m e h .value) (b .m) (b .q) (b .k) s (ofBits binary64 r) val) (root-nearest m e h)
+    root-unique x (ofBits binary64 r) (rootOf x)
+    (root-is m e (unitsOf (toBits binary64 x)) (pattern m e h .value) (b .m) (b .q) (b .k) s (ofBits binary64 r) (ofBits-fits binary64 r) val) (root-nearest m e h)
 
 answer : (x : Float) (m : ℕ) (e : ℤ) (r : ℕ) → x ≡ fin false (suc m) e → T (fits binary64 x) → RootBits (unitsOf (toBits binary64 x)) r → (hasRoot x ≡ true) × (ofBits binary64 r ≡ rootOf x)
 unfolding hasRoot
