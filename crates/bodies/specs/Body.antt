@@ -1,5 +1,5 @@
 -- Document 01's number for each case of an enum, and the body that a host's numbers mean.
-use mathlib.Core.Bool.{Bool}
+use mathlib.Core.Bool.{Bool, true, false}
 use Prim.Native.Nat.{ℕ}
 use lib.Dec.{eqb}
 use lib.Ieee.{Float}
@@ -82,3 +82,23 @@ bodyOf b =
 
 unfoldable pub motionOf : MotionNumbers → Motion
 motionOf m = record { feet = m .feet; velocity = m .velocity; ground = isYes (m .ground) }
+
+-- ---- which model it is
+
+abbrev pub isItem : Model → Bool
+isItem Item = true
+isItem Living = false
+isItem FallingBlock = false
+isItem Other = false
+
+abbrev pub isLiving : Model → Bool
+isLiving Item = false
+isLiving Living = true
+isLiving FallingBlock = false
+isLiving Other = false
+
+abbrev pub isFallingBlock : Model → Bool
+isFallingBlock Item = false
+isFallingBlock Living = false
+isFallingBlock FallingBlock = true
+isFallingBlock Other = false

@@ -2,7 +2,7 @@
 // out of lent numbers, and limits.rt has what is refused.
 use boxes::Vec3;
 ghost use mathlib.Core.Path.{_≡_};
-ghost use Rattle.bodies.specs.Body.{modelOf, stageOf, frictionOf, isYes, yesNumber, flapOf, bodyOf, motionOf};
+ghost use Rattle.bodies.specs.Body.{modelOf, stageOf, frictionOf, isYes, yesNumber, flapOf, bodyOf, motionOf, isItem, isLiving, isFallingBlock};
 
 mod limits;
 mod numbers;
@@ -189,5 +189,38 @@ pub fn motion_of(m: MotionNumbers) -> Motion
         feet,
         velocity,
         ground,
+    }
+}
+
+pub fn is_item(model: Model) -> bool
+    ensures { λ r. ⌜ r ≡ isItem model ⌝ }
+{
+    match model {
+        Model::Item => true,
+        Model::Living => false,
+        Model::FallingBlock => false,
+        Model::Other => false,
+    }
+}
+
+pub fn is_living(model: Model) -> bool
+    ensures { λ r. ⌜ r ≡ isLiving model ⌝ }
+{
+    match model {
+        Model::Item => false,
+        Model::Living => true,
+        Model::FallingBlock => false,
+        Model::Other => false,
+    }
+}
+
+pub fn is_falling_block(model: Model) -> bool
+    ensures { λ r. ⌜ r ≡ isFallingBlock model ⌝ }
+{
+    match model {
+        Model::Item => false,
+        Model::Living => false,
+        Model::FallingBlock => true,
+        Model::Other => false,
     }
 }

@@ -37,7 +37,9 @@ use Rattle.bodies.specs.declared.Motion.{Motion}
 use Rattle.bodies.specs.declared.MotionNumbers.{MotionNumbers}
 use Rattle.bodies.specs.Limits.{numbersFit, motionFits, numberRefusal}
 use Rattle.step.specs.declared.Tick.{Tick}
-use Rattle.step.specs.Step.{sampled, supportingFriction, livingBlockFriction, livingGrip, livingInAir, applyLivingDrag, grip, horizontalAfter, pulled, afterMove, moveOn, itemBegins, begins, senses, stepBodySensed}
+use Rattle.drags.specs.Drags.{pulled}
+use Rattle.samples.specs.Samples.{sampled, supportingFriction, livingSample, livingBlockFriction, livingSupport, groundSupport, supportAfter}
+use Rattle.step.specs.Step.{afterMove, moveOn, itemBegins, begins, senses, stepBodySensed}
 use Rattle.step.specs.Answers.{finiteTick, stepAnswer, stepAsked, stepEntry}
 
 -- ---- what asks for cells, where a look-up refuses by P
@@ -69,30 +71,37 @@ module _ {P : ℕ → Type 0} (look : Pos → Ask Block) (h : (p : Pos) → Refu
   unfolding sampled
   sample-refuses air p = after (look p) _ (h p) (λ b. finds _)
 
-  -- ---- friction, drag, and all that follows the move
-  module _ (rules : Rules) where
-    pub friction-refuses : (feet : Vec3) → Refuses P (livingBlockFriction look records rules feet)
+  -- ---- the samples, and all that follows the move
+  module _ (rules : Rules) (feet : Vec3) where
+    living-sample-refuses : Refuses P (livingSample look records rules feet)
+    unfolding livingSample
+    living-sample-refuses = sample-refuses (rules .air) _
+
+    pub friction-refuses : Refuses P (livingBlockFriction look records rules feet)
     unfolding livingBlockFriction
-    friction-refuses feet = after _ _ (sample-refuses (rules .air) _) (λ s. finds _)
+    friction-refuses = after _ _ living-sample-refuses (λ s. finds _)
 
-    module _ (body : Body) (feet : Vec3) where
-      drag-refuses : (onGround : Bool) (liquid : LiquidKind) (v : Vec3) → Refuses P (applyLivingDrag look records rules body feet onGround liquid v)
-      unfolding livingInAir livingGrip
-      drag-refuses onGround None v = after _ _ (either _ _ _ (after _ _ (friction-refuses feet) (λ f. finds _)) (finds _)) (λ x. finds _)
-      drag-refuses onGround Water v = finds _
-      drag-refuses onGround Lava v = finds _
+    living-support-refuses : (onGround : Bool) (liquid : LiquidKind) → Refuses P (livingSupport look records rules feet onGround liquid)
+    unfolding livingSupport
+    living-support-refuses onGround None = either _ _ _ living-sample-refuses (finds _)
+    living-support-refuses onGround Water = finds _
+    living-support-refuses onGround Lava = finds _
 
-      grip-refuses : (g : Ground) → Refuses P (grip look records rules body feet g)
-      unfolding supportingFriction
-      grip-refuses ground.None = finds _
-      grip-refuses ground.Block = after _ _ (sample-refuses (rules .air) _) (λ s. finds _)
+    ground-support-refuses : (g : Ground) → Refuses P (groundSupport look records rules feet g)
+    unfolding supportingFriction
+    ground-support-refuses ground.None = finds _
+    ground-support-refuses ground.Block = sample-refuses (rules .air) _
 
-      after-refuses : (liquid : LiquidKind) (onGround : Bool) (v : Vec3) → Refuses P (afterMove look records rules body liquid feet onGround v)
-      unfolding afterMove horizontalAfter
-      after-refuses liquid onGround v =
-          either _ _ _ (finds _)
-          (either _ _ _ (after _ _ (drag-refuses onGround liquid v) (λ x. finds _))
-          (after _ _ (either _ _ _ (grip-refuses (body .friction)) (finds _)) (λ x. finds _)))
+    support-refuses : (body : Body) (liquid : LiquidKind) (onGround : Bool) → Refuses P (supportAfter look records rules body liquid feet onGround)
+    unfolding supportAfter
+    support-refuses body liquid onGround =
+        either _ _ _ (finds _)
+        (either _ _ _ (living-support-refuses onGround liquid)
+        (either _ _ _ (ground-support-refuses (body .friction)) (finds _)))
+
+    after-refuses : (body : Body) (liquid : LiquidKind) (onGround : Bool) (v : Vec3) → Refuses P (afterMove look records rules body liquid feet onGround v)
+    unfolding afterMove
+    after-refuses body liquid onGround v = after _ _ (support-refuses body liquid onGround) (λ s. finds _)
 
   -- ---- flows and currents, which meet a 7 as well
   module _ (seven : P 7) where
@@ -159,7 +168,7 @@ module _ (cells : List ℕ) (w : Window) (records : List ℕ) where
     unfolding moveOn
     on-refuses aabb onGround flotation liquid v =
         after _ _ (wider _ five-or-six (move-refuses cells w records shapes aabb (pulled body flotation v) (body .step) onGround)) (λ m.
-        after-refuses (lookAt cells w) looks records rules body _ liquid _ _)
+        after-refuses (lookAt cells w) looks records rules _ body liquid _ _)
 
     pub core-refuses : (motion : Motion) (age : ℕ) → Refuses FiveToSeven (stepBodySensed (lookAt cells w) records shapes rules body motion age)
     unfolding stepBodySensed senses

@@ -17,43 +17,25 @@ use Rattle.bodies.specs.declared.BodyNumbers.{BodyNumbers}
 use Rattle.bodies.specs.declared.Rules.{Rules}
 use Rattle.bodies.specs.declared.MotionNumbers.{MotionNumbers}
 use Rattle.step.specs.declared.Begun.{Begun}
-use Rattle.step.specs.declared.Begins.{Begins}
-use Rattle.step.specs.declared.Begins.the-variants as begins
-use Rattle.step.specs.declared.Support.{Support}
-use Rattle.step.specs.declared.Supports.{Supports}
-use Rattle.step.specs.declared.Supports.the-variants as supports
-use Rattle.step.specs.declared.Number.{Number}
-use Rattle.step.specs.declared.Number.the-variants as number
-use Rattle.step.specs.declared.Dragged.{Dragged}
-use Rattle.step.specs.declared.Dragged.the-variants as dragged
+use Rattle.step.specs.declared.AskedBegun.{AskedBegun}
+use Rattle.step.specs.declared.AskedBegun.the-variants as begun
 use Rattle.step.specs.declared.Tick.{Tick}
-use Rattle.step.specs.declared.Stepped.{Stepped}
-use Rattle.step.specs.declared.Stepped.the-variants as stepped
+use Rattle.step.specs.declared.AskedTick.{AskedTick}
+use Rattle.step.specs.declared.AskedTick.the-variants as ticked
 use Rattle.step.specs.declared.StepAnswer.{StepAnswer}
 use Rattle.step.specs.declared.MotionAnswer.{MotionAnswer}
 use Rattle.bodies.specs.Body.{yesNumber, bodyOf, motionOf}
 use Rattle.bodies.specs.Limits.{rulesFit, isPosition, numberRefusal, isFiniteMotion}
-use Rattle.step.specs.Step.{livingBlockFriction, stepBodySensed}
+use Rattle.samples.specs.Samples.{livingBlockFriction}
+use Rattle.step.specs.Step.{stepBodySensed}
 
-abbrev pub supportAsked : Supports → Ask Support
-supportAsked (supports.Is s) = found s
-supportAsked (supports.Refused n) = refused n
+abbrev pub tickAsked : AskedTick → Ask Tick
+tickAsked (ticked.To t) = found t
+tickAsked (ticked.Refused n) = refused n
 
-abbrev pub numberAsked : Number → Ask Float
-numberAsked (number.Is x) = found x
-numberAsked (number.Refused n) = refused n
-
-abbrev pub velocityAsked : Dragged → Ask Vec3
-velocityAsked (dragged.To v) = found v
-velocityAsked (dragged.Refused n) = refused n
-
-abbrev pub tickAsked : Stepped → Ask Tick
-tickAsked (stepped.To t) = found t
-tickAsked (stepped.Refused n) = refused n
-
-abbrev pub begunAsked : Begins → Ask Begun
-begunAsked (begins.Is b) = found b
-begunAsked (begins.Refused n) = refused n
+abbrev pub begunAsked : AskedBegun → Ask Begun
+begunAsked (begun.Is b) = found b
+begunAsked (begun.Refused n) = refused n
 
 -- ---- what a host is handed
 

@@ -10,15 +10,14 @@ use bodies::number_refusal;
 use bodies::rules_fit;
 use bodies::yes_number;
 use boxes::Vec3;
+use crate::AskedTick;
 use crate::MotionAnswer;
-use crate::Number;
 use crate::StepAnswer;
-use crate::Stepped;
 use crate::Tick;
 use crate::moving::step_through;
-use crate::sample::living_friction;
 use floats::Answer;
 use lent::check_lent;
+use samples::AskedSupport;
 use tables::LiquidKind;
 use window::Window;
 ghost use mathlib.Core.Path.{_≡_};
@@ -99,8 +98,8 @@ pub fn step_checked(
         age,
     );
     match told {
-        Stepped::Refused(n) => refused_step(n, given),
-        Stepped::To(t) => finite_step(given, t),
+        AskedTick::Refused(n) => refused_step(n, given),
+        AskedTick::To(t) => finite_step(given, t),
     }
 }
 
@@ -171,10 +170,13 @@ pub fn living_block_friction(
     }
     if rules_fit(records, rules) {
         if is_position(feet) {
-            let told = living_friction(records, cells, w, rules, feet);
+            let told = samples::living_sample(records, cells, w, rules, feet);
             return match told {
-                Number::Refused(n) => refused_number(n),
-                Number::Is(value) => Answer { refusal: 0, value },
+                AskedSupport::Refused(n) => refused_number(n),
+                AskedSupport::Is(s) => Answer {
+                    refusal: 0,
+                    value: drags::sample_or(rules.friction, s),
+                },
             };
         }
         return refused_number(4);
