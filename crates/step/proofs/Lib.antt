@@ -1,4 +1,4 @@
 -- The laws of the step.
-pub mod Samples
+pub mod Answers
 pub mod Laws
 pub mod Refuses

@@ -1,125 +1,30 @@
 // One tick of a body.
-use crate::Begins;
-use crate::Begun;
-use crate::Body;
-use crate::Dragged;
-use crate::Ground;
-use crate::Motion;
-use crate::Number;
-use crate::Rules;
-use crate::Stepped;
-use crate::Supports;
-use crate::drag;
-use crate::fall;
-use crate::flapped;
-use crate::floated;
-use crate::is_falling_block;
-use crate::is_item;
-use crate::is_living;
-use crate::kept_after;
-use crate::living_in_liquid;
-use crate::living_velocity;
-use crate::pull;
-use crate::rests_now;
-use crate::sample::living_grip;
-use crate::sample::supporting_friction;
-use crate::sample_or;
-use crate::tick_of;
+use bodies::Body;
+use bodies::Motion;
+use bodies::Rules;
+use bodies::is_item;
+use bodies::is_living;
 use boxes::Aabb;
 use boxes::Vec3;
+use crate::AskedBegun;
+use crate::AskedTick;
+use crate::Begun;
+use crate::tick_after;
+use crate::tick_to;
+use drags::Support;
 use liquids::Currents;
 use liquids::Held;
 use liquids::Sensed;
 use liquids::cell_at;
 use moves::Moved;
+use samples::AskedSupport;
 use tables::LiquidKind;
 use window::Window;
 ghost use mathlib.Core.Path.{_≡_};
 ghost use Rattle.window.specs.Look.{lookAt};
-ghost use Rattle.step.specs.Step.{livingInAir, applyLivingDrag, grip, horizontalAfter, afterMove, moveOn, itemBegins, begins, senses, stepBodySensed};
+ghost use Rattle.step.specs.Step.{afterMove, moveOn, itemBegins, begins, senses, stepBodySensed};
 ghost use Rattle.liquids.specs.Answers.{kindAsked};
-ghost use Rattle.step.specs.Answers.{numberAsked, velocityAsked, tickAsked, begunAsked};
-
-fn living_in_air(
-    records: &[u32],
-    cells: &[u32],
-    w: Window,
-    rules: Rules,
-    body: Body,
-    feet: Vec3,
-    ground: bool,
-    v: Vec3,
-) -> Dragged
-    ensures { λ r. ⌜ velocityAsked r ≡ livingInAir (lookAt (now (cells .entry)) w) (now (records .entry)) rules body feet ground v ⌝ }
-{
-    let horizontal = match living_grip(records, cells, w, rules, body, feet, ground) {
-        Number::Refused(n) => return Dragged::Refused(n),
-        Number::Is(h) => h,
-    };
-    let flap = body.flap;
-    let y = flapped(flap, fall(body, v.y));
-    Dragged::To(living_velocity(horizontal, y, v))
-}
-
-// Gravity, drag and friction of a living body after its move. It refuses 5 alone, and asks for a cell on dry ground alone.
-pub(crate) fn apply_living_drag(
-    records: &[u32],
-    cells: &[u32],
-    w: Window,
-    rules: Rules,
-    body: Body,
-    feet: Vec3,
-    ground: bool,
-    liquid: LiquidKind,
-    v: Vec3,
-) -> Dragged
-    ensures { λ r. ⌜ velocityAsked r ≡ applyLivingDrag (lookAt (now (cells .entry)) w) (now (records .entry)) rules body feet ground liquid v ⌝ }
-{
-    match liquid {
-        LiquidKind::Water => Dragged::To(living_in_liquid(rules, body, rules.water, v)),
-        LiquidKind::Lava => Dragged::To(living_in_liquid(rules, body, rules.lava, v)),
-        LiquidKind::None => living_in_air(records, cells, w, rules, body, feet, ground, v),
-    }
-}
-
-fn grip_of(
-    records: &[u32],
-    cells: &[u32],
-    w: Window,
-    rules: Rules,
-    body: Body,
-    feet: Vec3,
-    friction: Ground,
-) -> Number
-    ensures { λ r. ⌜ numberAsked r ≡ grip (lookAt (now (cells .entry)) w) (now (records .entry)) rules body feet friction ⌝ }
-{
-    match friction {
-        Ground::None => Number::Is(body.horizontal),
-        Ground::Block => match supporting_friction(records, cells, w, rules, feet) {
-            Supports::Refused(n) => Number::Refused(n),
-            Supports::Is(s) => Number::Is(body.horizontal * sample_or(0.6, s)),
-        },
-    }
-}
-
-// What a body's horizontal velocity is multiplied by, unless it is a living body.
-fn horizontal_after(
-    records: &[u32],
-    cells: &[u32],
-    w: Window,
-    rules: Rules,
-    body: Body,
-    feet: Vec3,
-    ground: bool,
-) -> Number
-    ensures { λ r. ⌜ numberAsked r ≡ horizontalAfter (lookAt (now (cells .entry)) w) (now (records .entry)) rules body feet ground ⌝ }
-{
-    if ground {
-        let friction = body.friction;
-        return grip_of(records, cells, w, rules, body, feet, friction);
-    }
-    Number::Is(body.horizontal)
-}
+ghost use Rattle.step.specs.Answers.{tickAsked, begunAsked};
 
 // What follows the move; v is the velocity with its blocked axes zeroed.
 fn after_move(
@@ -132,29 +37,15 @@ fn after_move(
     feet: Vec3,
     ground: bool,
     v: Vec3,
-) -> Stepped
+) -> AskedTick
     ensures { λ r. ⌜ tickAsked r ≡ afterMove (lookAt (now (cells .entry)) w) (now (records .entry)) rules body liquid feet ground v ⌝ }
 {
-    let model = body.model;
-    if is_falling_block(model) & ground {
-        return Stepped::To(tick_of(feet, Vec3::new(0.0, 0.0, 0.0), ground, LiquidKind::None));
-    }
-    if is_living(model) {
-        let told = apply_living_drag(records, cells, w, rules, body, feet, ground, liquid, v);
-        return match told {
-            Dragged::Refused(n) => Stepped::Refused(n),
-            Dragged::To(velocity) => Stepped::To(tick_of(feet, velocity, ground, liquid)),
-        };
-    }
-    let told = horizontal_after(records, cells, w, rules, body, feet, ground);
+    let told = samples::support_after(records, cells, w, rules, body, liquid, feet, ground);
     match told {
-        Number::Refused(n) => Stepped::Refused(n),
-        Number::Is(horizontal) => Stepped::To(tick_of(
-            feet,
-            drag(body, horizontal, v),
-            ground,
-            LiquidKind::None,
-        )),
+        AskedSupport::Refused(n) => AskedTick::Refused(n),
+        AskedSupport::Is(support) => {
+            AskedTick::To(tick_after(rules, body, liquid, feet, ground, support, v))
+        }
     }
 }
 
@@ -172,15 +63,15 @@ fn move_on(
     flotation: LiquidKind,
     liquid: LiquidKind,
     v: Vec3,
-) -> Stepped
+) -> AskedTick
     ensures { λ r. ⌜ tickAsked r ≡ moveOn (lookAt (now (cells .entry)) w) (now (records .entry)) (now (shapes .entry)) rules body aabb ground flotation liquid v ⌝ }
 {
-    let velocity = pull(body, flotation, v);
+    let velocity = drags::pulled(body, flotation, v);
     let told = moves::move_through(records, shapes, cells, w, aabb, velocity, body.step, ground);
     match told {
-        Moved::Refused(n) => Stepped::Refused(n),
+        Moved::Refused(n) => AskedTick::Refused(n),
         Moved::To(m) => {
-            let kept = kept_after(m.moved, velocity);
+            let kept = drags::kept_after(m.moved, velocity);
             let reached = m.aabb.feet();
             after_move(
                 records,
@@ -206,17 +97,17 @@ fn item_begins(
     aabb: Aabb,
     motion: Motion,
     age: u64,
-) -> Begins
+) -> AskedBegun
     ensures { λ r. ⌜ begunAsked r ≡ itemBegins (lookAt (now (cells .entry)) w) (now (records .entry)) body aabb motion age ⌝ }
 {
     let feet = motion.feet;
     let foot = cell_at(feet);
     let state = match liquids::liquid_at(records, cells, w, foot) {
-        Held::Refused(n) => return Begins::Refused(n),
+        Held::Refused(n) => return AskedBegun::Refused(n),
         Held::Is(s) => s,
     };
     let current = match liquids::item_current(records, cells, w, aabb, foot, state) {
-        Currents::Refused(n) => return Begins::Refused(n),
+        Currents::Refused(n) => return AskedBegun::Refused(n),
         Currents::Is(c) => c,
     };
     let flotation = match liquids::item_flotation(
@@ -229,21 +120,21 @@ fn item_begins(
         foot,
         state,
     ) {
-        Sensed::Refused(n) => return Begins::Refused(n),
+        Sensed::Refused(n) => return AskedBegun::Refused(n),
         Sensed::Is(kind) => kind,
     };
     let start = motion.velocity;
     let flow = current.flow;
-    let velocity = floated(flotation, liquids::add(start, flow));
-    let rests = rests_now(motion.ground, velocity, current.water, age);
-    Begins::Is(Begun {
+    let velocity = drags::floated(flotation, liquids::add(start, flow));
+    let rests = drags::rests_now(motion.ground, velocity, current.water, age);
+    AskedBegun::Is(Begun {
         velocity,
         flotation,
         rests,
     })
 }
 
-fn begins_of(
+fn begins(
     records: &[u32],
     cells: &[u32],
     w: Window,
@@ -251,7 +142,7 @@ fn begins_of(
     aabb: Aabb,
     motion: Motion,
     age: u64,
-) -> Begins
+) -> AskedBegun
     ensures { λ r. ⌜ begunAsked r ≡ begins (lookAt (now (cells .entry)) w) (now (records .entry)) body aabb motion age ⌝ }
 {
     let model = body.model;
@@ -259,14 +150,14 @@ fn begins_of(
         return item_begins(records, cells, w, body, aabb, motion, age);
     }
     let velocity = motion.velocity;
-    Begins::Is(Begun {
+    AskedBegun::Is(Begun {
         velocity,
         flotation: LiquidKind::None,
         rests: false,
     })
 }
 
-fn senses_of(records: &[u32], cells: &[u32], w: Window, body: Body, aabb: Aabb) -> Sensed
+fn senses(records: &[u32], cells: &[u32], w: Window, body: Body, aabb: Aabb) -> Sensed
     ensures { λ r. ⌜ kindAsked r ≡ senses (lookAt (now (cells .entry)) w) (now (records .entry)) body aabb ⌝ }
 {
     let model = body.model;
@@ -286,21 +177,27 @@ pub fn step_through(
     body: Body,
     motion: Motion,
     age: u64,
-) -> Stepped
+) -> AskedTick
     ensures { λ r. ⌜ tickAsked r ≡ stepBodySensed (lookAt (now (cells .entry)) w) (now (records .entry)) (now (shapes .entry)) rules body motion age ⌝ }
 {
     let feet = motion.feet;
     let aabb = Aabb::from_feet(feet, body.width, body.height);
-    let begun = match begins_of(records, cells, w, body, aabb, motion, age) {
-        Begins::Refused(n) => return Stepped::Refused(n),
-        Begins::Is(b) => b,
+    let begun = match begins(records, cells, w, body, aabb, motion, age) {
+        AskedBegun::Refused(n) => return AskedTick::Refused(n),
+        AskedBegun::Is(b) => b,
     };
     if begun.rests {
         let kept = begun.velocity;
-        return Stepped::To(tick_of(feet, kept, motion.ground, LiquidKind::None));
+        return AskedTick::To(tick_to(
+            feet,
+            kept,
+            motion.ground,
+            LiquidKind::None,
+            Support::NotAsked,
+        ));
     }
-    let liquid = match senses_of(records, cells, w, body, aabb) {
-        Sensed::Refused(n) => return Stepped::Refused(n),
+    let liquid = match senses(records, cells, w, body, aabb) {
+        Sensed::Refused(n) => return AskedTick::Refused(n),
         Sensed::Is(kind) => kind,
     };
     let flotation = begun.flotation;

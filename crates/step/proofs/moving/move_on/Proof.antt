@@ -4,8 +4,8 @@ use borrow.Author.Needs.{needs}
 use Rattle.step.proofs.moving.move_on.Statement.{statement}
 use Rattle.step.proofs.moving.move_on.Tie as tie
 
-pull-requires : tie.Need-pull-requires
-pull-requires c κs = search needs
+pulled-requires : tie.Need-pulled-requires
+pulled-requires c κs = search needs
 
 move-through-requires : tie.Need-move-through-requires
 move-through-requires c κs = search needs
@@ -27,17 +27,17 @@ after-move-requires c κs = search needs
 
 returns : tie.Need-returns
 unfolding moveOn
-returns c = rw (← c .before .before .before .before .pull .ensures, ← c .before .before .before .move-through .ensures, c .before .told .given .1)
+returns c = rw (← c .before .before .before .before .pulled .ensures, ← c .before .before .before .move-through .ensures, c .before .told .given .1)
 
 returns-2 : tie.Need-returns-2
 unfolding moveOn
-returns-2 c = rw (← c .before .before .before .before .before .before .before .pull .ensures, ← c .before .before .before .before .before .before .move-through .ensures, c .before .before .before .before .told2 .given .1, ← c .before .before .kept-after .ensures, ← c .before .feet .ensures, ← c .after-move .ensures)
+returns-2 c = rw (← c .before .before .before .before .before .before .before .pulled .ensures, ← c .before .before .before .before .before .before .move-through .ensures, c .before .before .before .before .told2 .given .1, ← c .before .before .kept-after .ensures, ← c .before .feet .ensures, ← c .after-move .ensures)
 
 pub move-on-spec : {M : Type 1} → statement M
 move-on-spec =
     tie.close
     (tie.spec
-    pull-requires
+    pulled-requires
     move-through-requires
     enum-known-told
     enum-known-told-2
