@@ -11,6 +11,7 @@ use Rattle.floats.specs.Whole.{cellOf}
 use Rattle.boxes.specs.declared.Vec3.{Vec3}
 use Rattle.boxes.specs.declared.Aabb.{Aabb}
 use Rattle.boxes.specs.Boxes.{plus}
+use Rattle.boxes.specs.Vectors.{zeroVec, scaled, normalised}
 use Rattle.tables.specs.declared.LiquidKind.{LiquidKind}
 use Rattle.tables.specs.declared.LiquidKind.the-variants.{None, Water, Lava}
 use Rattle.tables.specs.declared.LiquidState.{LiquidState}
@@ -20,12 +21,11 @@ use Rattle.ranges.specs.declared.Axis.{Axis}
 use Rattle.ranges.specs.declared.Range.{Range}
 use Rattle.ranges.specs.Ranges.{orZero}
 use Rattle.ranges.specs.Walk.{walk}
+use Rattle.flow.specs.Liquid.{isLiquid, liquidHeld}
+use Rattle.flow.specs.Flow.{liquidFlow}
 use Rattle.liquids.specs.declared.Stream.{Stream}
 use Rattle.liquids.specs.declared.Streams.{Streams}
 use Rattle.liquids.specs.declared.Current.{Current}
-use Rattle.liquids.specs.Vectors.{zeroVec, scaled, normalised}
-use Rattle.liquids.specs.Liquid.{isLiquid, liquidAsked}
-use Rattle.liquids.specs.Flow.{liquidFlow}
 
 -- ---- cells
 
@@ -56,7 +56,7 @@ samePos p q = choose (sameNumber (p .x) (q .x)) (choose (sameNumber (p .y) (q .y
 
 -- if pos == foot_pos { foot_state } else { liquid_at(blocks, pos) }: the cell of the feet is not asked for twice
 unfoldable pub liquidKnown : (Pos → Ask Block) → List ℕ → Pos → LiquidState → Pos → Ask LiquidState
-liquidKnown look records foot footState p = choose (samePos p foot) (found footState) (liquidAsked look records p)
+liquidKnown look records foot footState p = choose (samePos p foot) (found footState) (liquidHeld look records p)
 
 -- ---- flows and counts of the two kinds; of a count it matters whether it is 0, 1 or more
 
@@ -70,13 +70,13 @@ unfoldable pub oneMore : ℕ → ℕ
 oneMore count = choose (eqb count 0) 1 2
 
 -- flows[index] += flow; counts[index] += 1;
-unfoldable pub joined : Stream → Vec3 → Stream
-joined s flow = record { flow = plus (s .flow) flow; count = oneMore (s .count) }
+unfoldable pub streamWith : Stream → Vec3 → Stream
+streamWith s flow = record { flow = plus (s .flow) flow; count = oneMore (s .count) }
 
 unfoldable pub gathered : LiquidKind → Vec3 → Streams → Streams
 gathered None flow s = s
-gathered Water flow s = record { water = joined (s .water) flow; lava = s .lava }
-gathered Lava flow s = record { water = s .water; lava = joined (s .lava) flow }
+gathered Water flow s = record { water = streamWith (s .water) flow; lava = s .lava }
+gathered Lava flow s = record { water = s .water; lava = streamWith (s .lava) flow }
 
 -- one cell
 unfoldable pub currentTurn : (Pos → Ask Block) → List ℕ → Pos → LiquidState → Pos → Streams → Ask (Turn Streams Current)
@@ -102,14 +102,14 @@ unfoldable pub directionOf : Stream → Vec3
 directionOf s = choose (eqb (s .count) 1) (s .flow) (normalised (s .flow))
 
 -- current += direction * acceleration, where there is any flow
-unfoldable pub pushed : Vec3 → Stream → Float → Vec3
-pushed current s acceleration = choose (eqb (s .count) 0) current (plus current (scaled (directionOf s) acceleration))
+unfoldable pub carriedBy : Vec3 → Stream → Float → Vec3
+carriedBy current s acceleration = choose (eqb (s .count) 0) current (plus current (scaled (directionOf s) acceleration))
 
 -- water first; and whether there is water
 unfoldable pub currentOf : Streams → Current
 currentOf s =
     record {
-      flow = pushed (pushed zeroVec (s .water) waterPush) (s .lava) lavaPush;
+      flow = carriedBy (carriedBy zeroVec (s .water) waterPush) (s .lava) lavaPush;
       water = not (eqb (s .water .count) 0);
     }
 

@@ -5,7 +5,7 @@ use Rattle.window.specs.Look.{lookAt}
 use mathlib.Core.Path.{ap}
 use borrow.Author.Needs.{needs}
 use Rattle.liquids.specs.Current.{currentTurn, itemCurrent}
-use Rattle.liquids.specs.Answers.{turnedOn}
+use Rattle.liquids.specs.Answers.{gatheredAsked}
 use Rattle.liquids.proofs.drift.item_current.Statement.{statement}
 use Rattle.liquids.proofs.drift.item_current.Tie as tie
 
@@ -38,7 +38,7 @@ enum-known-n c = search needs
 
 returns : tie.Need-returns Inv-loop μ-loop
 unfolding itemCurrent
-returns c = rw (← c .before .before .before .before .before .before .before .before .before .before .before .reach-of .ensures, ← c .before .before .before .before .before .before .before .before .before .before .no-streams .ensures, walked-stop (c .before .before .before .before .before .before .before .before .loop .inv) (c .before .before .before .before .before .if1 .taken) (c .before .before .before .before .place .ensures) (c .before .before .before .current-turn .ensures) _ (ap turnedOn (c .before .n .given .1)))
+returns c = rw (← c .before .before .before .before .before .before .before .before .before .before .before .reach-of .ensures, ← c .before .before .before .before .before .before .before .before .before .before .no-streams .ensures, walked-stop (c .before .before .before .before .before .before .before .before .loop .inv) (c .before .before .before .before .before .if1 .taken) (c .before .before .before .before .place .ensures) (c .before .before .before .current-turn .ensures) _ (ap gatheredAsked (c .before .n .given .1)))
 
 enum-known-g : tie.Need-enum-known-g Inv-loop μ-loop
 enum-known-g c = search needs
@@ -50,7 +50,7 @@ loop-less : tie.Need-loop-less Inv-loop μ-loop
 loop-less c = walked-less (c .before .before .before .before .before .before .before .before .before .loop .inv) (c .before .before .before .before .before .before .if1 .taken) _ (c .next .ensures)
 
 loop-again : tie.Need-loop-again Inv-loop μ-loop
-loop-again c = walked-next (c .before .before .before .before .before .before .before .before .before .loop .inv) (c .before .before .before .before .before .before .if1 .taken) (c .before .before .before .before .before .place .ensures) (c .before .before .before .before .current-turn .ensures) _ (ap turnedOn (c .before .before .g .given .1)) _ (c .next .ensures)
+loop-again c = walked-next (c .before .before .before .before .before .before .before .before .before .loop .inv) (c .before .before .before .before .before .before .if1 .taken) (c .before .before .before .before .before .place .ensures) (c .before .before .before .before .current-turn .ensures) _ (ap gatheredAsked (c .before .before .g .given .1)) _ (c .next .ensures)
 
 current-of-requires : tie.Need-current-of-requires Inv-loop μ-loop
 current-of-requires c κs = search needs

@@ -1,0 +1,3 @@
+-- What the proofs of flow share.
+pub mod Gaps
+pub mod FourSides
