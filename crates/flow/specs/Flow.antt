@@ -24,21 +24,21 @@ use Rattle.flow.specs.Liquid.{alike, liquidHeld, blocksLiquidFlow}
 -- ---- sides: east is IVec3::X, west NEG_X, south Z, north NEG_Z
 
 -- to the cell on a side, y cells up
-abbrev pub wayTo : Side → ℤ → Step
-wayTo North y = record { x = pos 0; y = y; z = negsuc 0 }
-wayTo East y = record { x = pos 1; y = y; z = pos 0 }
-wayTo South y = record { x = pos 0; y = y; z = pos 1 }
-wayTo West y = record { x = negsuc 0; y = y; z = pos 0 }
+abbrev pub sideStep : Side → ℤ → Step
+sideStep North y = record { x = pos 0; y = y; z = negsuc 0 }
+sideStep East y = record { x = pos 1; y = y; z = pos 0 }
+sideStep South y = record { x = pos 0; y = y; z = pos 1 }
+sideStep West y = record { x = negsuc 0; y = y; z = pos 0 }
 
 -- neighbour, neighbour - IVec3::Y and neighbour + IVec3::Y
 unfoldable pub stepBeside : Side → Step
-stepBeside side = wayTo side (pos 0)
+stepBeside side = sideStep side (pos 0)
 
 unfoldable pub stepBelow : Side → Step
-stepBelow side = wayTo side (negsuc 0)
+stepBelow side = sideStep side (negsuc 0)
 
 unfoldable pub stepAbove : Side → Step
-stepAbove side = wayTo side (pos 1)
+stepAbove side = sideStep side (pos 1)
 
 -- side.as_dvec3()
 unfoldable pub unitTo : Side → Vec3

@@ -1,5 +1,5 @@
 -- The Rust's `item_current`: the flows of the cells that an item's box reaches, and what they do to its velocity.
-use mathlib.Core.Bool.{Bool, false, not}
+use mathlib.Core.Bool.{Bool, false, not, _&&_}
 use mathlib.Core.List.{List}
 use Prim.Native.Nat.{ℕ}
 use lib.Dec.{eqb}
@@ -11,6 +11,7 @@ use Rattle.floats.specs.Whole.{cellOf}
 use Rattle.boxes.specs.declared.Vec3.{Vec3}
 use Rattle.boxes.specs.declared.Aabb.{Aabb}
 use Rattle.boxes.specs.Boxes.{plus}
+use Rattle.boxes.specs.Limits.{twoTo, areWithin}
 use Rattle.boxes.specs.Vectors.{zeroVec, scaled, normalised}
 use Rattle.tables.specs.declared.LiquidKind.{LiquidKind}
 use Rattle.tables.specs.declared.LiquidKind.the-variants.{None, Water, Lava}
@@ -21,6 +22,7 @@ use Rattle.ranges.specs.declared.Axis.{Axis}
 use Rattle.ranges.specs.declared.Range.{Range}
 use Rattle.ranges.specs.Ranges.{orZero}
 use Rattle.ranges.specs.Walk.{walk}
+use Rattle.lent.specs.Lent.{unless}
 use Rattle.flow.specs.Liquid.{isLiquid, liquidHeld}
 use Rattle.flow.specs.Flow.{liquidFlow}
 use Rattle.liquids.specs.declared.Stream.{Stream}
@@ -28,6 +30,10 @@ use Rattle.liquids.specs.declared.Streams.{Streams}
 use Rattle.liquids.specs.declared.Current.{Current}
 
 -- ---- cells
+
+-- A number of the box is not finite or of size above 2 ^ 26, where `cellOf` stops. Such a box reaches cells that no window holds.
+unfoldable pub beyondReach : Aabb → Bool
+beyondReach aabb = not (areWithin (aabb .min) (twoTo 26) && areWithin (aabb .max) (twoTo 26))
 
 -- the ceiling of a coordinate, as `cellOf` is its floor: the least whole number that is not below it, which is 0 less the floor of -x
 abbrev pub ceilingOf : Float → ℤ
@@ -113,7 +119,10 @@ currentOf s =
       water = not (eqb (s .water .count) 0);
     }
 
+-- a box out of reach is refused before any cell is asked for
 unfoldable pub itemCurrent : (Pos → Ask Block) → List ℕ → Aabb → Pos → LiquidState → Ask Current
-itemCurrent look records aabb foot footState = do
-  end ← walk (currentTurn look records foot footState) (reachOf aabb) noStreams
-  resume (λ s. found (currentOf s)) end
+itemCurrent look records aabb foot footState =
+    unless (beyondReach aabb) 5
+    (do
+      end ← walk (currentTurn look records foot footState) (reachOf aabb) noStreams
+      resume (λ s. found (currentOf s)) end)

@@ -20,8 +20,8 @@ use Rattle.flow.specs.Liquid.{isWater, isLava, isFalling, liquidHeld}
 use Rattle.liquids.specs.Current.{samePos, liquidKnown}
 
 -- position + DVec3::Y * d
-unfoldable pub raisedBy : Vec3 → Float → Vec3
-raisedBy position d = plus position (scaled unitY d)
+unfoldable pub movedUp : Vec3 → Float → Vec3
+movedUp position d = plus position (scaled unitY d)
 
 -- 9.0
 abbrev pub nine64 : Float
@@ -47,8 +47,8 @@ waterState look records foot footState wire wireState p =
 -- a falling liquid at the wire cell or below it ends flotation
 unfoldable pub itemFlotation : (Pos → Ask Block) → List ℕ → Float → Float → Vec3 → Pos → LiquidState → Ask LiquidKind
 itemFlotation look records offset height position foot footState = do
-  let wire : Vec3 = raisedBy position offset
-  let point : Vec3 = raisedBy position (add binary64 offset height)
+  let wire : Vec3 = movedUp position offset
+  let point : Vec3 = movedUp position (add binary64 offset height)
   wireState ← liquidKnown look records foot footState (cellHolding wire)
   belowState ← liquidKnown look records foot footState (cellUnder wire)
   choose (isFalling wireState || isFalling belowState) (found None)

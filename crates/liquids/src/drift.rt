@@ -23,9 +23,19 @@ use window::Pos;
 use window::Window;
 ghost use mathlib.Core.Path.{_≡_};
 ghost use Rattle.window.specs.Look.{lookAt};
-ghost use Rattle.liquids.specs.Current.{cellsUpTo, reachOf, sameNumber, samePos, liquidKnown, noStreams, oneMore, streamWith, gathered, currentTurn, directionOf, carriedBy, currentOf, itemCurrent};
+ghost use Rattle.liquids.specs.Current.{beyondReach, cellsUpTo, reachOf, sameNumber, samePos, liquidKnown, noStreams, oneMore, streamWith, gathered, currentTurn, directionOf, carriedBy, currentOf, itemCurrent};
 ghost use Rattle.flow.specs.Answers.{liquidAsked};
 ghost use Rattle.liquids.specs.Answers.{gatheredAsked, currentAsked};
+
+// A number of the box is not finite or lies beyond 2^26, where `cell` stops: no window holds all cells that the box reaches.
+fn is_beyond(aabb: Aabb) -> bool
+    ensures { λ r. ⌜ r ≡ beyondReach aabb ⌝ }
+{
+    if boxes::are_within(aabb.min, 67108864.0) {
+        return !boxes::are_within(aabb.max, 67108864.0);
+    }
+    true
+}
 
 // The cells from lo.floor() up to hi.ceil(), which is excluded. The ceiling is the floor of the number turned round.
 fn cells_up_to(lo: f64, hi: f64) -> Axis
@@ -218,6 +228,9 @@ pub fn item_current(
 ) -> AskedCurrent
     ensures { λ r. ⌜ currentAsked r ≡ itemCurrent (lookAt (now (cells .entry)) w) (now (records .entry)) aabb foot state ⌝ }
 {
+    if is_beyond(aabb) {
+        return AskedCurrent::Refused(5);
+    }
     let r = reach_of(aabb);
     let mut s = no_streams();
     let mut t = ranges::start(r);

@@ -20,12 +20,12 @@ ghost use mathlib.Core.Path.{_≡_};
 ghost use mathlib.Core.Bool.{_||_};
 ghost use Rattle.window.specs.Look.{lookAt};
 ghost use Rattle.flow.specs.Liquid.{isFalling};
-ghost use Rattle.liquids.specs.Flotation.{raisedBy, surfaceAt, underWater, inLava, waterState, itemFlotation};
+ghost use Rattle.liquids.specs.Flotation.{movedUp, surfaceAt, underWater, inLava, waterState, itemFlotation};
 ghost use Rattle.flow.specs.Answers.{liquidAsked};
 ghost use Rattle.liquids.specs.Answers.{kindAsked};
 
-fn raise_by(position: Vec3, d: f64) -> Vec3
-    ensures { λ r. ⌜ r ≡ raisedBy position d ⌝ }
+fn move_up(position: Vec3, d: f64) -> Vec3
+    ensures { λ r. ⌜ r ≡ movedUp position d ⌝ }
 {
     add_scaled(position, unit_y(), d)
 }
@@ -112,7 +112,7 @@ pub fn item_flotation(
 ) -> AskedKind
     ensures { λ r. ⌜ kindAsked r ≡ itemFlotation (lookAt (now (cells .entry)) w) (now (records .entry)) offset height position foot state ⌝ }
 {
-    let wire = raise_by(position, offset);
+    let wire = move_up(position, offset);
     let at = cell_holding(wire);
     let here = match liquid_known(records, cells, w, foot, state, at) {
         AskedLiquid::Refused(n) => return AskedKind::Refused(n),
@@ -125,7 +125,7 @@ pub fn item_flotation(
     if either_falls(here, below) {
         return AskedKind::Is(LiquidKind::None);
     }
-    let point = raise_by(position, offset + height);
+    let point = move_up(position, offset + height);
     let over = match water_state(records, cells, w, foot, state, at, here, cell_holding(point)) {
         AskedLiquid::Refused(n) => return AskedKind::Refused(n),
         AskedLiquid::Is(s) => s,
