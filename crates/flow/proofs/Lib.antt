@@ -1,5 +1,5 @@
 -- What the proofs of flow share.
 pub mod Answers
-pub mod Decimals
+pub mod Constants
 pub mod Gaps
 pub mod FourSides

@@ -231,7 +231,13 @@ fn side_of(k: u32) -> Side
 }
 
 // How the liquid at p, which is `state`, flows. It refuses 5 and 7 alone, at the first such cell.
-pub fn liquid_flow(records: &[u32], cells: &[u32], w: Window, p: Pos, state: LiquidState) -> AskedVec
+pub fn liquid_flow(
+    records: &[u32],
+    cells: &[u32],
+    w: Window,
+    p: Pos,
+    state: LiquidState,
+) -> AskedVec
     ensures { λ r. ⌜ vecAsked r ≡ liquidFlow (lookAt (now (cells .entry)) w) (now (records .entry)) p state ⌝ }
 {
     let mut flow = zero();

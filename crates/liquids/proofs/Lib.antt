@@ -1,6 +1,6 @@
 -- What the proofs of liquids share.
 pub mod Answers
 pub mod Cells
-pub mod Decimals
+pub mod Constants
 pub mod Reach
 pub mod Walking

@@ -126,7 +126,8 @@ pub fn item_flotation(
         return AskedKind::Is(LiquidKind::None);
     }
     let point = move_up(position, offset + height);
-    let over = match water_state(records, cells, w, foot, state, at, here, cell_holding(point)) {
+    let p = cell_holding(point);
+    let over = match water_state(records, cells, w, foot, state, at, here, p) {
         AskedLiquid::Refused(n) => return AskedKind::Refused(n),
         AskedLiquid::Is(s) => s,
     };
