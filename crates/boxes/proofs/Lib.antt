@@ -6,3 +6,4 @@ pub mod Limits
 pub mod Beyond
 pub mod Numbers
 pub mod Clips
+pub mod Constants

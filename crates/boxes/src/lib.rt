@@ -3,6 +3,7 @@
 mod entry;
 mod list;
 mod passes;
+pub mod vectors;
 
 pub use entry::are_within;
 pub use entry::is_box;

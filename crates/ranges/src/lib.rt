@@ -1,4 +1,8 @@
 // The cells between coordinates, and going through them in the Rust's order: y, then x, then z.
+mod cells;
+
+pub use cells::cell_holding;
+pub use cells::cell_under;
 use window::Pos;
 ghost use mathlib.Core.Path.{_≡_};
 ghost use Prim.Native.Nat.{_+_};

@@ -1,6 +1,6 @@
 -- `liquids::living::living_turn` meets its contract. Assumes nothing.
 use Rattle.liquids.specs.Living.{livingTurn}
-use Rattle.liquids.specs.Liquid.{liquidAsked}
+use Rattle.flow.specs.Liquid.{liquidHeld}
 use borrow.Author.Needs.{needs}
 use Rattle.liquids.proofs.living.living_turn.Statement.{statement}
 use Rattle.liquids.proofs.living.living_turn.Tie as tie
@@ -21,11 +21,11 @@ wet-in-requires : tie.Need-wet-in-requires
 wet-in-requires c κs = search needs
 
 returns : tie.Need-returns
-unfolding livingTurn liquidAsked
+unfolding livingTurn liquidHeld
 returns c = rw (← c .before .before .before .before .look .ensures, ← c .before .before .before .liquid-told .ensures, c .before .n .given .1)
 
 returns-2 : tie.Need-returns-2
-unfolding livingTurn liquidAsked
+unfolding livingTurn liquidHeld
 returns-2 c = rw (← c .before .before .before .before .before .look .ensures, ← c .before .before .before .before .liquid-told .ensures, c .before .before .state .given .1, ← c .wet-in .ensures)
 
 pub living-turn-spec : {M : Type 1} → statement M
