@@ -6,7 +6,7 @@
 -- The limits are those that an accepted move was held to. `ListDemand` and `WindowDemand` are the two theorems; proofs/OverList and proofs/Through prove
 -- them. `T` of a test says that it is true, and `Block b` that b is one of the block boxes.
 use mathlib.Core.Path.{_≡_}
-use mathlib.Core.Bool.{Bool, false, not, _&&_, _||_}
+use mathlib.Core.Bool.{Bool, true, false, not, _&&_, _||_}
 use mathlib.Core.List.{List, List·Memᴰ}
 use Prim.Native.Nat.{ℕ}
 use lib.Dec.{T}
@@ -26,12 +26,11 @@ use Rattle.boxes.specs.Lists.{listOf}
 use Rattle.boxes.specs.Move.{clipSequence, steppedUp, flatSquare, triesStep}
 use Rattle.boxes.specs.Entry.{moveOverList}
 use Rattle.cover.specs.Cover.{boxCount}
-use Rattle.tables.specs.Tables.{stateBoxes, boxAt}
-use Rattle.tables.specs.Check.{stateCount}
+use Rattle.tables.specs.Tables.{boxesAt, boxAt}
 use Rattle.window.specs.declared.Pos.{Pos}
 use Rattle.window.specs.declared.Window.{Window}
 use Rattle.window.specs.Look.{lookAt}
-use Rattle.moves.specs.Collect.{one64, toAabb, collectBlockBoxes}
+use Rattle.moves.specs.Collect.{CellShape, cube, boxes as ofState, one64, toAabb, cellShape, collectBlockBoxes}
 use Rattle.moves.specs.Settled.{settledBoxes}
 use Rattle.moves.specs.Answers.{sweptArea, moveEntry}
 use Rattle.grid.specs.Grid.{onGrid, vecOnGrid, isProper, areProper, isFree}
@@ -123,25 +122,32 @@ isInCell b =
     (le zero64 (b .min .x) && (le zero64 (b .min .y) && le zero64 (b .min .z)))
     && (le (b .max .x) one64 && (le (b .max .y) cellAndHalf && le (b .max .z) one64))
 
--- every box of a shape, and the shapes of all states
+-- every box of a shape
 unfoldable pub shapeOnGrid : List Float → Bool
 shapeOnGrid shape = every (boxCount shape) (λ k. isProper (toAabb (boxAt shape k)) && isInCell (toAabb (boxAt shape k)))
 
-unfoldable pub shapesOnGrid : List ℕ → List Float → Bool
-shapesOnGrid records shapes = every (stateCount records) (λ state. shapeOnGrid (stateBoxes records shapes state))
+-- what a cell comes to, beside its neighbours: an unloaded one is a full cube, and one that the look-up does not settle has no shape
+abbrev pub settledOnGrid : List Float → Ask CellShape → Bool
+settledOnGrid shapes (refused k) = true
+settledOnGrid shapes (found cube) = true
+settledOnGrid shapes (found (ofState first count)) = shapeOnGrid (boxesAt shapes first count)
 
--- the cell of the window that lies so far from its origin
+-- the cell of the window that lies so far from its origin, and a test of every one; no other cell is settled
 abbrev pub cellFrom : Window → ℕ → ℕ → ℕ → Pos
 cellFrom w x y z = record { x = w .origin .x +ℤ pos x; y = w .origin .y +ℤ pos y; z = w .origin .z +ℤ pos z }
 
--- no overlap with the boxes of any cell of the window; no other cell is settled
-unfoldable pub isFreeIn : List ℕ → List Float → List ℕ → Window → Aabb → Bool
-isFreeIn records shapes cells w a =
-    every (w .sizes .y) (λ y. every (w .sizes .x) (λ x. every (w .sizes .z) (λ z. isFree a (settledBoxes (lookAt cells w) records shapes (cellFrom w x y z)))))
+unfoldable pub everyCell : Window → (Pos → Bool) → Bool
+everyCell w test = every (w .sizes .y) (λ y. every (w .sizes .x) (λ x. every (w .sizes .z) (λ z. test (cellFrom w x y z))))
+
+abbrev pub shapesOnGrid : List ℕ → List Float → List ℕ → Window → Bool
+shapesOnGrid records shapes cells w = everyCell w (λ p. settledOnGrid shapes (cellShape (lookAt cells w) records p))
+
+abbrev pub isFreeIn : List ℕ → List Float → List ℕ → Window → Aabb → Bool
+isFreeIn records shapes cells w a = everyCell w (λ p. isFree a (settledBoxes (lookAt cells w) records shapes p))
 
 unfoldable pub windowOnGrid : List ℕ → List Float → List ℕ → Window → Aabb → Vec3 → Float → Bool
 windowOnGrid records shapes cells w aabb delta stepHeight =
-    isProper aabb && (shapesOnGrid records shapes && (vecOnGrid delta && (onGrid stepHeight && isFreeIn records shapes cells w aabb)))
+    isProper aabb && (shapesOnGrid records shapes cells w && (vecOnGrid delta && (onGrid stepHeight && isFreeIn records shapes cells w aabb)))
 
 -- a step-up is kept, among the boxes that the move collects
 abbrev pub keepsAmong : Ask (List Aabb) → Aabb → Vec3 → Float → Bool → Bool
