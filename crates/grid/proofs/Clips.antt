@@ -23,23 +23,23 @@ use Rattle.grid.proofs.Readings.{Read, read, at-grid, within-units, rea
 use Rattle.grid.proofs.Cells.{subℕ-pos, subℕ-neg, subℕ-add}
 
 -- ---- differences of whole numbers
-subℕ-same : (a b c d : ℕ) → a + d ≡ c + b → subℕ a b ≡ subℕ c d
+pub subℕ-same : (a b c d : ℕ) → a + d ≡ c + b → subℕ a b ≡ subℕ c d
 subℕ-same a b c d e = go (ltb a b) (ltb→lt a b) (nltb→le a b)
   where
     go : (u : Bool) → (T u → a < b) → (T (not u) → b ≤ a) → subℕ a b ≡ subℕ c d
     go true f g = let z : a < b = f tt in subℕ-neg a b (b - suc a) (omega arith) ∙ sym (subℕ-neg c d (b - suc a) (omega arith))
     go false f g = let z : b ≤ a = g tt in subℕ-pos a b (a - b) (omega arith) ∙ sym (subℕ-pos c d (a - b) (omega arith))
 
+-- y = x + k, and y - k = x
+pub subℕ-less : (p n k : ℕ) → subℕ p n -ℤ pos k ≡ subℕ p (n + k)
+subℕ-less p n k = ap (λ (z : ℤ). z -ℤ pos k) (subℕ-same p n (p + k) (n + k) (omega arith) ∙ sym (subℕ-add p (n + k) k)) ∙ +ℤ-negℤ-cancel (subℕ p (n + k)) (pos k)
+
 sub-units : (p n q m : ℕ) → subℕ p n -ℤ subℕ q m ≡ subℕ (p + m) (n + q)
 sub-units p n q m = go (ltb q m) (ltb→lt q m) (nltb→le q m)
   where
-    -- y = x + k, and y - k = x
-    less : (k : ℕ) → subℕ p n -ℤ pos k ≡ subℕ p (n + k)
-    less k = ap (λ (z : ℤ). z -ℤ pos k) (subℕ-same p n (p + k) (n + k) (omega arith) ∙ sym (subℕ-add p (n + k) k)) ∙ +ℤ-negℤ-cancel (subℕ p (n + k)) (pos k)
-
     go : (u : Bool) → (T u → q < m) → (T (not u) → m ≤ q) → subℕ p n -ℤ cond u (negsuc (m - suc q)) (pos (q - m)) ≡ subℕ (p + m) (n + q)
     go true f g = let z : q < m = f tt in subℕ-add p n (suc (m - suc q)) ∙ subℕ-same (p + suc (m - suc q)) n (p + m) (n + q) (omega arith)
-    go false f g = let z : m ≤ q = g tt in less (q - m) ∙ subℕ-same p (n + (q - m)) (p + m) (n + q) (omega arith)
+    go false f g = let z : m ≤ q = g tt in subℕ-less p n (q - m) ∙ subℕ-same p (n + (q - m)) (p + m) (n + q) (omega arith)
 
 lt-whole : (p n q m : ℕ) → ltZ (subℕ p n) (subℕ q m) ≡ ltb (p + m) (q + n)
 lt-whole p n q m = go (ltb p n) (ltb→lt p n) (nltb→le p n) (ltb q m) (ltb→lt q m) (nltb→le q m)
@@ -77,13 +77,13 @@ at-units (fin t m e) p n h =
     go true zero u = sym (subℕ-pos p n 0 (omega arith))
     go true (suc k) u = sym (subℕ-neg p n k (omega arith))
 
-exact-at : (x : Float) (p n : ℕ) → At x p n → Exact x (subℕ p n)
+pub exact-at : (x : Float) (p n : ℕ) → At x p n → Exact x (subℕ p n)
 exact-at x p n h = record { grid = at-grid x p n h; units = at-units x p n h }
 
 own : (x : Float) → T (onGrid x) → Exact x (unitsOf x)
 own x t = record { grid = t; units = refl }
 
-read-units : (x : Float) (r : Read x) → unitsOf x ≡ subℕ (r .plus) (r .minus)
+pub read-units : (x : Float) (r : Read x) → unitsOf x ≡ subℕ (r .plus) (r .minus)
 read-units x r = at-units x (r .plus) (r .minus) (r .at)
 
 lt-exact : (x y : Float) → T (onGrid x) → T (onGrid y) → lt x y ≡ ltZ (unitsOf x) (unitsOf y)

@@ -1,17 +1,18 @@
 -- "Clipping shown exact on the 1/4096 grid": the clips of crates/boxes over whole numbers of 1/4096, line by line, and the law that on the grid the
--- clips over f64 come to the same. So none of their differences is rounded.
+-- clips over f64 come to the same. So none of their differences is rounded. Nor is a sum where a box is moved.
 use mathlib.Core.Path.{_≡_}
 use mathlib.Core.Bool.{Bool, _&&_, _||_}
 use Prim.Native.Nat.{_*_, _/_}
 use lib.Dec.{T}
-use lib.IntN.{ℤ, pos, _-ℤ_}
+use lib.IntN.{ℤ, pos, _+ℤ_, _-ℤ_}
 use lib.Signed.{ltZ, leZ}
 use lib.Ieee.{Float, nan, inf, fin, up, down}
 use Rattle.base.specs.Choose.{choose}
 use Rattle.floats.specs.Whole.{signedOf}
+use Rattle.boxes.specs.declared.Vec3.{Vec3}
 use Rattle.boxes.specs.declared.Aabb.{Aabb}
-use Rattle.boxes.specs.Boxes.{clipX, clipY, clipZ}
-use Rattle.boxes.specs.Limits.{isBox}
+use Rattle.boxes.specs.Boxes.{offsetBy, clipX, clipY, clipZ}
+use Rattle.boxes.specs.Limits.{twoTo, areWithin, isBox}
 use Rattle.grid.specs.Grid.{onGrid, vecOnGrid}
 
 -- how many times 1/4096 a number on the grid is
@@ -82,3 +83,20 @@ ClipLaw =
     → T (isBox mover && (vecOnGrid (mover .min) && vecOnGrid (mover .max)))
     → T (onGrid d)
     → ClipsExactly b mover d
+
+-- ---- moving a box, along an axis too: there the two other numbers of `by` are zero
+
+pub record OffsetsExactly (b : Aabb) (by : Vec3) : Type 0 where
+  pub x0 : Exact (offsetBy b by .min .x) (unitsOf (b .min .x) +ℤ unitsOf (by .x))
+  pub y0 : Exact (offsetBy b by .min .y) (unitsOf (b .min .y) +ℤ unitsOf (by .y))
+  pub z0 : Exact (offsetBy b by .min .z) (unitsOf (b .min .z) +ℤ unitsOf (by .z))
+  pub x1 : Exact (offsetBy b by .max .x) (unitsOf (b .max .x) +ℤ unitsOf (by .x))
+  pub y1 : Exact (offsetBy b by .max .y) (unitsOf (b .max .y) +ℤ unitsOf (by .y))
+  pub z1 : Exact (offsetBy b by .max .z) (unitsOf (b .max .z) +ℤ unitsOf (by .z))
+
+-- on the grid, and within twice the limit of a coordinate: a box that has gone part of its way may lie past that limit
+abbrev pub isNear : Vec3 → Bool
+isNear v = areWithin v (twoTo 26) && vecOnGrid v
+
+abbrev pub OffsetLaw : Type 0
+OffsetLaw = (b : Aabb) (by : Vec3) → T (isNear (b .min)) → T (isNear (b .max)) → T (isNear by) → OffsetsExactly b by
