@@ -11,7 +11,7 @@ use Rattle.floats.specs.Numbers.{isWithin}
 use Rattle.boxes.specs.declared.Vec3.{Vec3}
 use Rattle.boxes.specs.Limits.{twoTo, areWithin}
 use Rattle.grid.specs.Grid.{onGrid, vecOnGrid}
-use Rattle.grid.specs.Exact.{unitsOf, Exact, isNear, OffsetLaw}
+use Rattle.grid.specs.Exact.{gridUnits, Exact, isNear, OffsetLaw}
 use Rattle.grid.proofs.Units.{At, add-at}
 use Rattle.grid.proofs.Readings.{read, within-units, Three, three, vec-within}
 use Rattle.grid.proofs.Cells.{subℕ-add}
@@ -29,14 +29,14 @@ add-units p n q m = go (ltb q m) (ltb→lt q m) (nltb→le q m)
 limit-at : At (twoTo 26) (2 ^ 38) 0
 limit-at = record { sign = false; size = 2 ^ 38; value = (refl, refl); units = omega arith }
 
-total : (x y : Float) → T (isWithin x (twoTo 26)) → T (onGrid x) → T (isWithin y (twoTo 26)) → T (onGrid y) → Exact (add binary64 x y) (unitsOf x +ℤ unitsOf y)
+total : (x y : Float) → T (isWithin x (twoTo 26)) → T (onGrid x) → T (isWithin y (twoTo 26)) → T (onGrid y) → Exact (add binary64 x y) (gridUnits x +ℤ gridUnits y)
 total x y p s q t =
     let a = read x s in
     let b = read y t in
     let al : a .plus + a .minus ≤ 2 ^ 38 = within-units x (twoTo 26) (2 ^ 38) limit-at p a in
     let bl : b .plus + b .minus ≤ 2 ^ 38 = within-units y (twoTo 26) (2 ^ 38) limit-at q b in
     subst (λ (z : ℤ). Exact (add binary64 x y) z)
-    (sym (ap (λ (z : ℤ). z +ℤ unitsOf y) (read-units x a) ∙ ap (λ (z : ℤ). subℕ (a .plus) (a .minus) +ℤ z) (read-units y b) ∙ add-units (a .plus) (a .minus) (b .plus) (b .minus)))
+    (sym (ap (λ (z : ℤ). z +ℤ gridUnits y) (read-units x a) ∙ ap (λ (z : ℤ). subℕ (a .plus) (a .minus) +ℤ z) (read-units y b) ∙ add-units (a .plus) (a .minus) (b .plus) (b .minus)))
     (exact-at (add binary64 x y) (a .plus + b .plus) (a .minus + b .minus) (add-at x y (a .plus) (a .minus) (b .plus) (b .minus) (a .at) (b .at) (omega arith) (omega arith)))
 
 -- ---- a corner

@@ -34,7 +34,7 @@ use Rattle.small_scenes.specs.Palette as T
 use Rattle.small_scenes.proofs.Tables.{tables-fit}
 
 -- ---- over a list
-pub record Fair (s : F.Moving) (stepsUp : Bool) : Type 0 where
+pub record Fair (s : F.MoveScene) (stepsUp : Bool) : Type 0 where
   pub onGrid : T (D.listOnGrid (F.listFor (s .boxes)) F.mover (s .delta) (s .step))
   pub accepted : E.moveOverList (F.listFor (s .boxes)) F.mover (s .delta) (s .step) (s .ground) .refusal ≡ 0
   pub kept : D.keepsStep (s .boxes) F.mover (s .delta) (s .step) (s .ground) ≡ stepsUp
@@ -48,26 +48,26 @@ unfolding C.choose N.sizeOf M.clipAll M.clipSequence M.steppedUp M.moveOver L.ar
 climbing-fair = record { onGrid = tt; accepted = refl; kept = refl }
 
 -- ---- through a window
-pub record FairIn (cells : List ℕ) (s : F.Moving) (stepsUp : Bool) : Type 0 where
-  pub onGrid : T (D.windowOnGrid T.records T.shapes cells S.window F.mover (s .delta) (s .step))
-  pub accepted : X.moveEntry T.records T.shapes cells S.window F.mover (s .delta) (s .step) (s .ground) .refusal ≡ 0
-  pub kept : D.keepsStepIn T.records T.shapes cells S.window F.mover (s .delta) (s .step) (s .ground) ≡ stepsUp
+pub record FairIn (cells : List ℕ) (s : F.MoveScene) (stepsUp : Bool) : Type 0 where
+  pub onGrid : T (D.windowOnGrid T.records T.shapes cells S.sampleWindow F.mover (s .delta) (s .step))
+  pub accepted : X.moveEntry T.records T.shapes cells S.sampleWindow F.mover (s .delta) (s .step) (s .ground) .refusal ≡ 0
+  pub kept : D.keepsStepIn T.records T.shapes cells S.sampleWindow F.mover (s .delta) (s .step) (s .ground) ≡ stepsUp
 
 -- the tables are taken; what is asked then computes
-taken : (cells : List ℕ) (s : F.Moving)
-    → X.moveEntry T.records T.shapes cells S.window F.mover (s .delta) (s .step) (s .ground)
+taken : (cells : List ℕ) (s : F.MoveScene)
+    → X.moveEntry T.records T.shapes cells S.sampleWindow F.mover (s .delta) (s .step) (s .ground)
     ≡ X.moveAnswer F.mover
-    (X.unless (not (eqb (W.windowRefusal (length cells) S.window) 0)) 2
+    (X.unless (not (eqb (W.windowRefusal (length cells) S.sampleWindow) 0)) 2
     (X.unless (not (L.isStep (s .step))) 3
     (X.unless (not (L.isBox F.mover && L.isDelta (s .delta))) 4
-    (X.moveAabb (U.lookAt cells S.window) T.records T.shapes F.mover (s .delta) (s .step) (s .ground)))))
+    (X.moveAabb (U.lookAt cells S.sampleWindow) T.records T.shapes F.mover (s .delta) (s .step) (s .ground)))))
 unfolding C.choose X.moveEntry
 taken cells s = rw tables-fit
 
 pub sliding-through : FairIn S.slidingCells F.p1 false
-unfolding C.choose N.sizeOf O.listed A.turning Y.every H.floorSize H.floorInt H.cellOf M.clipAll M.clipSequence M.steppedUp M.moveOver B.isRegistered B.boxesAt W.inside W.indexOf W.sizesFit W.coordinateFits W.originFits W.windowFits W.windowRefusal U.lookAt R.spanOf R.onFrom Q.line Q.layer Q.walk J.connectsAs J.connectedState P.connectedShape P.shapeOf P.cellShape P.offerAll P.visit P.collectBlockBoxes Z.settledBoxes X.moveAabb G.onGrid G.isProper G.isFree D.shapeOnGrid D.everyCell D.windowOnGrid D.keepsStep D.keepsStepIn T.records T.shapes S.window S.slidingCells I.ofInt I.ofBits I.round I.add I.sub I.mul I.neg I.lt I.le I.eq I.ne
+unfolding C.choose N.sizeOf O.listed A.turning Y.every H.floorSize H.floorInt H.cellOf M.clipAll M.clipSequence M.steppedUp M.moveOver B.isRegistered B.boxesAt W.inside W.indexOf W.sizesFit W.coordinateFits W.originFits W.windowFits W.windowRefusal U.lookAt R.spanOf R.onFrom Q.line Q.layer Q.walk J.connectsAs J.connectedState P.connectedShape P.shapeOf P.cellShape P.offerAll P.visit P.collectBlockBoxes Z.settledBoxes X.moveAabb G.onGrid G.isProper G.isFree D.shapeOnGrid D.everyCell D.windowOnGrid D.keepsStep D.keepsStepIn T.records T.shapes S.sampleWindow S.slidingCells I.ofInt I.ofBits I.round I.add I.sub I.mul I.neg I.lt I.le I.eq I.ne
 sliding-through = record { onGrid = tt; accepted = ap (λ (r : MoveAnswer). r .refusal) (taken S.slidingCells F.p1); kept = refl }
 
 pub climbing-through : FairIn S.climbingCells F.p4 true
-unfolding C.choose N.sizeOf O.listed A.turning Y.every H.floorSize H.floorInt H.cellOf M.clipAll M.clipSequence M.steppedUp M.moveOver B.isRegistered B.boxesAt W.inside W.indexOf W.sizesFit W.coordinateFits W.originFits W.windowFits W.windowRefusal U.lookAt R.spanOf R.onFrom Q.line Q.layer Q.walk J.connectsAs J.connectedState P.connectedShape P.shapeOf P.cellShape P.offerAll P.visit P.collectBlockBoxes Z.settledBoxes X.moveAabb G.onGrid G.isProper G.isFree D.shapeOnGrid D.everyCell D.windowOnGrid D.keepsStep D.keepsStepIn T.records T.shapes S.window S.climbingCells I.ofInt I.ofBits I.round I.add I.sub I.mul I.neg I.lt I.le I.eq I.ne
+unfolding C.choose N.sizeOf O.listed A.turning Y.every H.floorSize H.floorInt H.cellOf M.clipAll M.clipSequence M.steppedUp M.moveOver B.isRegistered B.boxesAt W.inside W.indexOf W.sizesFit W.coordinateFits W.originFits W.windowFits W.windowRefusal U.lookAt R.spanOf R.onFrom Q.line Q.layer Q.walk J.connectsAs J.connectedState P.connectedShape P.shapeOf P.cellShape P.offerAll P.visit P.collectBlockBoxes Z.settledBoxes X.moveAabb G.onGrid G.isProper G.isFree D.shapeOnGrid D.everyCell D.windowOnGrid D.keepsStep D.keepsStepIn T.records T.shapes S.sampleWindow S.climbingCells I.ofInt I.ofBits I.round I.add I.sub I.mul I.neg I.lt I.le I.eq I.ne
 climbing-through = record { onGrid = tt; accepted = ap (λ (r : MoveAnswer). r .refusal) (taken S.climbingCells F.p4); kept = refl }

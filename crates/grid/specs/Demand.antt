@@ -51,11 +51,11 @@ unfoldable pub between : Float → Float → Float → Bool
 between a b x = (le a x && le x b) || (le b x && le x a)
 
 -- 1/4096, and a way longer by it, towards the share
-abbrev pub unit : Float
-unit = fin false 1 (negsuc 11)
+abbrev pub gridUnit : Float
+gridUnit = fin false 1 (negsuc 11)
 
 unfoldable pub further : Float → Float → Float
-further way share = choose (lt zero64 share) (add binary64 way unit) (sub binary64 way unit)
+further way share = choose (lt zero64 share) (add binary64 way gridUnit) (sub binary64 way gridUnit)
 
 -- On one axis, where `at s` is the box after the way s along it: the way taken is a multiple of 1/4096 towards the share; no multiple on it,
 -- both ends counted, overlaps; and if it falls short of the share, one multiple further would overlap.
@@ -66,21 +66,21 @@ pub record Travels (Block : Aabb → Type 0) (at : Float → Aabb) (share way : 
   pub far : T (not (eq way share)) → Struck Block (at (further way share))
 
 -- a box moved along one axis, as the move does it
-abbrev pub alongX : Aabb → Float → Aabb
-alongX b s = offsetBy b (vec s zero64 zero64)
+abbrev pub movedX : Aabb → Float → Aabb
+movedX b s = offsetBy b (vec s zero64 zero64)
 
-abbrev pub alongY : Aabb → Float → Aabb
-alongY b s = offsetBy b (vec zero64 s zero64)
+abbrev pub movedY : Aabb → Float → Aabb
+movedY b s = offsetBy b (vec zero64 s zero64)
 
-abbrev pub alongZ : Aabb → Float → Aabb
-alongZ b s = offsetBy b (vec zero64 zero64 s)
+abbrev pub movedZ : Aabb → Float → Aabb
+movedZ b s = offsetBy b (vec zero64 zero64 s)
 
 -- y, then x, then z, each as far as it can
 pub record Farthest (Block : Aabb → Type 0) (aabb : Aabb) (delta : Vec3) (r : MoveResult) : Type 0 where
-  pub y : Travels Block (alongY aabb) (delta .y) (r .moved .y)
-  pub x : Travels Block (alongX (alongY aabb (r .moved .y))) (delta .x) (r .moved .x)
-  pub z : Travels Block (alongZ (alongX (alongY aabb (r .moved .y)) (r .moved .x))) (delta .z) (r .moved .z)
-  pub end : r .aabb ≡ alongZ (alongX (alongY aabb (r .moved .y)) (r .moved .x)) (r .moved .z)
+  pub y : Travels Block (movedY aabb) (delta .y) (r .moved .y)
+  pub x : Travels Block (movedX (movedY aabb (r .moved .y))) (delta .x) (r .moved .x)
+  pub z : Travels Block (movedZ (movedX (movedY aabb (r .moved .y)) (r .moved .x))) (delta .z) (r .moved .z)
+  pub end : r .aabb ≡ movedZ (movedX (movedY aabb (r .moved .y)) (r .moved .x)) (r .moved .z)
 
 pub record Demand3 (Block : Aabb → Type 0) (stepKept : Bool) (aabb : Aabb) (delta : Vec3) (r : MoveResult) : Type 0 where
   pub free : Free Block (r .aabb)

@@ -19,11 +19,11 @@ abbrev pub unlinked : ℕ → List ℕ
 unlinked faces = 0 ∷ 0 ∷ 0 ∷ 0 ∷ 0 ∷ 0 ∷ 0 ∷ 0 ∷ 0 ∷ 0 ∷ faces ∷ []
 
 -- one box, that blocks motion
-abbrev pub block : ℕ → ℕ → List ℕ
-block first faces = firstWords 3 0 0 0 first 1 ++ unlinked faces
+abbrev pub solidRow : ℕ → ℕ → List ℕ
+solidRow first faces = firstWords 3 0 0 0 first 1 ++ unlinked faces
 
-abbrev pub water : ℕ → List ℕ
-water depth = firstWords 1 1 depth 0 0 0 ++ unlinked 0
+abbrev pub waterRow : ℕ → List ℕ
+waterRow depth = firstWords 1 1 depth 0 0 0 ++ unlinked 0
 
 -- i with a bit off, and on
 unfoldable pub off : ℕ → ℕ → ℕ
@@ -54,8 +54,8 @@ rows f (suc n) i = f i ++ rows f n (i + 1)
 abbrev pub air : ℕ
 air = 0
 
-abbrev pub cube : ℕ
-cube = 1
+abbrev pub fullCube : ℕ
+fullCube = 1
 
 abbrev pub slab : ℕ
 slab = 2
@@ -86,11 +86,11 @@ unloaded = 4294967295
 unfoldable pub records : List ℕ
 records =
     (firstWords 1 0 0 0 0 0 ++ unlinked 0)
-    ++ (block 0 15
-    ++ (block 1 0
-    ++ (water 0
-    ++ (water 1
-    ++ (water 4
+    ++ (solidRow 0 15
+    ++ (solidRow 1 0
+    ++ (waterRow 0
+    ++ (waterRow 1
+    ++ (waterRow 4
     ++ (rows (fence oakFence 1) 16 0
     ++ (rows (fence netherBrickFence 2) 16 0
     ++ rows (wall plainWall) 32 0)))))))

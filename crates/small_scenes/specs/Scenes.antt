@@ -21,12 +21,12 @@ use Rattle.window.specs.Window.{windowRefusal}
 use Rattle.window.specs.Look.{lookAt}
 use Rattle.connect.specs.Connect.{connectedState}
 use Rattle.liquids.specs.Living.{livingLiquid}
-use Rattle.small_scenes.specs.Moves.{part, w, mover, Moving, listFor, p1, p2, p3, p4, p5, p6}
-use Rattle.small_scenes.specs.Palette.{records, shapes, air, cube, water0, water1, water4, oakFence, netherBrickFence, plainWall, unloaded}
+use Rattle.small_scenes.specs.Moves.{ratio, whole, mover, MoveScene, listFor, p1, p2, p3, p4, p5, p6}
+use Rattle.small_scenes.specs.Palette.{records, shapes, air, fullCube, water0, water1, water4, oakFence, netherBrickFence, plainWall, unloaded}
 use Rattle.small_scenes.specs.Windows.{middle, around, cellsAround, flat, upright, flowAmong}
 
 -- A fence or wall of the palette in the middle of a window: what lies north, east, south, west and above; then the state that it comes to.
-pub record Joining : Type 0 where
+pub record JoinScene : Type 0 where
   pub it : ℕ
   pub north : ℕ
   pub east : ℕ
@@ -36,21 +36,21 @@ pub record Joining : Type 0 where
   pub comes-to : ℕ
 
 -- Water of depth 0 in the middle of one layer of three cells a side, rows from the north and cells from the west: how it flows.
-pub record Flowing : Type 0 where
+pub record FlowScene : Type 0 where
   pub cells : List ℕ
   pub flows : Vec3
 
 -- A living body, 0.5 wide and 1 high, in a cell of water of depth 4 with air above, its feet this far above the cell's base: what it is in.
-pub record Wading : Type 0 where
+pub record WadeScene : Type 0 where
   pub feet : Float
   pub within : LiquidKind
 
 -- one kind for each thing that the table speaks of
 pub data Scene : Type 0 where
-  move : Moving → Scene
-  join : Joining → Scene
-  flow : Flowing → Scene
-  wade : Wading → Scene
+  move : MoveScene → Scene
+  join : JoinScene → Scene
+  flow : FlowScene → Scene
+  wade : WadeScene → Scene
 
 -- bit for bit
 abbrev pub same : Float → Float → Bool
@@ -88,7 +88,7 @@ holds (flow f) = isFoundIn (f .cells) flat (sameVec (f .flows)) (flowAmong (f .c
 holds (wade b) =
     let cells : List ℕ = water4 ∷ air ∷ [] in
     isFoundIn cells upright (λ kind. eqb (kindNumber kind) (kindNumber (b .within)))
-    (livingLiquid (lookAt cells upright) records (fromFeet (vec (part 1 2) (b .feet) (part 1 2)) (part 1 2) (w 1)))
+    (livingLiquid (lookAt cells upright) records (fromFeet (vec (ratio 1 2) (b .feet) (ratio 1 2)) (ratio 1 2) (whole 1)))
 
 unfoldable pub allHold : List Scene → Bool
 allHold [] = true
@@ -105,14 +105,14 @@ scenes =
     ∷ move p5
     ∷ move p6
     -- P7: an oak fence joins north (1) and east (2) only
-    ∷ join record { it = oakFence; north = unloaded; east = cube; south = air; west = netherBrickFence; above = air; comes-to = oakFence + 1 + 2 }
+    ∷ join record { it = oakFence; north = unloaded; east = fullCube; south = air; west = netherBrickFence; above = air; comes-to = oakFence + 1 + 2 }
     -- P8: a wall joined north (1) and south (4), unloaded above: no post (16)
     ∷ join record { it = plainWall; north = plainWall; east = air; south = plainWall; west = air; above = unloaded; comes-to = plainWall + 1 + 4 }
     -- P9: depth 1 to the east, the rest walled
-    ∷ flow record { cells = cube ∷ cube ∷ cube ∷ cube ∷ water0 ∷ water1 ∷ cube ∷ cube ∷ cube ∷ []; flows = vec (w 1) (w 0) (w 0) }
+    ∷ flow record { cells = fullCube ∷ fullCube ∷ fullCube ∷ fullCube ∷ water0 ∷ water1 ∷ fullCube ∷ fullCube ∷ fullCube ∷ []; flows = vec (whole 1) (whole 0) (whole 0) }
     -- P10: feet at 0.5 wet, at 0.5625 dry
-    ∷ wade record { feet = part 1 2; within = Water }
-    ∷ wade record { feet = part 9 16; within = None }
+    ∷ wade record { feet = ratio 1 2; within = Water }
+    ∷ wade record { feet = ratio 9 16; within = None }
     ∷ []
 
 -- the statement: the tables pass their check, and every scene is as the document says

@@ -19,12 +19,12 @@ unfoldable pub around : Window
 around = record { origin = record { x = negsuc 0; y = negsuc 0; z = negsuc 0 }; sizes = record { x = 3; y = 3; z = 3 } }
 
 -- one layer of its cells
-abbrev pub layer : ℕ → ℕ → ℕ → ℕ → ℕ → List ℕ
-layer north east south west it = air ∷ north ∷ air ∷ west ∷ it ∷ east ∷ air ∷ south ∷ air ∷ []
+abbrev pub crossOf : ℕ → ℕ → ℕ → ℕ → ℕ → List ℕ
+crossOf north east south west it = air ∷ north ∷ air ∷ west ∷ it ∷ east ∷ air ∷ south ∷ air ∷ []
 
 -- its cells, with these around the middle, and air elsewhere
 unfoldable pub cellsAround : ℕ → ℕ → ℕ → ℕ → ℕ → ℕ → List ℕ
-cellsAround north east south west above it = layer air air air air air ++ (layer north east south west it ++ layer air air air air above)
+cellsAround north east south west above it = crossOf air air air air air ++ (crossOf north east south west it ++ crossOf air air air air above)
 
 -- the middle layer alone
 unfoldable pub flat : Window
