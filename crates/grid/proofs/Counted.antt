@@ -13,7 +13,7 @@ use Rattle.floats.specs.Numbers.{zero64, leastOf, greatestOf}
 use Rattle.boxes.specs.declared.Aabb.{Aabb}
 use Rattle.boxes.specs.Boxes.{meet, overlap, apart, stopAt, clipX, clipY, clipZ}
 use Rattle.boxes.specs.Move.{clipAll}
-use Rattle.grid.specs.Demand.{alongX, alongY, alongZ}
+use Rattle.grid.specs.Demand.{movedX, movedY, movedZ}
 use Rattle.grid.proofs.Units.{At, add-at, sub-at, at-same, lt-is, le-is}
 use Rattle.grid.proofs.Axis.{Span, meets, meets→, →meets, slid, clip, clips}
 use Rattle.grid.proofs.Whole.{Box, Solid, Overlap, toX, toY, toZ, besideX, besideY, besideZ, endX, endY, endZ}
@@ -237,13 +237,13 @@ still : (a b : Float) (s : Span) → OnSpan a b s → OnSpan (add binary64 a zer
 still a b s h = record { lo = stays a (s .lo) (h .lo); hi = stays b (s .hi) (h .hi) }
 
 module _ (m : Aabb) (v : Box) (M : On m v) (S : Solid v) (t : Float) (q : ℕ) where
-  pub on-x : Leads t (v .x) q → On (alongX m t) (toX v q)
+  pub on-x : Leads t (v .x) q → On (movedX m t) (toX v q)
   on-x L = record { x = offset-at (m .min .x) (m .max .x) t (v .x) q (S .x) (M .x) L; y = still (m .min .y) (m .max .y) (v .y) (M .y); z = still (m .min .z) (m .max .z) (v .z) (M .z) }
 
-  pub on-y : Leads t (v .y) q → On (alongY m t) (toY v q)
+  pub on-y : Leads t (v .y) q → On (movedY m t) (toY v q)
   on-y L = record { x = still (m .min .x) (m .max .x) (v .x) (M .x); y = offset-at (m .min .y) (m .max .y) t (v .y) q (S .y) (M .y) L; z = still (m .min .z) (m .max .z) (v .z) (M .z) }
 
-  pub on-z : Leads t (v .z) q → On (alongZ m t) (toZ v q)
+  pub on-z : Leads t (v .z) q → On (movedZ m t) (toZ v q)
   on-z L = record { x = still (m .min .x) (m .max .x) (v .x) (M .x); y = still (m .min .y) (m .max .y) (v .y) (M .y); z = offset-at (m .min .z) (m .max .z) t (v .z) q (S .z) (M .z) L }
 
 -- ---- overlaps

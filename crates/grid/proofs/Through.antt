@@ -12,8 +12,6 @@ use lib.Ieee.{Float}
 use lib.Ieee.Fits.{and-i, and-l, and-r}
 use Rattle.base.specs.Choose.{choose}
 use Rattle.base.specs.Ask.{Ask, refused, found, _>>=_}
-use Rattle.base.specs.Every.{every}
-use Rattle.base.proofs.Every.{every-at}
 use Rattle.boxes.specs.declared.Vec3.{Vec3}
 use Rattle.boxes.specs.declared.Aabb.{Aabb}
 use Rattle.boxes.specs.declared.MoveResult.{MoveResult}
@@ -21,7 +19,7 @@ use Rattle.boxes.specs.declared.MoveAnswer.{MoveAnswer}
 use Rattle.boxes.specs.Boxes.{overlap}
 use Rattle.boxes.specs.Move.{moveOver}
 use Rattle.boxes.specs.Limits.{isBox, isDelta, isStep}
-use Rattle.tables.specs.Check.{tablesFit, tableRefusal}
+use Rattle.tables.specs.Check.{tableRefusal}
 use Rattle.window.specs.declared.Pos.{Pos}
 use Rattle.window.specs.declared.Window.{Window}
 use Rattle.window.specs.Window.{windowFits, windowRefusal}
@@ -35,7 +33,7 @@ use Rattle.moves.specs.Answers.{sweptArea, moveAabb, moveAnswer, moveEntry}
 use Rattle.moves.proofs.Order.{keptOf, collected-is, is-collected}
 use Rattle.moves.proofs.Refuses.{FiveOrSix, collect-refuses}
 use Rattle.grid.specs.Grid.{onGrid, vecOnGrid, isProper, isFree}
-use Rattle.grid.specs.Demand.{Demand3, keepsStep, IsSettled, shapesOnGrid, cellFrom, isFreeIn, windowOnGrid, keepsAmong, keepsStepIn, WindowDemand}
+use Rattle.grid.specs.Demand.{Demand3, keepsStep, IsSettled, shapesOnGrid, isFreeIn, windowOnGrid, keepsAmong, keepsStepIn, WindowDemand}
 use Rattle.grid.proofs.Units.{T-true}
 use Rattle.grid.proofs.Axis.{Span, Meets}
 use Rattle.grid.proofs.Whole.{Box, Solid, Overlap}
@@ -44,7 +42,7 @@ use Rattle.grid.proofs.Readings.{Knowns}
 use Rattle.grid.proofs.Courses.{Aside}
 use Rattle.grid.proofs.Starts.{Start, start, areaOf, from-start}
 use Rattle.grid.proofs.Cells.{in-cells, in-layers}
-use Rattle.grid.proofs.Blocks.{InCells, Settled, block}
+use Rattle.grid.proofs.Blocks.{InCells, Settled, at-cell, block}
 use Rattle.grid.proofs.Areas.{area, area-on}
 
 -- ---- what is in the lists together is in one of them
@@ -133,7 +131,7 @@ turned a b o = record { x = flip (o .x); y = flip (o .y); z = flip (o .z) }
     flip : {s t : Span} → Meets s t → Meets t s
     flip m = record { under = m .over; over = m .under }
 
-module _ (records : List ℕ) (shapes : List Float) (cells : List ℕ) (w : Window) (R : tablesFit records shapes ≡ true) (W : windowFits (length cells) w ≡ true) (G : T (shapesOnGrid records shapes))
+module _ (records : List ℕ) (shapes : List Float) (cells : List ℕ) (w : Window) (W : windowFits (length cells) w ≡ true) (G : T (shapesOnGrid records shapes cells w))
     (m : Aabb) (d : Vec3) (h : Float) (s : Start m d h) (bs : List Aabb) (C : collectBlockBoxes (lookAt cells w) records shapes (sweptArea m d h) ≡ found bs) where
   -- what was collected is a box of a settled cell
   back : (o : Aabb) → List·Memᴰ o bs → IsSettled records shapes cells w o
@@ -177,9 +175,9 @@ module _ (records : List ℕ) (shapes : List Float) (cells : List ℕ) (w : Wind
   seen o c = go (overlap o (sweptArea m d h)) refl
     where
       go : (t : Bool) → overlap o (sweptArea m d h) ≡ t → List·Memᴰ o bs ⊎ Aside (areaOf s) o
-      go true e = inl (collected o (c .cell) (c .is) (block records shapes cells w R W G (c .cell) o (c .is)) e)
+      go true e = inl (collected o (c .cell) (c .is) (block records shapes cells w W G (c .cell) o (c .is)) e)
       go false e =
-          let k = box-known (block records shapes cells w R W G (c .cell) o (c .is) .box) in
+          let k = box-known (block records shapes cells w W G (c .cell) o (c .is) .box) in
           inr record {
             box = k .box;
             on = k .on;
@@ -187,22 +185,14 @@ module _ (records : List ℕ) (shapes : List Float) (cells : List ℕ) (w : Wind
           }
 
   known : (o : Aabb) → List·Memᴰ o bs → Known o
-  known o n = let c = back o n in box-known (block records shapes cells w R W G (c .cell) o (c .is) .box)
+  known o n = let c = back o n in box-known (block records shapes cells w W G (c .cell) o (c .is) .box)
 
   -- no overlap at the start
   start-clear : T (isFreeIn records shapes cells w m) → (o : Aabb) → IsSettled records shapes cells w o → T (not (overlap m o))
-  unfolding isFreeIn
   start-clear t o c =
-      let i = block records shapes cells w R W G (c .cell) o (c .is) .place in
       let at = settledBoxes (lookAt cells w) records shapes in
-      let ly = every-at (w .sizes .y) (λ y. every (w .sizes .x) (λ x. every (w .sizes .z) (λ z. isFree m (at (cellFrom w x y z))))) (T-true (isFreeIn records shapes cells w m) t) (i .y .index) (i .y .below) in
-      let lx = every-at (w .sizes .x) (λ x. every (w .sizes .z) (λ z. isFree m (at (cellFrom w x (i .y .index) z)))) ly (i .x .index) (i .x .below) in
-      let lz = every-at (w .sizes .z) (λ z. isFree m (at (cellFrom w (i .x .index) (i .y .index) z))) lx (i .z .index) (i .z .below) in
-      let ex = i .x .from in
-      let ey = i .y .from in
-      let ez = i .z .from in
-      let e : cellFrom w (i .x .index) (i .y .index) (i .z .index) ≡ c .cell = (λ j. record { x = ex j; y = ey j; z = ez j }) in
-      free-at m o (at (c .cell)) (c .is) (subst (λ (p : Pos). T (isFree m (at p))) e (subst T (sym lz) tt))
+      let i = block records shapes cells w W G (c .cell) o (c .is) .place in
+      free-at m o (at (c .cell)) (c .is) (at-cell w (λ p. isFree m (at p)) (c .cell) i t)
 
   through : T (isFreeIn records shapes cells w m) → (ground : Bool) → Demand3 (IsSettled records shapes cells w) (keepsStep bs m d h ground) m d (moveOver bs m d h ground)
   through t =
@@ -241,11 +231,6 @@ no-not : (b : Bool) → not b ≡ false → T b
 no-not true e = tt
 no-not false e = absurd (subst T e tt)
 
-fitted : (b : Bool) → not (eqb (choose b 0 1) 0) ≡ false → b ≡ true
-unfolding choose
-fitted true e = refl
-fitted false e = absurd (subst T e tt)
-
 pub demand3-window : WindowDemand
 unfolding moveEntry moveAabb windowOnGrid keepsStepIn
 demand3-window records shapes cells w m d h ground t e =
@@ -254,14 +239,13 @@ demand3-window records shapes cells w m d h ground t e =
     (collect-refuses cells w records shapes (sweptArea m d h) .only) e in
     let bs = a .boxes in
     let W = N.accepted (length cells) w (eqb→eq (windowRefusal (length cells) w) 0 (no-not (eqb (windowRefusal (length cells) w) 0) (a .two))) in
-    let R = fitted (tablesFit records shapes) (a .one) in
     let bd = no-not (isBox m && isDelta d) (a .four) in
-    let t1 = and-r (isProper m) (shapesOnGrid records shapes && (vecOnGrid d && (onGrid h && isFreeIn records shapes cells w m))) t in
-    let t2 = and-r (shapesOnGrid records shapes) (vecOnGrid d && (onGrid h && isFreeIn records shapes cells w m)) t1 in
+    let t1 = and-r (isProper m) (shapesOnGrid records shapes cells w && (vecOnGrid d && (onGrid h && isFreeIn records shapes cells w m))) t in
+    let t2 = and-r (shapesOnGrid records shapes cells w) (vecOnGrid d && (onGrid h && isFreeIn records shapes cells w m)) t1 in
     let t3 = and-r (vecOnGrid d) (onGrid h && isFreeIn records shapes cells w m) t2 in
-    let s : Start m d h = start m d h (and-l (isBox m) (isDelta d) bd) (and-l (isProper m) (shapesOnGrid records shapes && (vecOnGrid d && (onGrid h && isFreeIn records shapes cells w m))) t)
+    let s : Start m d h = start m d h (and-l (isBox m) (isDelta d) bd) (and-l (isProper m) (shapesOnGrid records shapes cells w && (vecOnGrid d && (onGrid h && isFreeIn records shapes cells w m))) t)
     (and-r (isBox m) (isDelta d) bd) (and-l (vecOnGrid d) (onGrid h && isFreeIn records shapes cells w m) t2) (no-not (isStep h) (a .three)) (and-l (onGrid h) (isFreeIn records shapes cells w m) t3) in
-    let r = through records shapes cells w R W (and-l (shapesOnGrid records shapes) (vecOnGrid d && (onGrid h && isFreeIn records shapes cells w m)) t1) m d h s bs (a .collects) (and-r (onGrid h) (isFreeIn records shapes cells w m) t3) ground in
+    let r = through records shapes cells w W (and-l (shapesOnGrid records shapes cells w) (vecOnGrid d && (onGrid h && isFreeIn records shapes cells w m)) t1) m d h s bs (a .collects) (and-r (onGrid h) (isFreeIn records shapes cells w m) t3) ground in
     let k : keepsAmong c m d h ground ≡ keepsStep bs m d h ground = ap (λ (x : Ask (List Aabb)). keepsAmong x m d h ground) (a .collects) in
     subst (λ (q : MoveResult). Demand3 (IsSettled records shapes cells w) (keepsAmong c m d h ground) m d q) (sym (a .result))
     (subst (λ (q : Bool). Demand3 (IsSettled records shapes cells w) q m d (moveOver bs m d h ground)) (sym k) r)
