@@ -73,7 +73,7 @@ def as_numpy(a):
 
 
 COUNTS = {name: Count(name) for name in ("tick", "step", "files that are no scenes", "step_checked", "steps", "check_tables", "move",
-                                         "move_over_list", "step of numpy's arrays")}
+                                         "move_over_list", "step of numpy's arrays", "two ticks at a door")}
 
 
 def one_scene(name, theirs):
@@ -117,6 +117,21 @@ def case_a():
     COUNTS["move"].add("case A", move_text(mover, asked(b.move, tables, window, mover)), move_text(mover, theirs))
 
 
+def doors():
+    """What docs/MODERATORS.md says of two ticks at a door: the first ends one rounding inside it, the second behind it."""
+    def answer(name):
+        with open("examples/%s.txt" % name) as f:
+            scene = scenefile.written(f.read())
+        return scene, asked(b.step, *parts(scene))
+
+    first, stopped = answer("door-1")
+    second, passed = answer("door-2")
+    half = scenefile.value(first.body, scenefile.BODY["width"]) / 2
+    start = tuple(scenefile.values(second.body, scenefile.BODY["position"]))
+    COUNTS["two ticks at a door"].add("stopped", (stopped.feet, stopped.velocity[0], stopped.feet[0] + half), (start, 0.0, -1.9999999999999998))
+    COUNTS["two ticks at a door"].add("passed", (passed.feet[0], passed.feet[0] - half > -2 + 0.1875), (-1.4999999999999996, True))
+
+
 def main():
     with open("crates/replay/stdout") as f:
         for line in f.read().splitlines():
@@ -125,6 +140,7 @@ def main():
             elif line.startswith("movelist "):
                 one_list(*line.split("=> ", 1))
     case_a()
+    doors()
     left_out = ([] if b.has("tick") else ["tick"]) + ([] if numpy else ["step of numpy's arrays"])
     for what in left_out:
         print("Python, %s: not tried, it is not there" % COUNTS.pop(what).what)
