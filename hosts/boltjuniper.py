@@ -101,6 +101,7 @@ DECLARED = {
     "step_checked": TABLES + WINDOW + BODY + SLICE,
     "move": TABLES + WINDOW + SLICE + STEP + SLICE,
     "move_over_list": SLICE * 2 + STEP + SLICE,
+    "collected": TABLES + WINDOW + SLICE + [ctypes.c_double] + SLICE,
     "tick": SLICE * 2,
 }
 _loaded = {}
@@ -187,9 +188,14 @@ class _Lent:
         self.arguments += _whole([body.age], 0, 2**64)
         return self
 
-    def mover(self, mover):
+    def swept(self, mover):
         self.slice("mover", [*mover.aabb, *mover.delta], "d")
-        self.arguments += [mover.step, *_whole([mover.ground], 0, 2**32)]
+        self.arguments.append(mover.step)
+        return self
+
+    def mover(self, mover):
+        self.swept(mover)
+        self.arguments += _whole([mover.ground], 0, 2**32)
         return self
 
     def answer(self, name, numbers):
@@ -246,6 +252,12 @@ def tick(file):
 def move(tables, window, mover):
     """The move of a box through a window."""
     return _judged(_moved(_Lent().tables(tables).window(window).mover(mover).answer("move", 10)))
+
+
+def collected(tables, window, mover):
+    """The boxes that a move through a window collects, each least x y z and greatest x y z, in their order."""
+    out = _judged(_Lent().tables(tables).window(window).swept(mover).answer("collected", 1 + 6 * 128))
+    return [tuple(out[1 + 6 * k:7 + 6 * k]) for k in range(int(out[0]))]
 
 
 def move_over_list(boxes, mover):

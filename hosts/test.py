@@ -73,7 +73,7 @@ def as_numpy(a):
 
 
 COUNTS = {name: Count(name) for name in ("tick", "step", "files that are no scenes", "step_checked", "steps", "check_tables", "move",
-                                         "move_over_list", "step of numpy's arrays", "two ticks at a door")}
+                                         "move_over_list", "collected", "step of numpy's arrays", "two ticks at a door")}
 
 
 def one_scene(name, theirs):
@@ -108,24 +108,30 @@ def one_list(call, theirs):
     COUNTS["move_over_list"].add(call, move_text(mover, asked(b.move_over_list, numbers[10:], mover)), theirs)
 
 
+def example(name):
+    with open("examples/%s.txt" % name) as f:
+        return scenefile.written(f.read())
+
+
 def case_a():
     """Case A of the requirements: what its step does to the box."""
-    with open("examples/case-a.txt") as f:
-        tables, window, _ = parts(scenefile.written(f.read()))
+    tables, window, _ = parts(example("case-a"))
     mover = b.Mover((0.0, 1.25, 0.0, 1.0, 2.25, 1.0), (0.25, -0.5, 0.0))
     theirs = b.Moved((0.25, 1.0, 0.0, 1.25, 2.0, 1.0), (0.25, -0.25, 0.0), True)
     COUNTS["move"].add("case A", move_text(mover, asked(b.move, tables, window, mover)), move_text(mover, theirs))
+    if b.has("collected"):
+        COUNTS["collected"].add("case A", asked(b.collected, tables, window, mover), [(0, 0, 0, 1, 1, 1), (1, 0, 0, 2, 1, 1)])
+        COUNTS["collected"].add("step height", asked(b.collected, tables, window, mover._replace(step=5.0)), b.Refused(3))
+        # of the fence, joined to the unloaded cell, the arm alone lies in the way
+        tables, window, _ = parts(example("fence-unloaded"))
+        mover = b.Mover((1.6875, 1.0, 0.625, 1.9375, 1.25, 0.875), (0.0, 0.0, 0.75))
+        COUNTS["collected"].add("fence", asked(b.collected, tables, window, mover), [(1.625, 1.0, 1.375, 2.0, 2.5, 1.625)])
 
 
 def doors():
     """What docs/MODERATORS.md says of two ticks at a door: the first ends one rounding inside it, the second behind it."""
-    def answer(name):
-        with open("examples/%s.txt" % name) as f:
-            scene = scenefile.written(f.read())
-        return scene, asked(b.step, *parts(scene))
-
-    first, stopped = answer("door-1")
-    second, passed = answer("door-2")
+    first, second = example("door-1"), example("door-2")
+    stopped, passed = (asked(b.step, *parts(scene)) for scene in (first, second))
     half = scenefile.value(first.body, scenefile.BODY["width"]) / 2
     start = tuple(scenefile.values(second.body, scenefile.BODY["position"]))
     COUNTS["two ticks at a door"].add("stopped", (stopped.feet, stopped.velocity[0], stopped.feet[0] + half), (start, 0.0, -1.9999999999999998))
@@ -141,7 +147,7 @@ def main():
                 one_list(*line.split("=> ", 1))
     case_a()
     doors()
-    left_out = ([] if b.has("tick") else ["tick"]) + ([] if numpy else ["step of numpy's arrays"])
+    left_out = [name for name in ("tick", "collected") if not b.has(name)] + ([] if numpy else ["step of numpy's arrays"])
     for what in left_out:
         print("Python, %s: not tried, it is not there" % COUNTS.pop(what).what)
     fine = [count.tell() for count in COUNTS.values()]

@@ -19,7 +19,7 @@ text { font: 13px sans-serif; fill: #222 } .title { font-size: 20px; font-weight
 .air { fill: #fff } .outside { fill: url(#outside) } .unloaded { fill: url(#unloaded) } .unregistered { fill: url(#unregistered) }
 .water { fill: #7db7f0; fill-opacity: 0.6 } .lava { fill: #f08a4b; fill-opacity: 0.7 }
 .cube { fill: #b9b9b9; stroke: #777 } .part { fill: #d9c7a0; stroke: #8a7748 } .joins { fill: #c79a6b; stroke: #7a5230 }
-.reaches { fill: none; stroke: #7a5230; stroke-dasharray: 2 3 } .collected { fill: none; stroke: #e06c00; stroke-width: 2.5 }
+.reaches { fill: none; stroke: #7a5230; stroke-dasharray: 2 3 } .collected { fill: #e06c00; fill-opacity: 0.15; stroke: #e06c00; stroke-width: 2.5 }
 .before { fill: #3366cc; fill-opacity: 0.12; stroke: #3366cc; stroke-width: 2; stroke-dasharray: 6 4 }
 .after { fill: #1a8a3a; fill-opacity: 0.18; stroke: #1a8a3a; stroke-width: 2 } .faint { fill: none; stroke-opacity: 0.35; stroke-width: 1 }
 .way { stroke: #c2185b; stroke-width: 2; fill: none; marker-end: url(#tip) } .mark { fill: #222; font-size: 15px; font-weight: bold }
@@ -85,6 +85,9 @@ class World:
             kind = "joins" if joins else "cube" if box == [0, 0, 0, 1, 1, 1] else "part"
             yield kind, [b + cell[k % 3] for k, b in enumerate(box)]
 
+    def has_liquid(self):
+        return any(value(r, STATE["liquid"]) for r in self.records)
+
     def liquid(self, cell):
         """Its kind and the height of its surface."""
         state = self.at(cell)
@@ -97,17 +100,38 @@ def body_box(feet, width, height):
     return [x - width / 2, y, z - width / 2, x + width / 2, y + height, z + width / 2]
 
 
-def ticked(scene):
-    """The tick by the library: where the body comes to, or nothing; and a line that says so."""
-    tables, window, body = arrays(scene)
-    try:
-        t = boltjuniper.step(boltjuniper.Tables(*tables), boltjuniper.Window(*window), boltjuniper.Body(*body))
-    except boltjuniper.NotBuilt:
-        return None, "After: not worked out here, since the library is not built (hosts/build makes it)."
-    except boltjuniper.Refused as refused:
-        return None, "After: refused %d. %s It says nothing about the body." % (refused.number, refused.sentence)
-    liquid = "" if t.liquid == "none" else ", in %s" % t.liquid
-    return t.feet, "After: feet %s, velocity %s, %s%s." % (said(t.feet), said(t.velocity), "on the ground" if t.ground else "in the air", liquid)
+class Tick:
+    """The tick by the library: `feet`, where the body comes to, or nothing; `collected`, the boxes of its move; and what is said of both."""
+
+    def __init__(self, scene, before, has_liquid):
+        tables, window, body = arrays(scene)
+        self.feet, self.collected, self.unsaid = None, [], "the library has no function that tells them"
+        lent = boltjuniper.Tables(*tables), boltjuniper.Window(*window)
+        try:
+            t = boltjuniper.step(*lent, boltjuniper.Body(*body))
+        except boltjuniper.NotBuilt:
+            self.line = "After: not worked out here, since the library is not built (hosts/build makes it)."
+            return
+        except boltjuniper.Refused as refused:
+            self.line = "After: refused %d. %s It says nothing about the body." % (refused.number, refused.sentence)
+            return
+        liquid = "" if t.liquid == "none" else ", in %s" % t.liquid
+        self.feet = t.feet
+        self.line = "After: feet %s, velocity %s, %s%s." % (said(t.feet), said(t.velocity), "on the ground" if t.ground else "in the air", liquid)
+        if boltjuniper.has("collected"):
+            self.collect(scene, lent, before, has_liquid)
+
+    def collect(self, scene, lent, before, has_liquid):
+        """The boxes of the move, whose delta is the velocity, and gravity where it comes before the move. An item's is not known from outside where
+        there may be a current, or where it may be at rest."""
+        number = {key: value(scene.body, BODY[key]) for key in ("model", "stage", "gravity", "step_height")}
+        if number["model"] == 0 and (has_liquid or list(self.feet) == values(scene.body, BODY["position"])):
+            self.unsaid = "an item's own way through a liquid, or at rest, is not told"
+            return
+        x, y, z = values(scene.body, BODY["velocity"])
+        delta = (x, y - number["gravity"] if number["stage"] == 0 else y, z)
+        self.collected = boltjuniper.collected(*lent, boltjuniper.Mover(tuple(before), delta, number["step_height"]))
+        self.unsaid = ""
 
 
 # ---- panels
@@ -135,11 +159,14 @@ class Panel:
         if x1 > x0 and y1 != y0:
             self.out.append(rectangle(x0, min(y0, y1), x1 - x0, abs(y1 - y0), cls))
 
+    def meets(self, b):
+        return b[self.depth] < self.high[self.depth] + 1 and b[self.depth + 3] > self.low[self.depth]
+
     def cells(self):
         ranges = [range(self.low[k], self.high[k] + 1) for k in range(3)]
         return [(x, y, z) for y in ranges[1] for x in ranges[0] for z in ranges[2]]
 
-    def draw(self, world, before, after):
+    def draw(self, world, before, after, collected):
         self.out.append(words(self.left, 18, self.title))
         for cell in self.cells():
             self.ground(world, cell)
@@ -154,10 +181,12 @@ class Panel:
         for cell in self.cells():
             self.label(world, cell)
         self.ruler()
+        for box in collected:
+            if self.meets(box):
+                self.box(box, "collected")
         for cls, box in (("before", before), ("after", after)):
             if box:
-                met = box[self.depth] < self.high[self.depth] + 1 and box[self.depth + 3] > self.low[self.depth]
-                self.box(box, "body %s%s" % (cls, "" if met else " faint"))
+                self.box(box, "body %s%s" % (cls, "" if self.meets(box) else " faint"))
         if after:
             self.way(before, after)
         return self
@@ -274,20 +303,23 @@ def picture(scene, name):
         told += [words(14, 76 + 18 * k, line) for k, line in enumerate(lines)]
         return wrapped(told, 90 + 18 * len(lines))
     extent = [value(scene.body, BODY[key]) for key in ("width", "height")]
-    end, line = ticked(scene)
-    before, after = body_box(feet, *extent), body_box(end, *extent) if end else None
-    told.append(words(14, 74, line))
+    world, before = World(scene), body_box(feet, *extent)
+    tick = Tick(scene, before, world.has_liquid())
+    after = body_box(tick.feet, *extent) if tick.feet else None
     boxes = [before] + ([after] if after else [])
+    told.append(words(14, 74, tick.line))
     low, high, cut = shown(boxes, velocity)
     if cut:
         told.append(words(14, 94, "Only the cells nearest to the body are shown."))
-    world, scale = World(scene), min(64, max(16, 400 // max(high[k] + 1 - low[k] for k in range(3))))
-    drawn, y = flowed("From the side", [p.draw(world, before, after) for p in sides(low, high, boxes, scale)], 110)
-    more, y = flowed("From above, layer by layer", [p.draw(world, before, after) for p in layers(low, high, boxes, scale)], y + 10)
-    drawn += more
+    scale = min(64, max(16, 400 // max(high[k] + 1 - low[k] for k in range(3))))
+    drawn, y = [], 110
+    for title, panels in (("From the side", sides(low, high, boxes, scale)), ("From above, layer by layer", layers(low, high, boxes, scale))):
+        more, y = flowed(title, [p.draw(world, before, after, tick.collected) for p in panels], y)
+        drawn, y = drawn + more, y + 10
     used = {cls for cls, _ in LEGEND if any('%s"' % cls in d or "%s " % cls in d for d in drawn)}
-    below, y = legend(used, y + 6)
-    below.append(words(14, y + 6, "Small numbers are states. Boxes that the move collected are not shown: the library has no function that tells them.", "tick"))
+    below, y = legend(used, y - 4)
+    left_out = " Boxes that the move collected are not shown: %s." % tick.unsaid if tick.feet and tick.unsaid else ""
+    below.append(words(14, y + 6, "Small numbers are states." + left_out, "tick"))
     return wrapped(told + drawn + below, y + 20)
 
 
