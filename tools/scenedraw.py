@@ -319,7 +319,7 @@ def picture(scene, name):
     used = {cls for cls, _ in LEGEND if any('%s"' % cls in d or "%s " % cls in d for d in drawn)}
     below, y = legend(used, y - 4)
     left_out = " Boxes that the move collected are not shown: %s." % tick.unsaid if tick.feet and tick.unsaid else ""
-    below.append(words(14, y + 6, "Small numbers are states." + left_out, "tick"))
+    below.append(words(14, y + 6, "Coordinates stand along the edges; a small number in a cell is its state." + left_out, "tick"))
     return wrapped(told + drawn + below, y + 20)
 
 

@@ -24,13 +24,13 @@ class Malformed(Exception):
     """A file that is no scene, refusal 8: `causes` has a line for each."""
 
     def __init__(self, causes):
-        super().__init__("; ".join(causes))
+        super().__init__("; ".join(causes[:3]) + ("; and %d more" % len(causes[3:]) if causes[3:] else ""))
         self.causes = causes
 
 
 # ---- what a value of a text is: how it is read to the words of a file, and shown again
 
-DECIMAL = re.compile(r"[-+]?(\d+\.?\d*|\.\d+)([eE][-+]?\d+)?|[-+]?inf|nan")
+DECIMAL = re.compile(r"[-+]?([0-9]+\.?[0-9]*|\.[0-9]+)([eE][-+]?[0-9]+)?|[-+]?inf|nan")
 
 
 class Kind(NamedTuple):
@@ -99,7 +99,7 @@ def show_f32(words):
 
 def whole(words, low, high):
     def read(text):
-        if not re.fullmatch(r"[-+]?\d+", text):
+        if not re.fullmatch(r"[-+]?[0-9]+", text):
             raise ValueError("`%s` is no whole number" % text)
         if not low <= int(text) <= high:
             raise ValueError("%s does not fit: %d to %d does" % (text, low, high))
@@ -116,7 +116,7 @@ def named(*names):
     def read(text):
         if text in names:
             return [names.index(text)]
-        if re.match(r"[-+\d]", text):
+        if re.match(r"[-+0-9]", text):
             return U32.read(text)
         raise ValueError("`%s` is none of %s, and no number" % (text, ", ".join(names)))
 
@@ -319,7 +319,7 @@ def read_state(given):
             raise unknown(key, known, " of a state")
         n = next((i for i, t in enumerate(given) if i and t in known), len(given))
         kinds = STATE[key].kinds if key in STATE else ()
-        if n > len(kinds) + 1 and not re.match(r"[-+.\d]", given[len(kinds) + 1]):
+        if n > len(kinds) + 1 and not re.match(r"[-+.0-9]", given[len(kinds) + 1]):
             raise unknown(given[len(kinds) + 1], known, " of a state")
         got = read_values(key, kinds, given[1:n])
         if key in seen or {key, *seen} >= {"blocks", "flags"}:
@@ -358,11 +358,11 @@ class Text:
             read_values(key, (), given)
             self.layers.append((number, []))
             self.rows_follow = True
-        elif rows and (key == "-" or re.match(r"[-+\d]", key)):
+        elif rows and (key == "-" or re.match(r"[-+0-9]", key)):
             row = [key] + given
             self.layers[-1][1].append((number, read_values("a row of cells", [CELL] * len(row), row)))
             self.rows_follow = True
-        elif re.fullmatch(r"[-+.\d]+", key):
+        elif re.fullmatch(r"[-+.0-9]+", key):
             raise Mistake("a row of cells stands below `layer` or another row")
         else:
             known = [k for table in (BODY, WINDOW, BOX) for k in table if k not in COUNTED] + ["state", "layer"]
@@ -393,7 +393,7 @@ def plural(n, what):
 
 
 def written(text):
-    t, lines = Text(), text.splitlines()
+    t, lines = Text(), text.rstrip("\n").split("\n")
     for number, line in enumerate(lines, 1):
         key, *given = line.split("#")[0].split() or [""]
         try:
