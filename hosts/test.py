@@ -73,7 +73,7 @@ def as_numpy(a):
 
 
 COUNTS = {name: Count(name) for name in ("tick", "step", "files that are no scenes", "step_checked", "steps", "check_tables", "move",
-                                         "move_over_list", "collected", "step of numpy's arrays", "two ticks at a door")}
+                                         "move_over_list", "collected", "step of numpy's arrays", "two ticks at a door", "arrays as they are")}
 
 
 def one_scene(name, theirs):
@@ -138,6 +138,32 @@ def doors():
     COUNTS["two ticks at a door"].add("passed", (passed.feet[0], passed.feet[0] - half > -2 + 0.1875), (-1.4999999999999996, True))
 
 
+def arrays():
+    """An array is lent as it is, a list copied, and nothing converted in silence."""
+    def told(**lent):
+        try:
+            return b.step(tables._replace(**lent), window, body)
+        except (TypeError, ValueError, OverflowError) as why:
+            return type(why)
+
+    tables, window, body = parts(example("case-a"))
+    count, fine, words = COUNTS["arrays as they are"], b.step(tables, window, body), tables.records
+    count.add("a list", told(records=list(words)), fine)
+    count.add("only read", told(records=memoryview(words).toreadonly()), fine)
+    count.add("not aligned", told(records=memoryview(b"\0" + words.tobytes())[1:].cast("B").cast("I")), fine)
+    count.add("no boxes", told(shapes=words[:0]), TypeError)
+    count.add("of 8 bytes", told(records=memoryview(bytes(8 * len(words))).cast("Q")), TypeError)
+    count.add("signed", told(records=memoryview(words).cast("B").cast("i")), TypeError)
+    count.add("gaps", told(records=memoryview(words)[::2]), ValueError)
+    count.add("beyond a word", told(records=[2**32]), OverflowError)
+    count.add("none", asked(b.step, b.Tables([], []), window, body), b.Refused(1))
+    try:
+        b.step(tables, window._replace(sizes=(2**32 + 2, 4, 2)), body)
+        count.add("a size beyond a word", "taken", "ValueError")
+    except ValueError:
+        count.add("a size beyond a word", "ValueError", "ValueError")
+
+
 def main():
     with open("crates/replay/stdout") as f:
         for line in f.read().splitlines():
@@ -147,6 +173,7 @@ def main():
                 one_list(*line.split("=> ", 1))
     case_a()
     doors()
+    arrays()
     left_out = [name for name in ("tick", "collected") if not b.has(name)] + ([] if numpy else ["step of numpy's arrays"])
     for what in left_out:
         print("Python, %s: not tried, it is not there" % COUNTS.pop(what).what)

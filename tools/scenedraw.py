@@ -142,8 +142,9 @@ class Panel:
     def __init__(self, title, u, v, low, high, scale):
         self.title, self.u, self.v, self.depth, self.scale = title, u, v, 3 - u - v, scale
         self.low, self.high = low, high  # cells, both ends included
-        self.left, self.top = 40, 44
-        self.width = self.left + (high[u] + 1 - low[u]) * scale + 22
+        across, down = (max(len(str(low[k])), len(str(high[k] + 1))) for k in (u, v))  # digits of the numbers along each edge
+        self.left, self.top = max(26 + 7 * down, 10 + 4 * across), 44
+        self.width = self.left + (high[u] + 1 - low[u]) * scale + 14 + 4 * across
         self.height = self.top + (high[v] + 1 - low[v]) * scale + 30
         self.out = []
 
@@ -214,13 +215,14 @@ class Panel:
         """The coordinates along both axes, and what each way is called."""
         (u_low, u_high), (v_low, v_high) = ((self.low[k], self.high[k] + 1) for k in (self.u, self.v))
         bottom = max(self.place(u_low, v_low)[1], self.place(u_low, v_high)[1])
-        for u in range(u_low, u_high + 1):
+        apart = math.ceil(8 * max(len(str(u_low)), len(str(u_high))) / self.scale)  # so that numbers beside each other can be read
+        for u in range(u_low, u_high + 1, apart):
             self.out.append(words(self.place(u, v_low)[0], bottom + 13, str(u), "tick", "middle"))
         for v in range(v_low, v_high + 1):
             self.out.append(words(self.left - 5, self.place(u_low, v)[1] + 4, str(v), "tick", "end"))
         right = self.place(u_high, v_low)[0]
         self.out.append(words(right, bottom + 26, "xyz"[self.u] + (", east →" if self.u == 0 else ", south →"), "tick", "end"))
-        self.out.append(words(self.left - 34, self.top - 10, "y, up ↑" if self.v == 1 else "z, south ↓", "tick"))
+        self.out.append(words(6, self.top - 10, "y, up ↑" if self.v == 1 else "z, south ↓", "tick"))
 
     def way(self, before, after):
         a, b = ([(x[k] + x[k + 3]) / 2 if k != 1 else x[1] for k in range(3)] for x in (before, after))
