@@ -27,8 +27,8 @@ text { font: 13px sans-serif; fill: #222 } .title { font-size: 20px; font-weight
 DEFS = """<defs>
 <pattern id="outside" width="8" height="8" patternUnits="userSpaceOnUse"><rect width="8" height="8" fill="#e4e4e4"/><path d="M0 8L8 0M0 0L8 8"
  stroke="#b0b0b0" stroke-width="1"/></pattern>
-<pattern id="unloaded" width="8" height="8" patternUnits="userSpaceOnUse"><rect width="8" height="8" fill="#d3c4e6"/><path d="M-2 2L2 -2M0 8L8 0M6 10L10 6"
- stroke="#6a3fa0" stroke-width="1.5"/></pattern>
+<pattern id="unloaded" width="8" height="8" patternUnits="userSpaceOnUse"><rect width="8" height="8" fill="#d3c4e6"/><path
+ d="M-2 2L2 -2M0 8L8 0M6 10L10 6" stroke="#6a3fa0" stroke-width="1.5"/></pattern>
 <pattern id="unregistered" width="8" height="8" patternUnits="userSpaceOnUse"><rect width="8" height="8" fill="#fbe3ea"/><circle cx="4" cy="4" r="1.5"
  fill="#c2185b"/></pattern>
 <marker id="tip" viewBox="0 0 8 8" refX="7" refY="4" markerWidth="7" markerHeight="7" orient="auto"><path d="M0 0L8 4L0 8z" fill="#c2185b"/></marker>
@@ -86,7 +86,8 @@ class World:
             yield kind, [b + cell[k % 3] for k, b in enumerate(box)]
 
     def has_liquid(self):
-        return any(value(r, STATE["liquid"]) for r in self.records)
+        wet = {k for k, record in enumerate(self.records) if value(record, STATE["liquid"])}
+        return not wet.isdisjoint(self.cells)
 
     def liquid(self, cell):
         """Its kind and the height of its surface."""
@@ -130,8 +131,10 @@ class Tick:
             return
         x, y, z = values(scene.body, BODY["velocity"])
         delta = (x, y - number["gravity"] if number["stage"] == 0 else y, z)
-        self.collected = boltjuniper.collected(*lent, boltjuniper.Mover(tuple(before), delta, number["step_height"]))
-        self.unsaid = ""
+        try:
+            self.collected, self.unsaid = boltjuniper.collected(*lent, boltjuniper.Mover(tuple(before), delta, number["step_height"])), ""
+        except boltjuniper.Refused as refused:  # a direct call's limits are narrower than a body's
+            self.unsaid = "a move of its own is refused by %d here" % refused.number
 
 
 # ---- panels
@@ -152,11 +155,13 @@ class Panel:
         y = self.high[self.v] + 1 - v if self.v == 1 else v - self.low[self.v]
         return self.left + (u - self.low[self.u]) * self.scale, self.top + y * self.scale
 
+    def corner(self, point):
+        """Where a point is, or the nearest that the panel has."""
+        return self.place(*(min(max(point[k], self.low[k]), self.high[k] + 1) for k in (self.u, self.v)))
+
     def box(self, b, cls):
         """A box, cut to the panel."""
-        u0, u1 = (min(max(b[self.u + k], self.low[self.u]), self.high[self.u] + 1) for k in (0, 3))
-        v0, v1 = (min(max(b[self.v + k], self.low[self.v]), self.high[self.v] + 1) for k in (0, 3))
-        (x0, y0), (x1, y1) = self.place(u0, v0), self.place(u1, v1)
+        (x0, y0), (x1, y1) = self.corner(b[:3]), self.corner(b[3:])
         if x1 > x0 and y1 != y0:
             self.out.append(rectangle(x0, min(y0, y1), x1 - x0, abs(y1 - y0), cls))
 
@@ -226,7 +231,7 @@ class Panel:
 
     def way(self, before, after):
         a, b = ([(x[k] + x[k + 3]) / 2 if k != 1 else x[1] for k in range(3)] for x in (before, after))
-        (x0, y0), (x1, y1) = self.place(a[self.u], a[self.v]), self.place(b[self.u], b[self.v])
+        (x0, y0), (x1, y1) = self.corner(a), self.corner(b)
         if math.hypot(x1 - x0, y1 - y0) > 2:
             self.out.append('<path d="M%.6g %.6gL%.6g %.6g" class="way"/>' % (x0, y0, x1, y1))
 
@@ -294,23 +299,29 @@ def legend(used, y):
     return out, y + 34
 
 
-def picture(scene, name):
-    told = [words(14, 30, os.path.basename(name), "title")]
-    feet, velocity = (values(scene.body, BODY[key]) for key in ("position", "velocity"))
+def heading(scene, name):
+    feet, velocity = (said(values(scene.body, BODY[key])) for key in ("position", "velocity"))
     ground = "on the ground" if value(scene.body, BODY["ground"]) else "in the air"
-    told.append(words(14, 54, "Before: feet %s, velocity %s, %s." % (said(feet), said(velocity), ground)))
-    causes = ["refused %d: %s" % c for c in scenecheck.causes(scene)]
+    return [words(14, 30, os.path.basename(name), "title"), words(14, 54, "Before: feet %s, velocity %s, %s." % (feet, velocity, ground))]
+
+
+def refused_picture(scene, name, causes):
+    lines = ["This scene is refused before a cell is asked for, and nothing can be drawn of it. It says nothing about the body."]
+    lines += ["refused %d: %s" % cause for cause in causes[:20]]
+    return wrapped(heading(scene, name) + [words(14, 76 + 18 * k, line) for k, line in enumerate(lines)], 90 + 18 * len(lines))
+
+
+def picture(scene, name):
+    causes = list(scenecheck.causes(scene))
     if causes:
-        lines = ["This scene is refused before a cell is asked for, and nothing can be drawn of it. It says nothing about the body."] + causes[:20]
-        told += [words(14, 76 + 18 * k, line) for k, line in enumerate(lines)]
-        return wrapped(told, 90 + 18 * len(lines))
-    extent = [value(scene.body, BODY[key]) for key in ("width", "height")]
-    world, before = World(scene), body_box(feet, *extent)
+        return refused_picture(scene, name, causes)
+    width, height = (value(scene.body, BODY[key]) for key in ("width", "height"))
+    world, before = World(scene), body_box(values(scene.body, BODY["position"]), width, height)
     tick = Tick(scene, before, world.has_liquid())
-    after = body_box(tick.feet, *extent) if tick.feet else None
+    after = body_box(tick.feet, width, height) if tick.feet else None
     boxes = [before] + ([after] if after else [])
-    told.append(words(14, 74, tick.line))
-    low, high, cut = shown(boxes, velocity)
+    low, high, cut = shown(boxes, values(scene.body, BODY["velocity"]))
+    told = heading(scene, name) + [words(14, 74, tick.line)]
     if cut:
         told.append(words(14, 94, "Only the cells nearest to the body are shown."))
     scale = min(64, max(16, 400 // max(high[k] + 1 - low[k] for k in range(3))))
