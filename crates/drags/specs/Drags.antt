@@ -11,7 +11,7 @@ use Rattle.boxes.specs.declared.Vec3.{Vec3}
 use Rattle.boxes.specs.Boxes.{vec}
 use Rattle.tables.specs.declared.LiquidKind.{LiquidKind}
 use Rattle.tables.specs.declared.LiquidKind.the-variants.{None, Water, Lava}
-use Rattle.liquids.specs.Vectors.{one64, squared}
+use Rattle.boxes.specs.Vectors.{one64, squared}
 use Rattle.bodies.specs.declared.Stage.{Stage}
 use Rattle.bodies.specs.declared.Stage.the-variants.{BeforeMove, AfterMove, AfterDrag}
 use Rattle.bodies.specs.declared.Flap.{Flap}

@@ -140,7 +140,7 @@ pub fn floated(flotation: LiquidKind, v: Vec3) -> Vec3
 pub fn rests_now(ground: bool, v: Vec3, water: bool, age: u64) -> bool
     ensures { λ r. ⌜ r ≡ restsNow ground v water age ⌝ }
 {
-    ground & (liquids::squares(v) <= 0.0001) & !water & (age % 4 != 0)
+    ground & (boxes::vectors::squares(v) <= 0.0001) & !water & (age % 4 != 0)
 }
 
 fn is_before_move(stage: Stage) -> bool

@@ -21,7 +21,7 @@ use Rattle.bodies.specs.Body.{isLiving, isFallingBlock}
 use Rattle.window.specs.declared.Pos.{Pos}
 use Rattle.window.specs.declared.Step.{Step}
 use Rattle.window.specs.Look.{Block, none, some, stepped}
-use Rattle.liquids.specs.Flotation.{cellAt}
+use Rattle.ranges.specs.Cells.{cellHolding}
 use Rattle.drags.specs.declared.Support.{Support}
 use Rattle.drags.specs.declared.Support.the-variants.{Friction, Nothing, NotAsked}
 use Rattle.drags.specs.Drags.{sampleOr}
@@ -54,13 +54,13 @@ sampled records air asked = do
 
 -- the cell (floor x, floor y - 1, floor z)
 unfoldable pub supportingFriction : (Pos → Ask Block) → List ℕ → Rules → Vec3 → Ask Support
-supportingFriction look records rules feet = sampled records (rules .air) (look (stepped (cellAt feet) downwards))
+supportingFriction look records rules feet = sampled records (rules .air) (look (stepped (cellHolding feet) downwards))
 
 -- ---- living_block_friction
 
 -- the cell of the feet less the sample depth
 abbrev pub sampleCell : Rules → Vec3 → Pos
-sampleCell rules feet = cellAt (vec (feet .x) (sub binary64 (feet .y) (rules .depth)) (feet .z))
+sampleCell rules feet = cellHolding (vec (feet .x) (sub binary64 (feet .y) (rules .depth)) (feet .z))
 
 unfoldable pub livingSample : (Pos → Ask Block) → List ℕ → Rules → Vec3 → Ask Support
 livingSample look records rules feet = sampled records (rules .air) (look (sampleCell rules feet))

@@ -6,7 +6,7 @@ use bodies::is_falling_block;
 use bodies::is_living;
 use boxes::Vec3;
 use drags::Support;
-use liquids::cell_at;
+use ranges::cell_holding;
 use tables::LiquidKind;
 use window::Cell;
 use window::Pos;
@@ -55,7 +55,7 @@ fn supporting_friction(
 ) -> AskedSupport
     ensures { λ r. ⌜ supportAsked r ≡ supportingFriction (lookAt (now (cells .entry)) w) (now (records .entry)) rules feet ⌝ }
 {
-    let p = cell_at(feet);
+    let p = cell_holding(feet);
     let below = window::look_by(cells, w, p, Step { x: 0, y: -1, z: 0 });
     sampled(records, rules.air, below)
 }
@@ -63,7 +63,7 @@ fn supporting_friction(
 fn sample_cell(rules: Rules, feet: Vec3) -> Pos
     ensures { λ r. ⌜ r ≡ sampleCell rules feet ⌝ }
 {
-    cell_at(Vec3 {
+    cell_holding(Vec3 {
         x: feet.x,
         y: feet.y - rules.depth,
         z: feet.z,

@@ -7,8 +7,8 @@ use Rattle.boxes.specs.declared.Vec3.{Vec3}
 use Rattle.window.specs.declared.Pos.{Pos}
 use Rattle.window.specs.declared.Window.{Window}
 use Rattle.window.specs.Look.{lookAt}
-use Rattle.liquids.specs.Liquid.{liquidAsked}
-use Rattle.liquids.specs.Flow.{liquidFlow}
+use Rattle.flow.specs.Liquid.{liquidHeld}
+use Rattle.flow.specs.Flow.{liquidFlow}
 use Rattle.small_scenes.specs.Palette.{air, records}
 
 abbrev pub middle : Pos
@@ -37,5 +37,5 @@ upright = record { origin = middle; sizes = record { x = 1; y = 2; z = 1 } }
 -- the flow of the liquid in the middle of the layer
 unfoldable pub flowAmong : List ℕ → Ask Vec3
 flowAmong cells = do
-  state ← liquidAsked (lookAt cells flat) records middle
+  state ← liquidHeld (lookAt cells flat) records middle
   liquidFlow (lookAt cells flat) records middle state

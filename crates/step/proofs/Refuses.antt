@@ -23,8 +23,8 @@ use Rattle.window.specs.Window.{windowFits, windowRefusal}
 use Rattle.lent.specs.Lent.{unless, lentRefusal}
 use Rattle.window.specs.Look.{Block, none, some, lookAt}
 use Rattle.moves.proofs.Refuses.{Refuses, FiveOrSix, wider, finds, names, either, after, walks, asks, resumes, look-refuses, move-refuses}
-use Rattle.liquids.specs.Liquid.{liquidAsked, stopsFlow, blocksLiquidFlow}
-use Rattle.liquids.specs.Flow.{Flowing, difference, walledBy, sideFlow, liquidFlow}
+use Rattle.flow.specs.Liquid.{liquidHeld, stopsFlow, blocksLiquidFlow}
+use Rattle.flow.specs.Flow.{FlowSoFar, difference, walledBy, sideFlow, liquidFlow}
 use Rattle.liquids.specs.Current.{liquidKnown, currentTurn, itemCurrent}
 use Rattle.liquids.specs.Flotation.{waterState, itemFlotation}
 use Rattle.liquids.specs.Living.{livingTurn, livingLiquid}
@@ -44,8 +44,8 @@ use Rattle.step.specs.Answers.{finiteTick, stepAnswer, stepAsked, stepEn
 
 -- ---- what asks for cells, where a look-up refuses by P
 module _ {P : ℕ → Type 0} (look : Pos → Ask Block) (h : (p : Pos) → Refuses P (look p)) (records : List ℕ) where
-  liquid-refuses : (p : Pos) → Refuses P (liquidAsked look records p)
-  unfolding liquidAsked
+  liquid-refuses : (p : Pos) → Refuses P (liquidHeld look records p)
+  unfolding liquidHeld
   liquid-refuses p = after (look p) _ (h p) (λ b. finds _)
 
   known-refuses : (foot : Pos) (s : LiquidState) (p : Pos) → Refuses P (liquidKnown look records foot s p)
@@ -104,7 +104,7 @@ module _ {P : ℕ → Type 0} (look : Pos → Ask Block) (h : (p : Pos) → Refu
     after-refuses body liquid onGround v = after _ _ (support-refuses body liquid onGround) (λ s. finds _)
 
   -- ---- flows and currents, which meet a 7 as well
-  module _ (seven : P 7) where
+  module _ (outside : P 5) (seven : P 7) where
     stops-refuses : (b : Block) → Refuses P (stopsFlow records b)
     stops-refuses none = finds _
     stops-refuses (some s) = either _ _ _ (finds _) (names 7 seven)
@@ -124,7 +124,7 @@ module _ {P : ℕ → Type 0} (look : Pos → Ask Block) (h : (p : Pos) → Refu
     unfolding walledBy
     walled-refuses p s side walled = either _ _ _ (after _ _ (blocks-refuses _) (λ b. either _ _ _ (finds _) (blocks-refuses _))) (finds _)
 
-    side-refuses : (p : Pos) (s : LiquidState) (side : Side) (f : Flowing) → Refuses P (sideFlow look records p s side f)
+    side-refuses : (p : Pos) (s : LiquidState) (side : Side) (f : FlowSoFar) → Refuses P (sideFlow look records p s side f)
     unfolding sideFlow
     side-refuses p s side f = after _ _ (difference-refuses p s side) (λ g. after _ _ (walled-refuses p s side _) (λ b. finds _))
 
@@ -135,9 +135,10 @@ module _ {P : ℕ → Type 0} (look : Pos → Ask Block) (h : (p : Pos) → Refu
     pub current-refuses : (aabb : Aabb) (foot : Pos) (t : LiquidState) → Refuses P (itemCurrent look records aabb foot t)
     unfolding itemCurrent currentTurn
     current-refuses aabb foot t =
-        after _ _
+        either _ _ _ (names 5 outside)
+        (after _ _
         (walks _ _ (λ p s. after _ _ (known-refuses foot t p) (λ a. either _ _ _ (after _ _ (flow-refuses p a) (λ f. finds _)) (finds _))) _)
-        (resumes _ (λ s. finds _))
+        (resumes _ (λ s. finds _)))
 
     begins-refuses : (body : Body) (aabb : Aabb) (motion : Motion) (age : ℕ) → Refuses P (begins look records body aabb motion age)
     unfolding begins itemBegins
@@ -173,7 +174,7 @@ module _ (cells : List ℕ) (w : Window) (records : List ℕ) where
     pub core-refuses : (motion : Motion) (age : ℕ) → Refuses FiveToSeven (stepBodySensed (lookAt cells w) records shapes rules body motion age)
     unfolding stepBodySensed senses
     core-refuses motion age =
-        after _ _ (begins-refuses (lookAt cells w) looks records (omega arith, omega arith) body _ motion age) (λ b.
+        after _ _ (begins-refuses (lookAt cells w) looks records (omega arith, omega arith) (omega arith, omega arith) body _ motion age) (λ b.
         either _ _ _ (finds _)
         (after _ _ (either _ _ _ (living-refuses (lookAt cells w) looks records _) (finds _)) (λ l. on-refuses _ _ _ l _)))
 

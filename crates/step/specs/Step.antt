@@ -19,10 +19,11 @@ use Rattle.window.specs.declared.Pos.{Pos}
 use Rattle.window.specs.Look.{Block}
 use Rattle.moves.specs.Answers.{moveAabb}
 use Rattle.liquids.specs.declared.Current.{Current}
-use Rattle.liquids.specs.Vectors.{zeroVec}
-use Rattle.liquids.specs.Liquid.{liquidAsked}
+use Rattle.boxes.specs.Vectors.{zeroVec}
+use Rattle.flow.specs.Liquid.{liquidHeld}
 use Rattle.liquids.specs.Current.{itemCurrent}
-use Rattle.liquids.specs.Flotation.{cellAt, itemFlotation}
+use Rattle.ranges.specs.Cells.{cellHolding}
+use Rattle.liquids.specs.Flotation.{itemFlotation}
 use Rattle.liquids.specs.Living.{livingLiquid}
 use Rattle.bodies.specs.declared.Body.{Body}
 use Rattle.bodies.specs.declared.Rules.{Rules}
@@ -65,8 +66,8 @@ moveOn look records shapes rules body aabb onGround flotation liquid v = do
 -- an item's current, then its flotation, and whether it rests: where it does, both stay in the velocity
 unfoldable pub itemBegins : (Pos → Ask Block) → List ℕ → Body → Aabb → Motion → ℕ → Ask Begun
 itemBegins look records body aabb motion age = do
-  let foot : Pos = cellAt (motion .feet)
-  state ← liquidAsked look records foot
+  let foot : Pos = cellHolding (motion .feet)
+  state ← liquidHeld look records foot
   current ← itemCurrent look records aabb foot state
   flotation ← itemFlotation look records (body .offset) (body .height) (motion .feet) foot state
   let velocity : Vec3 = floated flotation (plus (motion .velocity) (current .flow))

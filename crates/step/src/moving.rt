@@ -12,10 +12,10 @@ use crate::Begun;
 use crate::tick_after;
 use crate::tick_to;
 use drags::Support;
-use liquids::Currents;
-use liquids::Held;
-use liquids::Sensed;
-use liquids::cell_at;
+use liquids::AskedCurrent;
+use flow::AskedLiquid;
+use liquids::AskedKind;
+use ranges::cell_holding;
 use moves::Moved;
 use samples::AskedSupport;
 use tables::LiquidKind;
@@ -101,14 +101,14 @@ fn item_begins(
     ensures { λ r. ⌜ begunAsked r ≡ itemBegins (lookAt (now (cells .entry)) w) (now (records .entry)) body aabb motion age ⌝ }
 {
     let feet = motion.feet;
-    let foot = cell_at(feet);
-    let state = match liquids::liquid_at(records, cells, w, foot) {
-        Held::Refused(n) => return AskedBegun::Refused(n),
-        Held::Is(s) => s,
+    let foot = cell_holding(feet);
+    let state = match flow::liquid_at(records, cells, w, foot) {
+        AskedLiquid::Refused(n) => return AskedBegun::Refused(n),
+        AskedLiquid::Is(s) => s,
     };
     let current = match liquids::item_current(records, cells, w, aabb, foot, state) {
-        Currents::Refused(n) => return AskedBegun::Refused(n),
-        Currents::Is(c) => c,
+        AskedCurrent::Refused(n) => return AskedBegun::Refused(n),
+        AskedCurrent::Is(c) => c,
     };
     let flotation = match liquids::item_flotation(
         records,
@@ -120,12 +120,12 @@ fn item_begins(
         foot,
         state,
     ) {
-        Sensed::Refused(n) => return AskedBegun::Refused(n),
-        Sensed::Is(kind) => kind,
+        AskedKind::Refused(n) => return AskedBegun::Refused(n),
+        AskedKind::Is(kind) => kind,
     };
     let start = motion.velocity;
     let flow = current.flow;
-    let velocity = drags::floated(flotation, liquids::add(start, flow));
+    let velocity = drags::floated(flotation, boxes::vectors::add(start, flow));
     let rests = drags::rests_now(motion.ground, velocity, current.water, age);
     AskedBegun::Is(Begun {
         velocity,
@@ -157,14 +157,14 @@ fn begins(
     })
 }
 
-fn senses(records: &[u32], cells: &[u32], w: Window, body: Body, aabb: Aabb) -> Sensed
+fn senses(records: &[u32], cells: &[u32], w: Window, body: Body, aabb: Aabb) -> AskedKind
     ensures { λ r. ⌜ kindAsked r ≡ senses (lookAt (now (cells .entry)) w) (now (records .entry)) body aabb ⌝ }
 {
     let model = body.model;
     if is_living(model) {
         return liquids::living_liquid_in(records, cells, w, aabb);
     }
-    Sensed::Is(LiquidKind::None)
+    AskedKind::Is(LiquidKind::None)
 }
 
 // The step, for any numbers: it refuses 5, 6 and 7 alone, at the first such event.
@@ -197,8 +197,8 @@ pub fn step_through(
         ));
     }
     let liquid = match senses(records, cells, w, body, aabb) {
-        Sensed::Refused(n) => return AskedTick::Refused(n),
-        Sensed::Is(kind) => kind,
+        AskedKind::Refused(n) => return AskedTick::Refused(n),
+        AskedKind::Is(kind) => kind,
     };
     let flotation = begun.flotation;
     let velocity = begun.velocity;

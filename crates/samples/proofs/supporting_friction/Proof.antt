@@ -4,8 +4,8 @@ use borrow.Author.Needs.{needs}
 use Rattle.samples.proofs.supporting_friction.Statement.{statement}
 use Rattle.samples.proofs.supporting_friction.Tie as tie
 
-cell-at-requires : tie.Need-cell-at-requires
-cell-at-requires c κs = search needs
+cell-holding-requires : tie.Need-cell-holding-requires
+cell-holding-requires c κs = search needs
 
 look-by-requires : tie.Need-look-by-requires
 look-by-requires c κs = search needs
@@ -14,8 +14,8 @@ sampled-requires : tie.Need-sampled-requires
 sampled-requires c κs = search needs
 
 returns : tie.Need-returns
-returns c = below-feet _ _ _ _ _ _ _ (c .before .before .cell-at .ensures) (c .before .look-by .ensures) (c .sampled .ensures)
+returns c = below-feet _ _ _ _ _ _ _ (c .before .before .cell-holding .ensures) (c .before .look-by .ensures) (c .sampled .ensures)
 
 pub supporting-friction-spec : {M : Type 1} → statement M
 supporting-friction-spec =
-    tie.close (tie.spec cell-at-requires look-by-requires sampled-requires returns)
+    tie.close (tie.spec cell-holding-requires look-by-requires sampled-requires returns)

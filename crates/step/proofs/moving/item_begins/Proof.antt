@@ -4,8 +4,8 @@ use borrow.Author.Needs.{needs}
 use Rattle.step.proofs.moving.item_begins.Statement.{statement}
 use Rattle.step.proofs.moving.item_begins.Tie as tie
 
-cell-at-requires : tie.Need-cell-at-requires
-cell-at-requires c κs = search needs
+cell-holding-requires : tie.Need-cell-holding-requires
+cell-holding-requires c κs = search needs
 
 liquid-at-requires : tie.Need-liquid-at-requires
 liquid-at-requires c κs = search needs
@@ -15,7 +15,7 @@ enum-known-n c = search needs
 
 returns : tie.Need-returns
 unfolding itemBegins
-returns c = rw (← c .before .before .before .before .cell-at .ensures, ← c .before .before .before .liquid-at .ensures, c .before .n .given .1)
+returns c = rw (← c .before .before .before .before .cell-holding .ensures, ← c .before .before .before .liquid-at .ensures, c .before .n .given .1)
 
 enum-known-s : tie.Need-enum-known-s
 enum-known-s c = search needs
@@ -28,7 +28,7 @@ enum-known-n-2 c = search needs
 
 returns-2 : tie.Need-returns-2
 unfolding itemBegins
-returns-2 c = rw (← c .before .before .before .before .before .before .before .before .cell-at .ensures, ← c .before .before .before .before .before .before .before .liquid-at .ensures, c .before .before .before .before .before .s .given .1, ← c .before .before .before .item-current .ensures, c .before .n2 .given .1)
+returns-2 c = rw (← c .before .before .before .before .before .before .before .before .cell-holding .ensures, ← c .before .before .before .before .before .before .before .liquid-at .ensures, c .before .before .before .before .before .s .given .1, ← c .before .before .before .item-current .ensures, c .before .n2 .given .1)
 
 enum-known-c : tie.Need-enum-known-c
 enum-known-c c = search needs
@@ -41,7 +41,7 @@ enum-known-n-3 c = search needs
 
 returns-3 : tie.Need-returns-3
 unfolding itemBegins
-returns-3 c = rw (← c .before .before .before .before .before .before .before .before .before .before .before .before .cell-at .ensures, ← c .before .before .before .before .before .before .before .before .before .before .before .liquid-at .ensures, c .before .before .before .before .before .before .before .before .before .s .given .1, ← c .before .before .before .before .before .before .before .item-current .ensures, c .before .before .before .before .before .c .given .1, ← c .before .before .before .item-flotation .ensures, c .before .n3 .given .1)
+returns-3 c = rw (← c .before .before .before .before .before .before .before .before .before .before .before .before .cell-holding .ensures, ← c .before .before .before .before .before .before .before .before .before .before .before .liquid-at .ensures, c .before .before .before .before .before .before .before .before .before .s .given .1, ← c .before .before .before .before .before .before .before .item-current .ensures, c .before .before .before .before .before .c .given .1, ← c .before .before .before .item-flotation .ensures, c .before .n3 .given .1)
 
 enum-known-kind : tie.Need-enum-known-kind
 enum-known-kind c = search needs
@@ -57,13 +57,13 @@ rests-now-requires c κs = search needs
 
 returns-4 : tie.Need-returns-4
 unfolding itemBegins
-returns-4 c = rw (← c .before .before .before .before .before .before .before .before .before .before .before .before .before .before .before .before .before .cell-at .ensures, ← c .before .before .before .before .before .before .before .before .before .before .before .before .before .before .before .before .liquid-at .ensures, c .before .before .before .before .before .before .before .before .before .before .before .before .before .before .s .given .1, ← c .before .before .before .before .before .before .before .before .before .before .before .before .item-current .ensures, c .before .before .before .before .before .before .before .before .before .before .c .given .1, ← c .before .before .before .before .before .before .before .before .item-flotation .ensures, c .before .before .before .before .before .before .kind .given .1, ← c .before .before .add .ensures, ← c .before .floated .ensures, ← c .rests-now .ensures)
+returns-4 c = rw (← c .before .before .before .before .before .before .before .before .before .before .before .before .before .before .before .before .before .cell-holding .ensures, ← c .before .before .before .before .before .before .before .before .before .before .before .before .before .before .before .before .liquid-at .ensures, c .before .before .before .before .before .before .before .before .before .before .before .before .before .before .s .given .1, ← c .before .before .before .before .before .before .before .before .before .before .before .before .item-current .ensures, c .before .before .before .before .before .before .before .before .before .before .c .given .1, ← c .before .before .before .before .before .before .before .before .item-flotation .ensures, c .before .before .before .before .before .before .kind .given .1, ← c .before .before .add .ensures, ← c .before .floated .ensures, ← c .rests-now .ensures)
 
 pub item-begins-spec : {M : Type 1} → statement M
 item-begins-spec =
     tie.close
     (tie.spec
-    cell-at-requires
+    cell-holding-requires
     liquid-at-requires
     enum-known-n
     returns
