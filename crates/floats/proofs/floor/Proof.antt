@@ -28,8 +28,8 @@ returns c =
     let s = c .before .before .before .before in
     taken _ _ _ _ (c .given .ensures) (near-finite (s .args .x) n) (zero-floor (s .args .x) n (held s) (c .before .if3 .taken))
 
-one-below-requires : tie.Need-one-below-requires
-one-below-requires c κs = search needs
+excess-float-requires : tie.Need-excess-float-requires
+excess-float-requires c κs = search needs
 
 given-requires-2 : tie.Need-given-requires-2
 given-requires-2 c κs = search needs
@@ -41,7 +41,7 @@ returns-2 c =
     let x = c .before .before .before .before .before .args .x in
     let w = sub binary64 (add binary64 x big64) big64 in
     taken _ _ _ _ (c .given2 .ensures) (near-finite x n)
-    (ap (λ (e : Float). sub binary64 w e) (c .before .one-below .ensures) ∙ near-floor x n (c .before .before .if3 .left))
+    (ap (λ (e : Float). sub binary64 w e) (c .before .excess-float .ensures) ∙ near-floor x n (c .before .before .if3 .left))
 
 far-floor-requires : tie.Need-far-floor-requires
 far-floor-requires c κs = search needs
@@ -50,4 +50,4 @@ returns-3 : tie.Need-returns-3
 returns-3 c = search needs
 
 pub floor-spec : {M : Type 1} → statement M
-floor-spec = tie.close (tie.spec given-requires returns one-below-requires given-requires-2 returns-2 far-floor-requires returns-3)
+floor-spec = tie.close (tie.spec given-requires returns excess-float-requires given-requires-2 returns-2 far-floor-requires returns-3)
