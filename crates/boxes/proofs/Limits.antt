@@ -12,12 +12,12 @@ use Rattle.boxes.proofs.Lists.{at-box, past-boxes}
 module _ (l : BoxList) (whole : length (l .boxes) ≡ room) (n i : ℕ) (counts : n ≡ min (l .count) room) (w : Bool) (inv : areBoxes (drop i (listOf l)) ≡ w) where
   pub sound-turn : (z : Aabb) (r : Bool) → i < n → r ≡ isBox (getD (l .boxes) i z) → r ≡ true → areBoxes (drop (i + 1) (listOf l)) ≡ w
   unfolding areBoxes
-  sound-turn z r h e o = rw (at-box l whole n i counts z h, ← e, o) at inv
+  sound-turn z r h e o = rw (at-box (l .boxes) (l .count) room whole n i counts z h, ← e, o) at inv
 
   pub sound-stop : (z : Aabb) (r : Bool) → i < n → r ≡ isBox (getD (l .boxes) i z) → r ≡ false → false ≡ w
   unfolding areBoxes
-  sound-stop z r h e o = rw (at-box l whole n i counts z h, ← e, o) at inv
+  sound-stop z r h e o = rw (at-box (l .boxes) (l .count) room whole n i counts z h, ← e, o) at inv
 
   pub sound-end : n ≤ i → true ≡ w
   unfolding areBoxes
-  sound-end h = rw (past-boxes l whole n i counts h) at inv
+  sound-end h = rw (past-boxes (l .boxes) (l .count) room whole n i counts h) at inv

@@ -4,29 +4,27 @@ use mathlib.Core.Bool.{true, false}
 use mathlib.Core.List.{List}
 use Prim.Native.Nat.{ℕ, suc, _+_, _-_, _≤_, _<_, min}
 use native.Mathlib.Omega.{arith}
-use lib.ListN.{length, getD, drop}
+use lib.ListN.{length, getD, take, drop}
 use lib.Ieee.{Float}
 use Rattle.base.specs.Choose.{choose}
 use Rattle.base.proofs.Cases.{yes, no}
 use Rattle.boxes.specs.declared.Aabb.{Aabb}
-use Rattle.boxes.specs.declared.BoxList.{BoxList}
 use Rattle.boxes.specs.declared.Swept.{Swept}
 use Rattle.boxes.specs.declared.Request.{Request}
 use Rattle.boxes.specs.declared.Sweep.{Sweep}
-use Rattle.boxes.specs.Lists.{room, listOf}
 use Rattle.boxes.specs.Move.{clipAll}
 use Rattle.boxes.specs.Passes.{axisOf, clipAlong, wantedOf, goneOf, nextOf, passOf, passesFrom}
 use Rattle.boxes.proofs.Lists.{at-box, past-boxes}
 
-module _ (l : BoxList) (whole : length (l .boxes) ≡ room) (n i : ℕ) (counts : n ≡ min (l .count) room) (clip : Aabb → Aabb → Float → Float) (mover : Aabb) where
+module _ (bs : List Aabb) (count most : ℕ) (whole : length bs ≡ most) (n i : ℕ) (counts : n ≡ min count most) (clip : Aabb → Aabb → Float → Float) (mover : Aabb) where
   -- a box of a pass, which comes to e, and the end of a pass
-  pub clip-turn : (z : Aabb) (d e w : Float) → i < n → e ≡ clip (getD (l .boxes) i z) mover d → clipAll clip (drop i (listOf l)) mover d ≡ w → clipAll clip (drop (i + 1) (listOf l)) mover e ≡ w
+  pub clip-turn : (z : Aabb) (d e w : Float) → i < n → e ≡ clip (getD bs i z) mover d → clipAll clip (drop i (take count bs)) mover d ≡ w → clipAll clip (drop (i + 1) (take count bs)) mover e ≡ w
   unfolding clipAll
-  clip-turn z d e w h q inv = let t = rw (at-box l whole n i counts z h) at inv in rw q t
+  clip-turn z d e w h q inv = let t = rw (at-box bs count most whole n i counts z h) at inv in rw q t
 
-  clip-end : (d w : Float) → n ≤ i → clipAll clip (drop i (listOf l)) mover d ≡ w → d ≡ w
+  clip-end : (d w : Float) → n ≤ i → clipAll clip (drop i (take count bs)) mover d ≡ w → d ≡ w
   unfolding clipAll
-  clip-end d w h inv = rw (past-boxes l whole n i counts h) at inv
+  clip-end d w h inv = rw (past-boxes bs count most whole n i counts h) at inv
 
 -- a pass, step by step as the code makes it
 pub pass-is : (boxes : List Aabb) (q : Request) (pass : ℕ) (s t : Sweep) (got : Swept) (axis : ℕ) (d e : Float) → axis ≡ axisOf pass → d ≡ wantedOf pass axis q (s .now) → e ≡ clipAll (clipAlong axis) boxes (s .now .aabb) d → got ≡ goneOf pass axis (s .now) e → t ≡ nextOf pass q (s .first) got → t ≡ passOf pass boxes q s
@@ -34,9 +32,9 @@ unfolding passOf
 pass-is boxes q pass s t got axis d e ea ed ee eg et = rw (et, eg, ee, ed, ea)
 
 -- the same of a list whose boxes were gone through
-pub made : (l : BoxList) → length (l .boxes) ≡ room → (n i : ℕ) → n ≡ min (l .count) room → (q : Request) (pass : ℕ) (s t : Sweep) (got : Swept) (axis : ℕ) (d e : Float) → axis ≡ axisOf pass → d ≡ wantedOf pass axis q (s .now) → n ≤ i → clipAll (clipAlong axis) (drop i (listOf l)) (s .now .aabb) e ≡ clipAll (clipAlong axis) (listOf l) (s .now .aabb) d → got ≡ goneOf pass axis (s .now) e → t ≡ nextOf pass q (s .first) got → t ≡ passOf pass (listOf l) q s
-made l whole n i counts q pass s t got axis d e ea ed h inv eg et =
-    pass-is (listOf l) q pass s t got axis d e ea ed (clip-end l whole n i counts (clipAlong axis) (s .now .aabb) e _ h inv) eg et
+pub made : (bs : List Aabb) (count most : ℕ) → length bs ≡ most → (n i : ℕ) → n ≡ min count most → (q : Request) (pass : ℕ) (s t : Sweep) (got : Swept) (axis : ℕ) (d e : Float) → axis ≡ axisOf pass → d ≡ wantedOf pass axis q (s .now) → n ≤ i → clipAll (clipAlong axis) (drop i (take count bs)) (s .now .aabb) e ≡ clipAll (clipAlong axis) (take count bs) (s .now .aabb) d → got ≡ goneOf pass axis (s .now) e → t ≡ nextOf pass q (s .first) got → t ≡ passOf pass (take count bs) q s
+made bs count most whole n i counts q pass s t got axis d e ea ed h inv eg et =
+    pass-is (take count bs) q pass s t got axis d e ea ed (clip-end bs count most whole n i counts (clipAlong axis) (s .now .aabb) e _ h inv) eg et
 
 module _ (boxes : List Aabb) (q : Request) (pass : ℕ) (s t : Sweep) where
   module _ (w : Sweep) (is : t ≡ passOf pass boxes q s) where

@@ -313,11 +313,9 @@ pub fn connected_state(records: &[u32], cells: &[u32], w: Window, p: Pos, state:
 pub fn connected_state_at(records: &[u32], shapes: &[f32], cells: &[u32], w: Window, p: Pos, state: u32) -> StateAnswer
     ensures { λ r. ⌜ r ≡ connectedEntry (now (records .entry)) (now (shapes .entry)) (now (cells .entry)) w p state ⌝ }
 {
-    if tables::check_tables(records, shapes) != 0 {
-        return StateAnswer { refusal: 1, state: 0 };
-    }
-    if window::check_window(cells, w) != 0 {
-        return StateAnswer { refusal: 2, state: 0 };
+    let bad = lent::check_lent(records, shapes, cells, w);
+    if bad != 0 {
+        return StateAnswer { refusal: bad, state: 0 };
     }
     let told = connected_state(records, cells, w, p, state);
     match told {

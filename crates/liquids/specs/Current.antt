@@ -35,10 +35,6 @@ use Rattle.liquids.specs.declared.Current.{Current}
 unfoldable pub beyondReach : Aabb → Bool
 beyondReach aabb = not (areWithin (aabb .min) (twoTo 26) && areWithin (aabb .max) (twoTo 26))
 
--- the ceiling of a coordinate, as `cellOf` is its floor: the least whole number that is not below it, which is 0 less the floor of -x
-abbrev pub ceilingOf : Float → ℤ
-ceilingOf x = pos 0 -ℤ cellOf (neg x)
-
 -- lo.floor() .. hi.ceil(), the upper end excluded
 abbrev pub cellsUpTo : Float → Float → Axis
 cellsUpTo lo hi = record { first = cellOf lo; count = orZero (ceilingOf hi -ℤ cellOf lo) }

@@ -1,7 +1,8 @@
--- Collection cell by cell and box by box, as the code does it, comes to `collectBlockBoxes`, and a move over it to `moveAabb`. Assumes nothing.
+-- Collection cell by cell and box by box, as the code does it, comes to `collectUpTo`, and a move over it to `moveAabb`. Assumes nothing.
 use mathlib.Core.Path.{_≡_, refl, sym, ap, _∙_}
 use mathlib.Core.Bool.{Bool, true, false}
 use mathlib.Core.List.{List, [], _∷_, _++_}
+use mathlib.Core.Logic.{_⊎_, inl, inr}
 use Prim.Native.Nat.{ℕ, zero, suc, _+_, _-_, _≤_, _<_, min}
 use native.Mathlib.Numerals.{add-one}
 use native.Mathlib.Omega.{arith}
@@ -15,26 +16,28 @@ use Rattle.base.specs.Loop.{listed}
 use Rattle.base.specs.Ask.{Ask, refused, found, _>>=_, Turn, next, done, onward, turning}
 use Rattle.boxes.specs.declared.Aabb.{Aabb}
 use Rattle.boxes.specs.declared.BoxList.{BoxList}
-use Rattle.boxes.specs.declared.Vec3.{Vec3}
 use Rattle.boxes.specs.declared.Request.{Request}
 use Rattle.boxes.specs.declared.Sweep.{Sweep}
 use Rattle.boxes.specs.declared.MoveResult.{MoveResult}
 use Rattle.boxes.specs.Boxes.{overlap}
 use Rattle.boxes.specs.Passes.{sweepOf, endOf}
 use Rattle.boxes.proofs.Shape.{moves}
-use Rattle.boxes.specs.Lists.{room, listOf, emptyList, noBox, held}
+use Rattle.boxes.specs.Lists.{room, listOf, emptyList, noBox, Held, held}
+use Rattle.boxes.specs.Move.{moveOver}
 use Rattle.window.specs.declared.Pos.{Pos}
 use Rattle.window.specs.declared.Window.{Window}
 use Rattle.window.specs.Look.{Block, lookAt}
 use Rattle.ranges.specs.declared.Range.{Range}
 use Rattle.ranges.specs.Ranges.{placeAt}
 use Rattle.ranges.specs.Walk.{line, layer, walk}
-use Rattle.moves.specs.Collect.{cellShape, offer, offerAll, visit, push, hit, isHit, rangeOf, collectBlockBoxes, collidesWithBlocks}
+use Rattle.moves.specs.Collect.{cellShape, offer, offerAll, visit, push, rangeOf, collectUpTo, collectBlockBoxes}
 use Rattle.tables.specs.Tables.{boxesAt}
 use Rattle.moves.specs.declared.Shape.{Shape}
-use Rattle.moves.specs.Parts.{shapeIn, countOf, nthAabb}
+use Rattle.moves.specs.declared.FewBoxes.{FewBoxes}
+use Rattle.moves.specs.Parts.{shapeIn, countOf, nthAabb, few, noFew}
 use Rattle.moves.specs.Answers.{heldAsked, sweptArea, moveAabb}
 use Rattle.moves.proofs.Boxes.{listed-all}
+use Rattle.moves.proofs.Refuses.{Refuses, FiveOrSix, collect-refuses}
 
 -- ---- one after the other
 then-then : {S R : Type 0} (m : Ask (Turn S R)) (k l : S → Ask (Turn S R)) → ((m >>= onward k) >>= onward l) ≡ (m >>= onward (λ s. k s >>= onward l))
@@ -137,9 +140,6 @@ module _ {S : Type 0} (accept : Aabb → S → Ask (Turn S Bool)) (look : Pos �
     pub box-refused : (j : ℕ) → offer accept area b s ≡ refused j → boxesFrom y x z g n k s ≡ refused j
     box-refused j o = offered (refused j) o
 
-    pub box-done : (v : Bool) → offer accept area b s ≡ found (done v) → boxesFrom y x z g n k s ≡ found (done v)
-    box-done v o = offered (found (done v)) o
-
   -- through
   pub boxes-end : (y x z : ℕ) (g : ℕ → Aabb) (n k : ℕ) (s : S) → n ≤ k → boxesFrom y x z g n k s ≡ cellsFrom y x (z + 1) s
   unfolding boxesFrom
@@ -157,87 +157,100 @@ module _ {S : Type 0} (accept : Aabb → S → Ask (Turn S Bool)) (look : Pos �
   unfolding layersFrom
   layers-end y s h = from-end (layer visiting r) (r .y .count) (λ a. found (next a)) y s h
 
--- ---- the list in place
-pub record Room (l : BoxList) : Type 0 where
-  pub whole : length (l .boxes) ≡ 128
-  pub counts : l .count ≤ 128
+-- ---- boxes in place: so much room, and so many of them count
+pub record Room (most : ℕ) (bs : List Aabb) (count : ℕ) : Type 0 where
+  pub whole : length bs ≡ most
+  pub counts : count ≤ most
 
-module _ (area b : Aabb) (l m : BoxList) (room-l : Room l) where
+module _ (most cap : ℕ) (area b : Aabb) (bs cs : List Aabb) (i j : ℕ) (has : Room most bs i) where
   -- one box more
-  pub kept : m ≡ record { boxes = set (l .boxes) (l .count) b; count = l .count + 1 } → l .count < 128 → overlap b area ≡ true → Room m × (offer push area b (listOf l) ≡ found (next (listOf m)))
+  pub kept : cs ≡ set bs i b → j ≡ i + 1 → i < most → i < cap → overlap b area ≡ true → Room most cs j × (offer (push cap) area b (take i bs) ≡ found (next (take j cs)))
   unfolding choose
-  kept e h o =
-      let w = room-l .whole in
-      let n : length (listOf l) ≡ l .count = length-take-le (l .count) (l .boxes) (omega arith) in
-      let t : ltb (length (listOf l)) room ≡ true = lt-ltb (length (listOf l)) room (omega arith) in
-      let g : l .count < length (l .boxes) = omega arith in
-      let s : take (l .count + 1) (set (l .boxes) (l .count) b) ≡ listOf l ++ (b ∷ []) = rw (add-one, take-suc-set) in
-      rw e (record { whole = length-set (l .boxes) (l .count) b ∙ w; counts = omega arith }, rw (o, t, s))
+  kept e f h g o =
+      let w = has .whole in
+      let n : length (take i bs) ≡ i = length-take-le i bs (omega arith) in
+      let t : ltb (length (take i bs)) cap ≡ true = lt-ltb (length (take i bs)) cap (omega arith) in
+      let l : i < length bs = omega arith in
+      let s : take (i + 1) (set bs i b) ≡ take i bs ++ (b ∷ []) = rw (add-one, take-suc-set) in
+      rw (e, f) (record { whole = length-set bs i b ∙ w; counts = omega arith }, rw (o, t, s))
 
   -- a box that does not overlap
-  pub passed : m ≡ l → overlap b area ≡ false → Room m × (offer push area b (listOf l) ≡ found (next (listOf m)))
+  pub passed : cs ≡ bs → j ≡ i → overlap b area ≡ false → Room most cs j × (offer (push cap) area b (take i bs) ≡ found (next (take j cs)))
   unfolding choose
-  passed e o = rw e (room-l, rw o)
+  passed e f o = rw (e, f) (has, rw o)
 
-pub full : (area b : Aabb) (l : BoxList) → Room l → 128 ≤ l .count → overlap b area ≡ true → offer push area b (listOf l) ≡ refused 6
-unfolding choose
-full area b l room-l h o =
-    let w = room-l .whole in
-    let c = room-l .counts in
-    let n : length (listOf l) ≡ l .count = length-take-le (l .count) (l .boxes) (omega arith) in
-    let t : ltb (length (listOf l)) room ≡ false = le-ltb (length (listOf l)) room (omega arith) in
-    rw (o, t)
+module _ (most : ℕ) (bs : List Aabb) (i : ℕ) (has : Room most bs i) where
+  counted : length (take i bs) ≡ i
+  counted = let w = has .whole in let c = has .counts in length-take-le i bs (omega arith)
 
--- every box of such a list counts
-pub fully : (l : BoxList) → Room l → l .count ≡ min (l .count) room
-fully l room-l = let c = room-l .counts in omega arith
+  pub full : (cap : ℕ) (area b : Aabb) → cap ≤ i → overlap b area ≡ true → offer (push cap) area b (take i bs) ≡ refused 6
+  unfolding choose
+  full cap area b h o =
+      let n = counted in
+      let t : ltb (length (take i bs)) cap ≡ false = le-ltb (length (take i bs)) cap (omega arith) in
+      rw (o, t)
+
+  -- every box counts
+  pub fully : i ≡ min i most
+  fully = let c = has .counts in omega arith
+
+pub empty-list : (l : BoxList) → l ≡ emptyList → Room room (l .boxes) (l .count) × (listOf l ≡ [])
+unfolding emptyList
+empty-list l e = rw e (record { whole = length-replicate 128 noBox; counts = omega arith }, refl)
+
+pub empty-few : (l : FewBoxes) → l ≡ noFew → Room few (l .boxes) (l .count) × (take (l .count) (l .boxes) ≡ [])
+unfolding noFew
+empty-few l e = rw e (record { whole = length-replicate 48 noBox; counts = omega arith }, refl)
+
+-- ---- what was asked, from the answer of a collection
+pub list-told : (h : Held) (m : Ask (List Aabb)) → Refuses FiveOrSix m → h ≡ heldAsked m → h .refusal ≡ 0 → m ≡ found (h .boxes)
+list-told h (found bs) f e z = rw e
+list-told h (refused n) f e z = never (f .only n refl) (sym (ap (λ (x : Held). x .refusal) e) ∙ z)
+  where
+    never : (n ≡ 5) ⊎ (n ≡ 6) → n ≡ 0 → refused n ≡ found (h .boxes)
+    never (inl a) b = absurd (omega arith)
+    never (inr a) b = absurd (omega arith)
+
+pub refusal-told : (h : Held) (m : Ask (List Aabb)) → h ≡ heldAsked m → (h .refusal ≡ 0 → ⊥) → m ≡ refused (h .refusal)
+refusal-told h (found bs) e z = absurd (z (ap (λ (x : Held). x .refusal) e))
+refusal-told h (refused n) e z = rw e
 
 -- ---- the answers, for r the range of the area
-module _ (look : Pos → Ask Block) (records : List ℕ) (shapes : List Float) (area : Aabb) (r : Range) (e : r ≡ rangeOf area) where
-  pub was-collected : (l : BoxList) → found (next (listOf l)) ≡ all push look records shapes area r [] → collectBlockBoxes look records shapes area ≡ found (listOf l)
-  unfolding collectBlockBoxes
-  was-collected l h = rw (← e, ← h)
+module _ (cap : ℕ) (look : Pos → Ask Block) (records : List ℕ) (shapes : List Float) (area : Aabb) (r : Range) (e : r ≡ rangeOf area) where
+  pub was-collected : (bs : List Aabb) → found (next bs) ≡ all (push cap) look records shapes area r [] → collectUpTo cap look records shapes area ≡ found bs
+  unfolding collectUpTo
+  was-collected bs h = rw (← e, ← h)
 
-  pub was-refused : (k : ℕ) → refused k ≡ all push look records shapes area r [] → collectBlockBoxes look records shapes area ≡ refused k
-  unfolding collectBlockBoxes
+  pub was-refused : (k : ℕ) → refused k ≡ all (push cap) look records shapes area r [] → collectUpTo cap look records shapes area ≡ refused k
+  unfolding collectUpTo
   was-refused k h = rw (← e, ← h)
 
-  pub collected : (l : BoxList) → Room l → found (next (listOf l)) ≡ all push look records shapes area r [] → record { refusal = 0; count = l .count; boxes = listOf l } ≡ heldAsked (collectBlockBoxes look records shapes area)
-  collected l q h =
-      let w = q .whole in
-      let c = q .counts in
-      let n : length (listOf l) ≡ l .count = length-take-le (l .count) (l .boxes) (omega arith) in
-      rw (was-collected l h, n)
+  pub collected : (most : ℕ) (bs : List Aabb) (i : ℕ) → Room most bs i → found (next (take i bs)) ≡ all (push cap) look records shapes area r [] → record { refusal = 0; count = i; boxes = take i bs } ≡ heldAsked (collectUpTo cap look records shapes area)
+  collected most bs i has h = rw (was-collected (take i bs) h, counted most bs i has)
 
-  pub not-collected : (k : ℕ) → refused k ≡ all push look records shapes area r [] → held k [] ≡ heldAsked (collectBlockBoxes look records shapes area)
+  pub not-collected : (k : ℕ) → refused k ≡ all (push cap) look records shapes area r [] → held k [] ≡ heldAsked (collectUpTo cap look records shapes area)
   not-collected k h = rw (was-refused k h)
 
-  pub hit-told : (m : Ask (Turn Bool Bool)) → m ≡ all hit look records shapes area r false → (m >>= λ t. found (isHit t)) ≡ collidesWithBlocks look records shapes area
-  unfolding collidesWithBlocks
-  hit-told m h = rw (← e, ← h)
-
 -- ---- the move over what was collected from the swept area
-module _ (cells : List ℕ) (w : Window) (records : List ℕ) (shapes : List Float) (aabb : Aabb) (delta : Vec3) (step : Float) (ground : Bool) (area : Aabb) (e : area ≡ sweptArea aabb delta step) (r : Range) (er : r ≡ rangeOf area) where
-  abbrev request : Request
-  request = record { aabb = aabb; delta = delta; step = step; ground = ground }
+module _ (cells : List ℕ) (w : Window) (records : List ℕ) (shapes : List Float) (q : Request) (area : Aabb) (e : area ≡ sweptArea (q .aabb) (q .delta) (q .step)) where
+  abbrev whole-move : Ask MoveResult
+  whole-move = moveAabb (lookAt cells w) records shapes (q .aabb) (q .delta) (q .step) (q .ground)
 
-  pub moved : (l : BoxList) → found (next (listOf l)) ≡ all push (lookAt cells w) records shapes area r [] → (s : Sweep) → s ≡ sweepOf (listOf l) request → (m : MoveResult) → m ≡ endOf request s → found m ≡ moveAabb (lookAt cells w) records shapes aabb delta step ground
+  -- over the boxes where they were put
+  pub moved : (r : Range) → r ≡ rangeOf area → (bs : List Aabb) → found (next bs) ≡ all (push room) (lookAt cells w) records shapes area r [] → (s : Sweep) → s ≡ sweepOf bs q → (m : MoveResult) → m ≡ endOf q s → found m ≡ whole-move
   unfolding moveAabb
-  moved l h s es m em = rw (← e, was-collected (lookAt cells w) records shapes area r er l h, em, moves (listOf l) request s es)
+  moved r er bs h s es m em = rw (← e, was-collected room (lookAt cells w) records shapes area r er bs h, em, moves bs q s es)
 
-  pub not-moved : (k : ℕ) → refused k ≡ all push (lookAt cells w) records shapes area r [] → refused k ≡ moveAabb (lookAt cells w) records shapes aabb delta step ground
+  pub not-moved : (r : Range) → r ≡ rangeOf area → (k : ℕ) → refused k ≡ all (push room) (lookAt cells w) records shapes area r [] → refused k ≡ whole-move
   unfolding moveAabb
-  not-moved k h = rw (← e, was-refused (lookAt cells w) records shapes area r er k h)
+  not-moved r er k h = rw (← e, was-refused room (lookAt cells w) records shapes area r er k h)
 
--- a box that overlaps is a hit, and another is none
-pub is-hit : (area b : Aabb) → overlap b area ≡ true → offer hit area b false ≡ found (done true)
-unfolding choose
-is-hit area b o = rw o
+  -- over the list that a collection answered
+  module _ (h : Held) (eh : h ≡ heldAsked (collectBlockBoxes (lookAt cells w) records shapes area)) where
+    pub moved-over : h .refusal ≡ 0 → (m : MoveResult) → m ≡ moveOver (h .boxes) (q .aabb) (q .delta) (q .step) (q .ground) → found m ≡ whole-move
+    unfolding moveAabb
+    moved-over z m em = rw (← e, list-told h (collectBlockBoxes (lookAt cells w) records shapes area) (collect-refuses cells w records shapes area) eh z, em)
 
-pub no-hit : (area b : Aabb) → overlap b area ≡ false → offer hit area b false ≡ found (next false)
-unfolding choose
-no-hit area b o = rw o
-
-pub empty-room : (l : BoxList) → l ≡ emptyList → Room l × (listOf l ≡ [])
-unfolding emptyList
-empty-room l e = rw e (record { whole = length-replicate 128 noBox; counts = omega arith }, refl)
+    pub refused-over : (h .refusal ≡ 0 → ⊥) → refused (h .refusal) ≡ whole-move
+    unfolding moveAabb
+    refused-over z = rw (← e, refusal-told h (collectBlockBoxes (lookAt cells w) records shapes area) eh z)

@@ -3,3 +3,5 @@ pub mod Boxes
 pub mod Collects
 pub mod Refuses
 pub mod Order
+pub mod Caps
+pub mod Unique

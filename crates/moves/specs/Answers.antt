@@ -2,10 +2,7 @@
 use mathlib.Core.Bool.{Bool, true, false, not, _&&_}
 use mathlib.Core.List.{List, []}
 use Prim.Native.Nat.{ℕ}
-use lib.Dec.{eqb}
-use lib.ListN.{length}
 use lib.Ieee.{Float}
-use Rattle.base.specs.Choose.{choose}
 use Rattle.base.specs.Ask.{Ask, refused, found, _>>=_}
 use Rattle.floats.specs.Numbers.{zero64}
 use Rattle.boxes.specs.declared.Vec3.{Vec3}
@@ -17,11 +14,10 @@ use Rattle.boxes.specs.Lists.{Held, held}
 use Rattle.boxes.specs.Move.{moveOver}
 use Rattle.boxes.specs.Limits.{isBox, isDelta, isStep}
 use Rattle.boxes.specs.Entry.{refusedMove}
-use Rattle.tables.specs.Check.{tableRefusal}
 use Rattle.window.specs.declared.Pos.{Pos}
 use Rattle.window.specs.declared.Window.{Window}
-use Rattle.window.specs.Window.{windowRefusal}
 use Rattle.window.specs.Look.{Block, lookAt}
+use Rattle.lent.specs.Lent.{unless, sound}
 use Rattle.moves.specs.declared.Collision.{Collision}
 use Rattle.moves.specs.declared.Collision.the-variants.{Is, Refused}
 use Rattle.moves.specs.declared.Moved.{Moved}
@@ -58,16 +54,6 @@ moveAnswer aabb (refused n) = record { refusal = n; result = refusedMove aabb }
 moveAnswer aabb (found m) = record { refusal = 0; result = m }
 
 -- ---- what a host calls: 1, 2, 3 and 4 in order, before any cell is asked for; then 5 or 6
-
--- what is asked, or the first refusal of a row of tests
-abbrev pub unless : {A : Type 0} → Bool → ℕ → Ask A → Ask A
-unless bad n ask = choose bad (refused n) ask
-
-abbrev pub sound : {A : Type 0} → List ℕ → List Float → List ℕ → Window → Ask A → Ask A
-sound records shapes cells w ask =
-    unless (not (eqb (tableRefusal records shapes) 0)) 1
-    (unless (not (eqb (windowRefusal (length cells) w) 0)) 2
-    ask)
 
 unfoldable pub collectEntry : List ℕ → List Float → List ℕ → Window → Aabb → Held
 collectEntry records shapes cells w area =

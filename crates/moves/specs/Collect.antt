@@ -95,18 +95,22 @@ rangeOf area =
 abbrev pub anyBlockBox : {S : Type 0} → (Aabb → S → Ask (Turn S Bool)) → (Pos → Ask Block) → List ℕ → List Float → Aabb → S → Ask (Turn S Bool)
 anyBlockBox accept look records shapes area s = walk (visit accept area look records shapes) (rangeOf area) s
 
--- |aabb| { out.push(aabb); false }, where a 129th box is 6
-abbrev pub push : Aabb → List Aabb → Ask (Turn (List Aabb) Bool)
-push b bs = choose (ltb (length bs) room) (found (next (bs ++ (b ∷ [])))) (refused 6)
+-- |aabb| { out.push(aabb); false }, where one box more than the cap is 6
+abbrev pub push : ℕ → Aabb → List Aabb → Ask (Turn (List Aabb) Bool)
+push cap b bs = choose (ltb (length bs) cap) (found (next (bs ++ (b ∷ [])))) (refused 6)
 
 abbrev pub pushed : Turn (List Aabb) Bool → List Aabb
 pushed (next bs) = bs
 pushed (done b) = []
 
-unfoldable pub collectBlockBoxes : (Pos → Ask Block) → List ℕ → List Float → Aabb → Ask (List Aabb)
-collectBlockBoxes look records shapes area = do
-  t ← anyBlockBox push look records shapes area []
+unfoldable pub collectUpTo : ℕ → (Pos → Ask Block) → List ℕ → List Float → Aabb → Ask (List Aabb)
+collectUpTo cap look records shapes area = do
+  t ← anyBlockBox (push cap) look records shapes area []
   found (pushed t)
+
+-- into the list, whose 129th box is 6
+abbrev pub collectBlockBoxes : (Pos → Ask Block) → List ℕ → List Float → Aabb → Ask (List Aabb)
+collectBlockBoxes look records shapes area = collectUpTo room look records shapes area
 
 -- |_| true: it stops at its first hit
 abbrev pub hit : Aabb → Bool → Ask (Turn Bool Bool)

@@ -1,27 +1,29 @@
--- How the program gets at the boxes of a cell: one by one, by number. No contract of a public function cites this file.
+-- How the program gets at the boxes of a cell, one by one, by number, and where it puts a few of them. No contract of a public function cites this file.
 use mathlib.Core.Bool.{Bool}
 use mathlib.Core.List.{List}
 use Prim.Native.Nat.{ℕ}
 use lib.Dec.{eqb}
 use lib.Ieee.{Float}
-use lib.ListN.{length}
+use lib.ListN.{length, replicate}
 use Rattle.base.specs.Choose.{choose}
 use Rattle.base.specs.Ask.{Ask, refused, found}
 use Rattle.boxes.specs.declared.Aabb.{Aabb}
 use Rattle.boxes.specs.Boxes.{offsetBy}
+use Rattle.boxes.specs.Lists.{noBox}
 use Rattle.tables.specs.Tables.{boxAt}
 use Rattle.window.specs.declared.Pos.{Pos}
 use Rattle.moves.specs.declared.Shape.{Shape}
-use Rattle.moves.specs.declared.Part.{Part}
-use Rattle.moves.specs.declared.Part.the-variants.{Is, Refused}
+use Rattle.moves.specs.declared.AskedShape.{AskedShape}
+use Rattle.moves.specs.declared.AskedShape.the-variants.{Is, Refused}
+use Rattle.moves.specs.declared.FewBoxes.{FewBoxes}
 use Rattle.moves.specs.Collect.{CellShape, cube, boxes, cubeAt, toAabb, originOf}
 
 abbrev pub shapeIn : Shape → CellShape
 shapeIn q = choose (q .cube) cube (boxes (q .first) (q .count))
 
-abbrev pub partAsked : Part → Ask CellShape
-partAsked (Is q) = found (shapeIn q)
-partAsked (Refused n) = refused n
+abbrev pub shapeAsked : AskedShape → Ask CellShape
+shapeAsked (Is q) = found (shapeIn q)
+shapeAsked (Refused n) = refused n
 
 -- how many boxes there are, and number k of them; a part that is not there whole is empty
 unfoldable pub countOf : Bool → ℕ → List Float → ℕ
@@ -29,3 +31,10 @@ countOf isCube count shape = choose isCube 1 (choose (eqb (length shape) 0) 0 co
 
 unfoldable pub nthAabb : Bool → List Float → Pos → ℕ → Aabb
 nthAabb isCube shape p k = choose isCube (cubeAt p) (offsetBy (toAabb (boxAt shape k)) (originOf p))
+
+-- room for a few boxes, and none in it
+abbrev pub few : ℕ
+few = 48
+
+unfoldable pub noFew : FewBoxes
+noFew = record { boxes = replicate few noBox; count = 0 }

@@ -15,15 +15,22 @@ use window::Cell;
 use window::Pos;
 use window::Window;
 ghost use mathlib.Core.Path.{_≡_};
-ghost use Rattle.boxes.specs.Lists.{heldIn};
+ghost use Prim.Native.Nat.{_≤_};
+ghost use Rattle.boxes.specs.Lists.{room, heldIn};
 ghost use Rattle.tables.specs.Tables.{boxAt};
 ghost use Rattle.window.specs.Look.{lookAt};
-ghost use Rattle.moves.specs.Collect.{originOf, cubeAt, toAabb, connectedShape, cellShape, rangeOf, collectBlockBoxes, collidesWithBlocks};
-ghost use Rattle.moves.specs.Parts.{partAsked, countOf, nthAabb};
+ghost use Rattle.moves.specs.Collect.{originOf, cubeAt, toAabb, connectedShape, cellShape, rangeOf, collectUpTo, collectBlockBoxes, collidesWithBlocks};
+ghost use Rattle.moves.specs.Parts.{shapeAsked, countOf, nthAabb};
 ghost use Rattle.moves.specs.Answers.{heldAsked, hitAsked, moveAnswer, collectEntry, collidesEntry, moveEntry};
 ghost use mathlib.Core.Bool.{_&&_};
 ghost use Rattle.base.specs.Ask.{refused};
 ghost use Rattle.boxes.specs.Limits.{isBox, isDelta};
+
+// Room for the boxes that a move meets as a rule, and a count: what a step pays for is this room, not that of the list.
+struct FewBoxes {
+    boxes: [Aabb; 48],
+    count: usize,
+}
 
 // What stands in a cell: a full cube, or the boxes of the shapes by the two words of a record.
 struct Shape {
@@ -32,7 +39,8 @@ struct Shape {
     count: u32,
 }
 
-enum Part {
+// What stands in a cell, or the number of a refusal.
+enum AskedShape {
     Is(Shape),
     Refused(u32),
 }
@@ -76,16 +84,16 @@ fn cube_at(p: Pos) -> Aabb
 }
 
 // What a registered record at p has beside its neighbours.
-fn part_of(records: &[u32], cells: &[u32], w: Window, p: Pos, id: u32) -> Part
-    ensures { λ r. ⌜ partAsked r ≡ connectedShape (lookAt (now (cells .entry)) w) (now (records .entry)) p id ⌝ }
+fn part_of(records: &[u32], cells: &[u32], w: Window, p: Pos, id: u32) -> AskedShape
+    ensures { λ r. ⌜ shapeAsked r ≡ connectedShape (lookAt (now (cells .entry)) w) (now (records .entry)) p id ⌝ }
 {
     let state = connect::connected_state(records, cells, w, p, id);
     match state {
-        Connected::Refused(n) => Part::Refused(n),
+        Connected::Refused(n) => AskedShape::Refused(n),
         Connected::State(s) => {
             let first = tables::word(records, s, 7);
             let count = tables::word(records, s, 8);
-            Part::Is(Shape {
+            AskedShape::Is(Shape {
                 cube: false,
                 first,
                 count,
@@ -95,13 +103,13 @@ fn part_of(records: &[u32], cells: &[u32], w: Window, p: Pos, id: u32) -> Part
 }
 
 // What stands in the cell at p. A record that connects as nothing has its own boxes, and is done with here.
-fn part_at(records: &[u32], cells: &[u32], w: Window, p: Pos) -> Part
-    ensures { λ r. ⌜ partAsked r ≡ cellShape (lookAt (now (cells .entry)) w) (now (records .entry)) p ⌝ }
+fn part_at(records: &[u32], cells: &[u32], w: Window, p: Pos) -> AskedShape
+    ensures { λ r. ⌜ shapeAsked r ≡ cellShape (lookAt (now (cells .entry)) w) (now (records .entry)) p ⌝ }
 {
     let cell = window::look(cells, w, p);
     match cell {
-        Cell::Outside => Part::Refused(5),
-        Cell::Unloaded => Part::Is(Shape {
+        Cell::Outside => AskedShape::Refused(5),
+        Cell::Unloaded => AskedShape::Is(Shape {
             cube: true,
             first: 0,
             count: 1,
@@ -110,7 +118,7 @@ fn part_at(records: &[u32], cells: &[u32], w: Window, p: Pos) -> Part
             let h = tables::head_at(records, id);
             if h.registered {
                 if h.kind == 0 {
-                    return Part::Is(Shape {
+                    return AskedShape::Is(Shape {
                         cube: false,
                         first: h.first,
                         count: h.count,
@@ -118,7 +126,7 @@ fn part_at(records: &[u32], cells: &[u32], w: Window, p: Pos) -> Part
                 }
                 return part_of(records, cells, w, p, id);
             }
-            Part::Is(Shape {
+            AskedShape::Is(Shape {
                 cube: false,
                 first: 0,
                 count: 0,
@@ -177,91 +185,71 @@ fn range_of(area: Aabb) -> Range
     Range { x, y, z }
 }
 
-// The boxes of every cell that the area reaches, which strictly overlap it. The list is built in place. It refuses 5 and 6 alone.
-pub fn collect(records: &[u32], shapes: &[f32], cells: &[u32], w: Window, area: Aabb) -> Collected
-    ensures { λ r. ⌜ heldIn r ≡ heldAsked (collectBlockBoxes (lookAt (now (cells .entry)) w) (now (records .entry)) (now (shapes .entry)) area) ⌝ }
+// The boxes of every cell that the area reaches, which strictly overlap it: as many as the cap says, and with one more it refuses 6. The list is
+// built in place.
+fn collect_up_to(cap: usize, records: &[u32], shapes: &[f32], cells: &[u32], w: Window, area: Aabb) -> Collected
+    requires { ⌜ cap ≤ room ⌝ }
+    ensures { λ r. ⌜ heldIn r ≡ heldAsked (collectUpTo cap (lookAt (now (cells .entry)) w) (now (records .entry)) (now (shapes .entry)) area) ⌝ }
 {
     let r = range_of(area);
     let mut list = BoxList::new();
-    let mut y = 0u32;
-    while y < r.y.count {
-        let mut x = 0u32;
-        while x < r.x.count {
-            let mut z = 0u32;
-            while z < r.z.count {
+    for y in 0..r.y.count {
+        for x in 0..r.x.count {
+            for z in 0..r.z.count {
                 let p = ranges::place(r, At { x, y, z });
-                let q = match part_at(records, cells, w, p) {
-                    Part::Refused(n) => return Collected::refused(n),
-                    Part::Is(s) => s,
+                let part = match part_at(records, cells, w, p) {
+                    AskedShape::Refused(n) => return Collected::refused(n),
+                    AskedShape::Is(s) => s,
                 };
-                let shape = tables::boxes_at(shapes, q.first, q.count);
-                let n = count_of(q.cube, q.count, shape);
-                let mut k = 0u32;
-                while k < n {
-                    let b = nth_aabb(q.cube, shape, p, k);
+                let shape = tables::boxes_at(shapes, part.first, part.count);
+                let n = count_of(part.cube, part.count, shape);
+                for k in 0..n {
+                    let b = nth_aabb(part.cube, shape, p, k);
                     if b.intersects(area) {
                         let i = list.count;
-                        if i >= 128 {
+                        if i >= cap {
                             return Collected::refused(6);
                         }
                         list.boxes[i] = b;
                         list.count = i + 1;
                     }
-                    k += 1;
                 }
-                z += 1;
             }
-            x += 1;
         }
-        y += 1;
     }
     Collected { list, refusal: 0 }
 }
 
+// Collection into the list. It refuses 5 and 6 alone.
+pub fn collect(records: &[u32], shapes: &[f32], cells: &[u32], w: Window, area: Aabb) -> Collected
+    ensures { λ r. ⌜ heldIn r ≡ heldAsked (collectBlockBoxes (lookAt (now (cells .entry)) w) (now (records .entry)) (now (shapes .entry)) area) ⌝ }
+{
+    collect_up_to(128, records, shapes, cells, w, area)
+}
+
 // Whether a block box strictly overlaps the area. It stops at its first hit: no cell after that is asked for. It refuses 5 alone.
+// A collection with room for no box does the same, and its 6 is the hit.
 pub fn collides(records: &[u32], shapes: &[f32], cells: &[u32], w: Window, area: Aabb) -> Collision
     ensures { λ r. ⌜ hitAsked r ≡ collidesWithBlocks (lookAt (now (cells .entry)) w) (now (records .entry)) (now (shapes .entry)) area ⌝ }
 {
-    let r = range_of(area);
-    let mut y = 0u32;
-    while y < r.y.count {
-        let mut x = 0u32;
-        while x < r.x.count {
-            let mut z = 0u32;
-            while z < r.z.count {
-                let p = ranges::place(r, At { x, y, z });
-                let q = match part_at(records, cells, w, p) {
-                    Part::Refused(n) => return Collision::Refused(n),
-                    Part::Is(s) => s,
-                };
-                let shape = tables::boxes_at(shapes, q.first, q.count);
-                let n = count_of(q.cube, q.count, shape);
-                let mut k = 0u32;
-                while k < n {
-                    let b = nth_aabb(q.cube, shape, p, k);
-                    if b.intersects(area) {
-                        return Collision::Is(true);
-                    }
-                    k += 1;
-                }
-                z += 1;
-            }
-            x += 1;
-        }
-        y += 1;
+    let none = collect_up_to(0, records, shapes, cells, w, area);
+    let refusal = none.refusal;
+    if refusal == 0 {
+        return Collision::Is(false);
     }
-    Collision::Is(false)
+    if refusal == 6 {
+        return Collision::Is(true);
+    }
+    Collision::Refused(refusal)
 }
 
 // For hosts: collection, with tables, window and area checked before any cell is asked for.
 pub fn collect_block_boxes(records: &[u32], shapes: &[f32], cells: &[u32], w: Window, area: Aabb) -> Collected
     ensures { λ r. ⌜ heldIn r ≡ collectEntry (now (records .entry)) (now (shapes .entry)) (now (cells .entry)) w area ⌝ }
 {
-    if tables::check_tables(records, shapes) != 0 {
-        return Collected::refused(1);
-    }
-    if window::check_window(cells, w) != 0 {
-        return Collected::refused(2);
+    let bad = lent::check_lent(records, shapes, cells, w);
+    if bad != 0 {
+        return Collected::refused(bad);
     }
     if boxes::is_box(area) {
         return collect(records, shapes, cells, w, area);
@@ -273,11 +261,9 @@ pub fn collect_block_boxes(records: &[u32], shapes: &[f32], cells: &[u32], w: Wi
 pub fn collides_with_blocks(records: &[u32], shapes: &[f32], cells: &[u32], w: Window, area: Aabb) -> HitAnswer
     ensures { λ r. ⌜ r ≡ collidesEntry (now (records .entry)) (now (shapes .entry)) (now (cells .entry)) w area ⌝ }
 {
-    if tables::check_tables(records, shapes) != 0 {
-        return HitAnswer { refusal: 1, hit: false };
-    }
-    if window::check_window(cells, w) != 0 {
-        return HitAnswer { refusal: 2, hit: false };
+    let bad = lent::check_lent(records, shapes, cells, w);
+    if bad != 0 {
+        return HitAnswer { refusal: bad, hit: false };
     }
     if boxes::is_box(area) {
         let told = collides(records, shapes, cells, w, area);
@@ -316,11 +302,9 @@ fn is_fit(aabb: Aabb, delta: Vec3) -> bool
 pub fn move_aabb(records: &[u32], shapes: &[f32], cells: &[u32], w: Window, aabb: Aabb, delta: Vec3, step: f64, ground: bool) -> MoveAnswer
     ensures { λ r. ⌜ r ≡ moveEntry (now (records .entry)) (now (shapes .entry)) (now (cells .entry)) w aabb delta step ground ⌝ }
 {
-    if tables::check_tables(records, shapes) != 0 {
-        return refused_move(1, aabb);
-    }
-    if window::check_window(cells, w) != 0 {
-        return refused_move(2, aabb);
+    let bad = lent::check_lent(records, shapes, cells, w);
+    if bad != 0 {
+        return refused_move(bad, aabb);
     }
     if boxes::is_step(step) {
         if is_fit(aabb, delta) {

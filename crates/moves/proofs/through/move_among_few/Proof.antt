@@ -1,0 +1,312 @@
+-- `moves::through::move_among_few` meets its contract: its first four loops leave what `Collects.antt` says, and the passes over what they left are
+-- those of a move over a list. Assumes nothing.
+use mathlib.Core.Path.{_≡_, refl, sym, ap, _∙_}
+use mathlib.Core.Logic.{⊎-elim}
+use mathlib.Core.List.{List, []}
+use Prim.Native.Nat.{ℕ, _-_, _<_}
+use native.Mathlib.Omega.{arith}
+use lib.ListN.{take, drop}
+use Rattle.boxes.specs.declared.Aabb.{Aabb}
+use Rattle.boxes.specs.Lists.{room}
+use Rattle.boxes.specs.Move.{clipAll}
+use Rattle.boxes.specs.Passes.{clipAlong, passesFrom, sweepOf}
+use Rattle.boxes.proofs.Turns.{clip-turn, made, pass-on, pass-over, passes-end}
+use Rattle.window.specs.Look.{lookAt}
+use Rattle.moves.specs.declared.FewBoxes.{FewBoxes}
+use Rattle.moves.specs.Collect.{push, cellShape}
+use Rattle.moves.specs.Parts.{nthAabb, shapeAsked, few}
+use Rattle.moves.proofs.Collects.{Room, all, layersFrom, linesFrom, cellsFrom, boxesFrom, walk-begins, layer-begins, line-begins, cell-begins, cell-refused, box-next, boxes-end, cells-end, lines-end, layers-end, kept, passed, empty-few, fully, moved, not-moved}
+use borrow.Author.Needs.{needs}
+use Rattle.moves.proofs.through.move_among_few.Statement.{statement}
+use Rattle.moves.proofs.through.move_among_few.Tie as tie
+
+abbrev Inv-loop4 : tie.InvT-loop4
+Inv-loop4 records shapes cells w q area r list₀ y x z p part shape n k₀ y-end x-end z-end list k =
+    Room few (list .boxes) (list .count) × (boxesFrom (push room) (lookAt cells w) records shapes area r y x z (nthAabb (part .cube) shape p) n k (take (list .count) (list .boxes)) ≡ all (push room) (lookAt cells w) records shapes area r [])
+
+abbrev μ-loop4 : tie.MeasureT-loop4
+μ-loop4 records shapes cells w q area r list₀ y x z p part shape n k₀ y-end x-end z-end list k = n - k
+
+abbrev Inv-loop3 : tie.InvT-loop3
+Inv-loop3 records shapes cells w q area r list₀ y x z₀ y-end x-end z-end list z =
+    Room few (list .boxes) (list .count) × (cellsFrom (push room) (lookAt cells w) records shapes area r y x z (take (list .count) (list .boxes)) ≡ all (push room) (lookAt cells w) records shapes area r [])
+
+abbrev μ-loop3 : tie.MeasureT-loop3
+μ-loop3 records shapes cells w q area r list₀ y x z₀ y-end x-end z-end list z = z-end - z
+
+abbrev Inv-loop2 : tie.InvT-loop2
+Inv-loop2 records shapes cells w q area r list₀ y x₀ y-end x-end list x =
+    Room few (list .boxes) (list .count) × (linesFrom (push room) (lookAt cells w) records shapes area r y x (take (list .count) (list .boxes)) ≡ all (push room) (lookAt cells w) records shapes area r [])
+
+abbrev μ-loop2 : tie.MeasureT-loop2
+μ-loop2 records shapes cells w q area r list₀ y x₀ y-end x-end list x = x-end - x
+
+abbrev Inv-loop : tie.InvT-loop
+Inv-loop records shapes cells w q area r list₀ y₀ y-end list y =
+    Room few (list .boxes) (list .count) × (layersFrom (push room) (lookAt cells w) records shapes area r y (take (list .count) (list .boxes)) ≡ all (push room) (lookAt cells w) records shapes area r [])
+
+abbrev μ-loop : tie.MeasureT-loop
+μ-loop records shapes cells w q area r list₀ y₀ y-end list y = y-end - y
+
+abbrev Inv-loop6 : tie.InvT-loop6
+Inv-loop6 records shapes cells q list s pass axis now mover d₀ i₀ i-end d i =
+    clipAll (clipAlong axis) (drop i (take (list .count) (list .boxes))) mover d ≡ clipAll (clipAlong axis) (take (list .count) (list .boxes)) mover d₀
+
+abbrev μ-loop6 : tie.MeasureT-loop6
+μ-loop6 records shapes cells q list s pass axis now mover d₀ i₀ i-end d i = i-end - i
+
+abbrev Inv-loop5 : tie.InvT-loop5
+Inv-loop5 records shapes cells q list s₀ pass₀ s pass =
+    passesFrom (7 - pass) pass (take (list .count) (list .boxes)) q s ≡ sweepOf (take (list .count) (list .boxes)) q
+
+abbrev μ-loop5 : tie.MeasureT-loop5
+μ-loop5 records shapes cells q list s₀ pass₀ s pass = 7 - pass
+
+swept-area-requires :
+    tie.Need-swept-area-requires Inv-loop4 μ-loop4 Inv-loop3 μ-loop3 Inv-loop2 μ-loop2 Inv-loop μ-loop Inv-loop6 μ-loop6 Inv-loop5 μ-loop5
+swept-area-requires c κs = search needs
+
+range-of-requires :
+    tie.Need-range-of-requires Inv-loop4 μ-loop4 Inv-loop3 μ-loop3 Inv-loop2 μ-loop2 Inv-loop μ-loop Inv-loop6 μ-loop6 Inv-loop5 μ-loop5
+range-of-requires c κs = search needs
+
+no-few-requires : tie.Need-no-few-requires Inv-loop4 μ-loop4 Inv-loop3 μ-loop3 Inv-loop2 μ-loop2 Inv-loop μ-loop Inv-loop6 μ-loop6 Inv-loop5 μ-loop5
+no-few-requires c κs = search needs
+
+loop-holds : tie.Need-loop-holds Inv-loop4 μ-loop4 Inv-loop3 μ-loop3 Inv-loop2 μ-loop2 Inv-loop μ-loop Inv-loop6 μ-loop6 Inv-loop5 μ-loop5
+loop-holds c = let e = empty-few _ (c .no-few .ensures) in (e .0, walk-begins (push room) _ _ _ _ _ _ ∙ ap (all (push room) _ _ _ _ _) (e .1))
+
+loop2-holds : tie.Need-loop2-holds Inv-loop4 μ-loop4 Inv-loop3 μ-loop3 Inv-loop2 μ-loop2 Inv-loop μ-loop Inv-loop6 μ-loop6 Inv-loop5 μ-loop5
+loop2-holds c = let i = c .before .loop .inv in (i .0, sym (layer-begins (push room) _ _ _ _ _ _ _ (c .loop-test .taken)) ∙ i .1)
+
+loop3-holds : tie.Need-loop3-holds Inv-loop4 μ-loop4 Inv-loop3 μ-loop3 Inv-loop2 μ-loop2 Inv-loop μ-loop Inv-loop6 μ-loop6 Inv-loop5 μ-loop5
+loop3-holds c = let i = c .before .loop2 .inv in (i .0, sym (line-begins (push room) _ _ _ _ _ _ _ _ (c .loop2-test .taken)) ∙ i .1)
+
+place-requires : tie.Need-place-requires Inv-loop4 μ-loop4 Inv-loop3 μ-loop3 Inv-loop2 μ-loop2 Inv-loop μ-loop Inv-loop6 μ-loop6 Inv-loop5 μ-loop5
+place-requires c κs = search needs
+
+part-at-requires :
+    tie.Need-part-at-requires Inv-loop4 μ-loop4 Inv-loop3 μ-loop3 Inv-loop2 μ-loop2 Inv-loop μ-loop Inv-loop6 μ-loop6 Inv-loop5 μ-loop5
+part-at-requires c κs = search needs
+
+enum-known-n : tie.Need-enum-known-n Inv-loop4 μ-loop4 Inv-loop3 μ-loop3 Inv-loop2 μ-loop2 Inv-loop μ-loop Inv-loop6 μ-loop6 Inv-loop5 μ-loop5
+enum-known-n c = search needs
+
+returns : tie.Need-returns Inv-loop4 μ-loop4 Inv-loop3 μ-loop3 Inv-loop2 μ-loop2 Inv-loop μ-loop Inv-loop6 μ-loop6 Inv-loop5 μ-loop5
+returns c = not-moved _ _ _ _ _ _ (c .before .before .before .before .before .before .before .before .before .before .before .before .before .swept-area .ensures) _ (c .before .before .before .before .before .before .before .before .before .before .before .before .range-of .ensures) _ (sym (cell-refused (push room) _ _ _ _ _ _ _ _ _ (c .before .before .before .before .before .loop3-test .taken) (c .before .n .given .0 .0) (ap (cellShape _ _) (sym (c .before .before .before .before .place .ensures)) ∙ sym (c .before .before .before .part-at .ensures) ∙ ap shapeAsked (c .before .n .given .1))) ∙ c .before .before .before .before .before .before .loop3 .inv .1)
+
+enum-known-s : tie.Need-enum-known-s Inv-loop4 μ-loop4 Inv-loop3 μ-loop3 Inv-loop2 μ-loop2 Inv-loop μ-loop Inv-loop6 μ-loop6 Inv-loop5 μ-loop5
+enum-known-s c = search needs
+
+boxes-at-requires :
+    tie.Need-boxes-at-requires Inv-loop4 μ-loop4 Inv-loop3 μ-loop3 Inv-loop2 μ-loop2 Inv-loop μ-loop Inv-loop6 μ-loop6 Inv-loop5 μ-loop5
+boxes-at-requires c κs = search needs
+
+count-of-requires :
+    tie.Need-count-of-requires Inv-loop4 μ-loop4 Inv-loop3 μ-loop3 Inv-loop2 μ-loop2 Inv-loop μ-loop Inv-loop6 μ-loop6 Inv-loop5 μ-loop5
+count-of-requires c κs = search needs
+
+loop4-holds : tie.Need-loop4-holds Inv-loop4 μ-loop4 Inv-loop3 μ-loop3 Inv-loop2 μ-loop2 Inv-loop μ-loop Inv-loop6 μ-loop6 Inv-loop5 μ-loop5
+loop4-holds c = let i = c .before .before .before .before .before .before .before .before .loop3 .inv in (i .0, rw (c .before .before .before .before .before .before .place .ensures) (sym (cell-begins (push room) _ _ _ _ _ _ _ _ _ (c .before .before .before .before .before .before .before .loop3-test .taken) (c .before .before .before .s .given .0 .0) _ _ (ap (cellShape _ _) (sym (c .before .before .before .before .before .before .place .ensures)) ∙ sym (c .before .before .before .before .before .part-at .ensures) ∙ ap shapeAsked (c .before .before .before .s .given .1)) (c .before .boxes-at .ensures) (c .count-of .ensures)) ∙ i .1))
+
+nth-aabb-requires :
+    tie.Need-nth-aabb-requires Inv-loop4 μ-loop4 Inv-loop3 μ-loop3 Inv-loop2 μ-loop2 Inv-loop μ-loop Inv-loop6 μ-loop6 Inv-loop5 μ-loop5
+nth-aabb-requires c κs = search needs
+
+intersects-requires :
+    tie.Need-intersects-requires Inv-loop4 μ-loop4 Inv-loop3 μ-loop3 Inv-loop2 μ-loop2 Inv-loop μ-loop Inv-loop6 μ-loop6 Inv-loop5 μ-loop5
+intersects-requires c κs = search needs
+
+move-among-many-requires :
+    tie.Need-move-among-many-requires Inv-loop4 μ-loop4 Inv-loop3 μ-loop3 Inv-loop2 μ-loop2 Inv-loop μ-loop Inv-loop6 μ-loop6 Inv-loop5 μ-loop5
+move-among-many-requires c κs = search needs
+
+returns-2 : tie.Need-returns-2 Inv-loop4 μ-loop4 Inv-loop3 μ-loop3 Inv-loop2 μ-loop2 Inv-loop μ-loop Inv-loop6 μ-loop6 Inv-loop5 μ-loop5
+returns-2 c = c .move-among-many .ensures
+
+mul-b : tie.Need-mul-b Inv-loop4 μ-loop4 Inv-loop3 μ-loop3 Inv-loop2 μ-loop2 Inv-loop μ-loop Inv-loop6 μ-loop6 Inv-loop5 μ-loop5
+mul-b c = let i = c .before .before .before .before .before .loop4 .inv .0 .whole in omega arith
+
+element-set-from-b :
+    tie.Need-element-set-from-b Inv-loop4 μ-loop4 Inv-loop3 μ-loop3 Inv-loop2 μ-loop2 Inv-loop μ-loop Inv-loop6 μ-loop6 Inv-loop5 μ-loop5
+element-set-from-b c = let i = c .before .before .before .before .before .loop4 .inv .0 .whole in omega arith
+
+add-list : tie.Need-add-list Inv-loop4 μ-loop4 Inv-loop3 μ-loop3 Inv-loop2 μ-loop2 Inv-loop μ-loop Inv-loop6 μ-loop6 Inv-loop5 μ-loop5
+add-list c = let i = c .before .before .before .before .before .loop4 .inv .0 .whole in omega arith
+
+add-k : tie.Need-add-k Inv-loop4 μ-loop4 Inv-loop3 μ-loop3 Inv-loop2 μ-loop2 Inv-loop μ-loop Inv-loop6 μ-loop6 Inv-loop5 μ-loop5
+add-k c = omega arith
+
+loop4-less : tie.Need-loop4-less Inv-loop4 μ-loop4 Inv-loop3 μ-loop3 Inv-loop2 μ-loop2 Inv-loop μ-loop Inv-loop6 μ-loop6 Inv-loop5 μ-loop5
+loop4-less c = omega arith
+
+loop4-again : tie.Need-loop4-again Inv-loop4 μ-loop4 Inv-loop3 μ-loop3 Inv-loop2 μ-loop2 Inv-loop μ-loop Inv-loop6 μ-loop6 Inv-loop5 μ-loop5
+loop4-again c =
+    let l = c .before .before .before .before .loop4 .list in
+    let i = c .before .before .before .before .loop4 .inv in
+    let o = sym (c .before .intersects .ensures) in
+    let boxes-in : FewBoxes → List Aabb = λ x. x .boxes in
+    let count-in : FewBoxes → ℕ = λ x. x .count in
+    let m = ⊎-elim (λ w. let b : l .count < 48 = w .1 .left in let g : l .count < 128 = omega arith in kept few room _ _ (l .boxes) (c .if1 .list .boxes) (l .count) (c .if1 .list .count) (i .0) (ap boxes-in (w .2)) (ap count-in (w .2)) b g (o ∙ w .0 .taken)) (λ w. passed few room _ _ (l .boxes) (c .if1 .list .boxes) (l .count) (c .if1 .list .count) (i .0) (ap boxes-in (w .1)) (ap count-in (w .1)) (o ∙ w .0 .left)) (c .if1 .came) in
+    (m .0, sym (box-next (push room) _ _ _ _ _ _ _ _ _ _ _ _ _ (c .before .before .before .loop4-test .taken) (c .before .before .nth-aabb .ensures) _ (m .1)) ∙ i .1)
+
+add-z : tie.Need-add-z Inv-loop4 μ-loop4 Inv-loop3 μ-loop3 Inv-loop2 μ-loop2 Inv-loop μ-loop Inv-loop6 μ-loop6 Inv-loop5 μ-loop5
+add-z c = let h : c .before .before .before .before .before .before .before .before .before .before .loop3 .z < c .before .before .before .before .before .before .before .before .before .before .before .before .before .before .before .before .range-of .result .z .count = c .before .before .before .before .before .before .before .before .before .loop3-test .taken in omega (arith, c .before .before .before .before .before .before .before .before .before .before .before .before .before .before .before .before .range-of .ok .1 .1 .1 .1 .0)
+
+loop3-less : tie.Need-loop3-less Inv-loop4 μ-loop4 Inv-loop3 μ-loop3 Inv-loop2 μ-loop2 Inv-loop μ-loop Inv-loop6 μ-loop6 Inv-loop5 μ-loop5
+loop3-less c = omega arith
+
+loop3-again : tie.Need-loop3-again Inv-loop4 μ-loop4 Inv-loop3 μ-loop3 Inv-loop2 μ-loop2 Inv-loop μ-loop Inv-loop6 μ-loop6 Inv-loop5 μ-loop5
+loop3-again c = let i = c .before .loop4 .inv in (i .0, sym (boxes-end (push room) _ _ _ _ _ _ _ _ _ _ _ _ (c .loop4-test .left)) ∙ i .1)
+
+add-x : tie.Need-add-x Inv-loop4 μ-loop4 Inv-loop3 μ-loop3 Inv-loop2 μ-loop2 Inv-loop μ-loop Inv-loop6 μ-loop6 Inv-loop5 μ-loop5
+add-x c = let h : c .before .before .before .loop2 .x < c .before .before .before .before .before .before .before .range-of .result .x .count = c .before .before .loop2-test .taken in omega arith
+
+loop2-less : tie.Need-loop2-less Inv-loop4 μ-loop4 Inv-loop3 μ-loop3 Inv-loop2 μ-loop2 Inv-loop μ-loop Inv-loop6 μ-loop6 Inv-loop5 μ-loop5
+loop2-less c = omega arith
+
+loop2-again : tie.Need-loop2-again Inv-loop4 μ-loop4 Inv-loop3 μ-loop3 Inv-loop2 μ-loop2 Inv-loop μ-loop Inv-loop6 μ-loop6 Inv-loop5 μ-loop5
+loop2-again c = let i = c .before .loop3 .inv in (i .0, sym (cells-end (push room) _ _ _ _ _ _ _ _ _ (c .loop3-test .left)) ∙ i .1)
+
+add-y : tie.Need-add-y Inv-loop4 μ-loop4 Inv-loop3 μ-loop3 Inv-loop2 μ-loop2 Inv-loop μ-loop Inv-loop6 μ-loop6 Inv-loop5 μ-loop5
+add-y c = let h : c .before .before .before .loop .y < c .before .before .before .before .before .range-of .result .y .count = c .before .before .loop-test .taken in omega (arith, c .before .before .before .before .before .range-of .ok .1 .1 .1 .0)
+
+loop-less : tie.Need-loop-less Inv-loop4 μ-loop4 Inv-loop3 μ-loop3 Inv-loop2 μ-loop2 Inv-loop μ-loop Inv-loop6 μ-loop6 Inv-loop5 μ-loop5
+loop-less c = omega arith
+
+loop-again : tie.Need-loop-again Inv-loop4 μ-loop4 Inv-loop3 μ-loop3 Inv-loop2 μ-loop2 Inv-loop μ-loop Inv-loop6 μ-loop6 Inv-loop5 μ-loop5
+loop-again c = let i = c .before .loop2 .inv in (i .0, sym (lines-end (push room) _ _ _ _ _ _ _ _ (c .loop2-test .left)) ∙ i .1)
+
+begun-requires : tie.Need-begun-requires Inv-loop4 μ-loop4 Inv-loop3 μ-loop3 Inv-loop2 μ-loop2 Inv-loop μ-loop Inv-loop6 μ-loop6 Inv-loop5 μ-loop5
+begun-requires c κs = search needs
+
+loop5-holds : tie.Need-loop5-holds Inv-loop4 μ-loop4 Inv-loop3 μ-loop3 Inv-loop2 μ-loop2 Inv-loop μ-loop Inv-loop6 μ-loop6 Inv-loop5 μ-loop5
+loop5-holds c = ap (passesFrom 7 0 _ _) (c .begun .ensures)
+
+axis-of-requires :
+    tie.Need-axis-of-requires Inv-loop4 μ-loop4 Inv-loop3 μ-loop3 Inv-loop2 μ-loop2 Inv-loop μ-loop Inv-loop6 μ-loop6 Inv-loop5 μ-loop5
+axis-of-requires c κs = search needs
+
+wanted-requires : tie.Need-wanted-requires Inv-loop4 μ-loop4 Inv-loop3 μ-loop3 Inv-loop2 μ-loop2 Inv-loop μ-loop Inv-loop6 μ-loop6 Inv-loop5 μ-loop5
+wanted-requires c κs = search needs
+
+loop6-holds : tie.Need-loop6-holds Inv-loop4 μ-loop4 Inv-loop3 μ-loop3 Inv-loop2 μ-loop2 Inv-loop μ-loop Inv-loop6 μ-loop6 Inv-loop5 μ-loop5
+loop6-holds c = refl
+
+mul-b-2 : tie.Need-mul-b-2 Inv-loop4 μ-loop4 Inv-loop3 μ-loop3 Inv-loop2 μ-loop2 Inv-loop μ-loop Inv-loop6 μ-loop6 Inv-loop5 μ-loop5
+mul-b-2 c = let i = c .before .before .before .before .before .before .before .before .before .before .loop .inv .0 .counts in let j = c .before .before .before .before .before .before .before .before .before .before .loop .inv .0 .whole in omega arith
+
+element-copy-out-b :
+    tie.Need-element-copy-out-b Inv-loop4 μ-loop4 Inv-loop3 μ-loop3 Inv-loop2 μ-loop2 Inv-loop μ-loop Inv-loop6 μ-loop6 Inv-loop5 μ-loop5
+element-copy-out-b c = let i = c .before .before .before .before .before .before .before .before .before .before .loop .inv .0 .counts in let j = c .before .before .before .before .before .before .before .before .before .before .loop .inv .0 .whole in omega arith
+
+clip-along-requires :
+    tie.Need-clip-along-requires Inv-loop4 μ-loop4 Inv-loop3 μ-loop3 Inv-loop2 μ-loop2 Inv-loop μ-loop Inv-loop6 μ-loop6 Inv-loop5 μ-loop5
+clip-along-requires c κs = search needs
+
+add-i : tie.Need-add-i Inv-loop4 μ-loop4 Inv-loop3 μ-loop3 Inv-loop2 μ-loop2 Inv-loop μ-loop Inv-loop6 μ-loop6 Inv-loop5 μ-loop5
+add-i c = omega arith
+
+loop6-less : tie.Need-loop6-less Inv-loop4 μ-loop4 Inv-loop3 μ-loop3 Inv-loop2 μ-loop2 Inv-loop μ-loop Inv-loop6 μ-loop6 Inv-loop5 μ-loop5
+loop6-less c = omega arith
+
+loop6-again : tie.Need-loop6-again Inv-loop4 μ-loop4 Inv-loop3 μ-loop3 Inv-loop2 μ-loop2 Inv-loop μ-loop Inv-loop6 μ-loop6 Inv-loop5 μ-loop5
+loop6-again c = clip-turn (c .before .before .before .before .before .before .before .before .before .before .before .before .loop .list .boxes) (c .before .before .before .before .before .before .before .before .before .before .before .before .loop .list .count) few (c .before .before .before .before .before .before .before .before .before .before .before .before .loop .inv .0 .whole) _ (c .before .before .before .loop6 .i) (fully few _ _ (c .before .before .before .before .before .before .before .before .before .before .before .before .loop .inv .0)) (clipAlong (c .before .before .before .before .before .before .before .axis-of .result)) (c .before .before .before .before .before .before .before .before .before .loop5 .s .now .aabb) _ (c .before .before .before .loop6 .d) _ _ (c .before .before .loop6-test .taken) (c .clip-along .ensures) (c .before .before .before .loop6 .inv)
+
+gone-requires : tie.Need-gone-requires Inv-loop4 μ-loop4 Inv-loop3 μ-loop3 Inv-loop2 μ-loop2 Inv-loop μ-loop Inv-loop6 μ-loop6 Inv-loop5 μ-loop5
+gone-requires c κs = search needs
+
+next-requires : tie.Need-next-requires Inv-loop4 μ-loop4 Inv-loop3 μ-loop3 Inv-loop2 μ-loop2 Inv-loop μ-loop Inv-loop6 μ-loop6 Inv-loop5 μ-loop5
+next-requires c κs = search needs
+
+ended-requires : tie.Need-ended-requires Inv-loop4 μ-loop4 Inv-loop3 μ-loop3 Inv-loop2 μ-loop2 Inv-loop μ-loop Inv-loop6 μ-loop6 Inv-loop5 μ-loop5
+ended-requires c κs = search needs
+
+returns-3 : tie.Need-returns-3 Inv-loop4 μ-loop4 Inv-loop3 μ-loop3 Inv-loop2 μ-loop2 Inv-loop μ-loop Inv-loop6 μ-loop6 Inv-loop5 μ-loop5
+returns-3 c = moved _ _ _ _ _ _ (c .before .before .before .before .before .before .before .before .before .before .before .before .before .before .before .before .before .before .swept-area .ensures) _ (c .before .before .before .before .before .before .before .before .before .before .before .before .before .before .before .before .before .range-of .ensures) _ (sym (layers-end (push room) _ _ _ _ _ _ _ (c .before .before .before .before .before .before .before .before .before .before .before .before .before .before .loop-test .left)) ∙ c .before .before .before .before .before .before .before .before .before .before .before .before .before .before .before .loop .inv .1) _ (pass-over _ _ (c .before .before .before .before .before .before .before .before .before .before .before .before .loop5 .pass) (c .before .before .before .before .before .before .before .before .before .before .before .before .loop5 .s) (c .before .before .next .result) _ (made (c .before .before .before .before .before .before .before .before .before .before .before .before .before .before .before .loop .list .boxes) (c .before .before .before .before .before .before .before .before .before .before .before .before .before .before .before .loop .list .count) few (c .before .before .before .before .before .before .before .before .before .before .before .before .before .before .before .loop .inv .0 .whole) _ _ (fully few _ _ (c .before .before .before .before .before .before .before .before .before .before .before .before .before .before .before .loop .inv .0)) _ (c .before .before .before .before .before .before .before .before .before .before .before .before .loop5 .pass) (c .before .before .before .before .before .before .before .before .before .before .before .before .loop5 .s) _ _ _ _ (c .before .before .before .before .before .before .loop6 .d) (c .before .before .before .before .before .before .before .before .before .before .axis-of .ensures) (c .before .before .before .before .before .before .before .wanted .ensures) (c .before .before .before .before .before .loop6-test .left) (c .before .before .before .before .before .before .loop6 .inv) (c .before .before .before .gone .ensures) (c .before .before .next .ensures)) (c .before .before .before .before .before .before .before .before .before .before .before .loop5-test .taken) (c .before .if3 .taken) (c .before .before .before .before .before .before .before .before .before .before .before .before .loop5 .inv)) _ (c .ended .ensures)
+
+add-pass : tie.Need-add-pass Inv-loop4 μ-loop4 Inv-loop3 μ-loop3 Inv-loop2 μ-loop2 Inv-loop μ-loop Inv-loop6 μ-loop6 Inv-loop5 μ-loop5
+add-pass c = omega arith
+
+loop5-less : tie.Need-loop5-less Inv-loop4 μ-loop4 Inv-loop3 μ-loop3 Inv-loop2 μ-loop2 Inv-loop μ-loop Inv-loop6 μ-loop6 Inv-loop5 μ-loop5
+loop5-less c = omega arith
+
+loop5-again : tie.Need-loop5-again Inv-loop4 μ-loop4 Inv-loop3 μ-loop3 Inv-loop2 μ-loop2 Inv-loop μ-loop Inv-loop6 μ-loop6 Inv-loop5 μ-loop5
+loop5-again c = pass-on _ _ (c .before .before .before .before .before .before .before .before .before .before .before .loop5 .pass) (c .before .before .before .before .before .before .before .before .before .before .before .loop5 .s) (c .before .next .result) _ (made (c .before .before .before .before .before .before .before .before .before .before .before .before .before .before .loop .list .boxes) (c .before .before .before .before .before .before .before .before .before .before .before .before .before .before .loop .list .count) few (c .before .before .before .before .before .before .before .before .before .before .before .before .before .before .loop .inv .0 .whole) _ _ (fully few _ _ (c .before .before .before .before .before .before .before .before .before .before .before .before .before .before .loop .inv .0)) _ (c .before .before .before .before .before .before .before .before .before .before .before .loop5 .pass) (c .before .before .before .before .before .before .before .before .before .before .before .loop5 .s) _ _ _ _ (c .before .before .before .before .before .loop6 .d) (c .before .before .before .before .before .before .before .before .before .axis-of .ensures) (c .before .before .before .before .before .before .wanted .ensures) (c .before .before .before .before .loop6-test .left) (c .before .before .before .before .before .loop6 .inv) (c .before .before .gone .ensures) (c .before .next .ensures)) (c .before .before .before .before .before .before .before .before .before .before .loop5-test .taken) (c .if3 .left) (c .before .before .before .before .before .before .before .before .before .before .before .loop5 .inv)
+
+ended-requires-2 :
+    tie.Need-ended-requires-2 Inv-loop4 μ-loop4 Inv-loop3 μ-loop3 Inv-loop2 μ-loop2 Inv-loop μ-loop Inv-loop6 μ-loop6 Inv-loop5 μ-loop5
+ended-requires-2 c κs = search needs
+
+returns-4 : tie.Need-returns-4 Inv-loop4 μ-loop4 Inv-loop3 μ-loop3 Inv-loop2 μ-loop2 Inv-loop μ-loop Inv-loop6 μ-loop6 Inv-loop5 μ-loop5
+returns-4 c = moved _ _ _ _ _ _ (c .before .before .before .before .before .before .before .before .swept-area .ensures) _ (c .before .before .before .before .before .before .before .range-of .ensures) _ (sym (layers-end (push room) _ _ _ _ _ _ _ (c .before .before .before .before .loop-test .left)) ∙ c .before .before .before .before .before .loop .inv .1) _ (passes-end _ _ (c .before .before .loop5 .pass) (c .before .before .loop5 .s) _ (c .before .loop5-test .left) (c .before .before .loop5 .inv)) _ (c .ended2 .ensures)
+
+pub move-among-few-spec : {M : Type 1} → statement M
+move-among-few-spec =
+    tie.close
+    (tie.spec
+    Inv-loop4
+    μ-loop4
+    Inv-loop3
+    μ-loop3
+    Inv-loop2
+    μ-loop2
+    Inv-loop
+    μ-loop
+    Inv-loop6
+    μ-loop6
+    Inv-loop5
+    μ-loop5
+    swept-area-requires
+    range-of-requires
+    no-few-requires
+    loop-holds
+    loop2-holds
+    loop3-holds
+    place-requires
+    part-at-requires
+    enum-known-n
+    returns
+    enum-known-s
+    boxes-at-requires
+    count-of-requires
+    loop4-holds
+    nth-aabb-requires
+    intersects-requires
+    move-among-many-requires
+    returns-2
+    mul-b
+    element-set-from-b
+    add-list
+    add-k
+    loop4-less
+    loop4-again
+    add-z
+    loop3-less
+    loop3-again
+    add-x
+    loop2-less
+    loop2-again
+    add-y
+    loop-less
+    loop-again
+    begun-requires
+    loop5-holds
+    axis-of-requires
+    wanted-requires
+    loop6-holds
+    mul-b-2
+    element-copy-out-b
+    clip-along-requires
+    add-i
+    loop6-less
+    loop6-again
+    gone-requires
+    next-requires
+    ended-requires
+    returns-3
+    add-pass
+    loop5-less
+    loop5-again
+    ended-requires-2
+    returns-4)
