@@ -1,4 +1,4 @@
--- What the program's answers say, and what a host is handed.
+-- What a host is handed.
 use mathlib.Core.Bool.{not}
 use mathlib.Core.List.{List}
 use Prim.Native.Nat.{ℕ}
@@ -8,7 +8,6 @@ use Rattle.base.specs.Ask.{Ask, refused, found, _>>=_}
 use Rattle.floats.specs.declared.Answer.{Answer}
 use Rattle.floats.specs.Numbers.{zero64}
 use Rattle.boxes.specs.declared.Vec3.{Vec3}
-use Rattle.tables.specs.declared.LiquidKind.{LiquidKind}
 use Rattle.tables.specs.declared.LiquidKind.the-variants.{None}
 use Rattle.window.specs.declared.Window.{Window}
 use Rattle.window.specs.Look.{lookAt}
@@ -16,28 +15,13 @@ use Rattle.lent.specs.Lent.{unless, sound}
 use Rattle.bodies.specs.declared.BodyNumbers.{BodyNumbers}
 use Rattle.bodies.specs.declared.Rules.{Rules}
 use Rattle.bodies.specs.declared.MotionNumbers.{MotionNumbers}
-use Rattle.step.specs.declared.Begun.{Begun}
-use Rattle.step.specs.declared.AskedBegun.{AskedBegun}
-use Rattle.step.specs.declared.AskedBegun.the-variants as begun
-use Rattle.step.specs.declared.Tick.{Tick}
-use Rattle.step.specs.declared.AskedTick.{AskedTick}
-use Rattle.step.specs.declared.AskedTick.the-variants as ticked
+use Rattle.ticks.specs.declared.Tick.{Tick}
 use Rattle.step.specs.declared.StepAnswer.{StepAnswer}
 use Rattle.step.specs.declared.MotionAnswer.{MotionAnswer}
 use Rattle.bodies.specs.Body.{yesNumber, bodyOf, motionOf}
 use Rattle.bodies.specs.Limits.{rulesFit, isPosition, numberRefusal, isFiniteMotion}
 use Rattle.samples.specs.Samples.{livingBlockFriction}
-use Rattle.step.specs.Step.{stepBodySensed}
-
-abbrev pub tickAsked : AskedTick → Ask Tick
-tickAsked (ticked.To t) = found t
-tickAsked (ticked.Refused n) = refused n
-
-abbrev pub begunAsked : AskedBegun → Ask Begun
-begunAsked (begun.Is b) = found b
-begunAsked (begun.Refused n) = refused n
-
--- ---- what a host is handed
+use Rattle.ticks.specs.Step.{stepBodySensed}
 
 -- 9 comes last: a result that is not finite
 unfoldable pub finiteTick : Tick → Ask Tick

@@ -1,3 +1,2 @@
--- The definitions of module 8: the step, and what the program's answers say.
-pub mod Step
+-- The definitions of module 8's entries: what a host is handed.
 pub mod Answers

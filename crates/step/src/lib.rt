@@ -1,51 +1,26 @@
-// Module 8, the step: one tick of a body. This file has its records and what follows the sample; moving.rt has the step, and entry.rt what a host
-// calls.
-use bodies::Body;
-use bodies::Motion;
+// Module 8, the step as a host calls it: 1, 2, 3 and 4 in order, before any cell is asked for; then 5, 6 and 7 as they come; 9 last.
+use bodies::BodyNumbers;
 use bodies::MotionNumbers;
 use bodies::Rules;
-use bodies::is_falling_block;
-use bodies::is_living;
+use bodies::body_of;
+use bodies::is_finite_motion;
+use bodies::is_position;
+use bodies::motion_of;
+use bodies::number_refusal;
+use bodies::rules_fit;
+use bodies::yes_number;
 use boxes::Vec3;
-use drags::Support;
+use floats::Answer;
+use lent::check_lent;
+use samples::AskedSupport;
 use tables::LiquidKind;
+use ticks::AskedTick;
+use ticks::Tick;
+use ticks::step_through;
+use window::Window;
 ghost use mathlib.Core.Path.{_≡_};
-ghost use Rattle.step.specs.Step.{tickTo, tickAfter};
-
-mod entry;
-mod moving;
-
-pub use entry::living_block_friction;
-pub use entry::step_body;
-pub use entry::step_body_sensed;
-pub use entry::step_checked;
-pub use moving::step_through;
-
-// An item before its move: its velocity with current and flotation, the liquid that floats it, and whether it rests.
-pub struct Begun {
-    pub velocity: Vec3,
-    pub flotation: LiquidKind,
-    pub rests: bool,
-}
-
-// The same, or the number of a refusal.
-pub enum AskedBegun {
-    Is(Begun),
-    Refused(u32),
-}
-
-// What a step comes to: the motion after it, the liquid that a living body travelled in, and the sample that it took.
-pub struct Tick {
-    pub motion: Motion,
-    pub liquid: LiquidKind,
-    pub support: Support,
-}
-
-// A step, or the number of a refusal.
-pub enum AskedTick {
-    To(Tick),
-    Refused(u32),
-}
+ghost use Rattle.base.specs.Ask.{refused, found};
+ghost use Rattle.step.specs.Answers.{finiteTick, stepAnswer, checkedEntry, stepEntry, withoutLiquid, numberAnswer, frictionEntry};
 
 // What a host is handed: refusal 0, the motion after the step and the liquid; or a refusal, the motion as given, and none.
 pub struct StepAnswer {
@@ -59,39 +34,162 @@ pub struct MotionAnswer {
     pub refusal: u32,
 }
 
-fn tick_to(feet: Vec3, velocity: Vec3, ground: bool, liquid: LiquidKind, support: Support) -> Tick
-    ensures { λ r. ⌜ r ≡ tickTo feet velocity ground liquid support ⌝ }
+// A refused step: position, velocity and ground flag as given, and liquid none.
+fn refused_step(refusal: u32, given: MotionNumbers) -> StepAnswer
+    ensures { λ r. ⌜ r ≡ stepAnswer given (refused refusal) ⌝ }
 {
-    Tick {
-        motion: Motion {
+    let feet = given.feet;
+    let velocity = given.velocity;
+    StepAnswer {
+        motion: MotionNumbers {
+            feet,
+            velocity,
+            ground: given.ground,
+        },
+        liquid: LiquidKind::None,
+        refusal,
+    }
+}
+
+fn step_to(given: MotionNumbers, t: Tick) -> StepAnswer
+    ensures { λ r. ⌜ r ≡ stepAnswer given (found t) ⌝ }
+{
+    let feet = t.motion.feet;
+    let velocity = t.motion.velocity;
+    let liquid = t.liquid;
+    let ground = yes_number(t.motion.ground);
+    StepAnswer {
+        motion: MotionNumbers {
             feet,
             velocity,
             ground,
         },
         liquid,
-        support,
+        refusal: 0,
     }
 }
 
-// What follows the move, from the sample on; v is the velocity with its blocked axes zeroed.
-fn tick_after(
-    rules: Rules,
-    body: Body,
-    liquid: LiquidKind,
-    feet: Vec3,
-    ground: bool,
-    support: Support,
-    v: Vec3,
-) -> Tick
-    ensures { λ r. ⌜ r ≡ tickAfter rules body liquid feet ground support v ⌝ }
+// 9 where the step is not finite.
+fn finite_step(given: MotionNumbers, t: Tick) -> StepAnswer
+    ensures { λ r. ⌜ r ≡ stepAnswer given (finiteTick t) ⌝ }
 {
-    let model = body.model;
-    if is_falling_block(model) & ground {
-        return tick_to(feet, Vec3::new(0.0, 0.0, 0.0), ground, LiquidKind::None, support);
+    let m = t.motion;
+    if is_finite_motion(m) {
+        return step_to(given, t);
     }
-    if is_living(model) {
-        let velocity = drags::apply_living_drag(rules, body, liquid, support, v);
-        return tick_to(feet, velocity, ground, liquid, support);
+    refused_step(9, given)
+}
+
+// For hosts that checked tables and window before, once for many bodies: 3 and 4, then 5, 6 and 7 as they come; 9 last.
+pub fn step_checked(
+    records: &[u32],
+    shapes: &[f32],
+    cells: &[u32],
+    w: Window,
+    rules: Rules,
+    body: BodyNumbers,
+    given: MotionNumbers,
+    age: u64,
+) -> StepAnswer
+    ensures { λ r. ⌜ r ≡ checkedEntry (now (records .entry)) (now (shapes .entry)) (now (cells .entry)) w rules body given age ⌝ }
+{
+    let refusal = number_refusal(records, rules, body, given);
+    if refusal != 0 {
+        return refused_step(refusal, given);
     }
-    tick_to(feet, drags::dragged(body, support, v), ground, LiquidKind::None, support)
+    let told = step_through(
+        records,
+        shapes,
+        cells,
+        w,
+        rules,
+        body_of(body),
+        motion_of(given),
+        age,
+    );
+    match told {
+        AskedTick::Refused(n) => refused_step(n, given),
+        AskedTick::To(t) => finite_step(given, t),
+    }
+}
+
+// For hosts: one tick of a body, and the liquid that a living body travelled in.
+pub fn step_body_sensed(
+    records: &[u32],
+    shapes: &[f32],
+    cells: &[u32],
+    w: Window,
+    rules: Rules,
+    body: BodyNumbers,
+    given: MotionNumbers,
+    age: u64,
+) -> StepAnswer
+    ensures { λ r. ⌜ r ≡ stepEntry (now (records .entry)) (now (shapes .entry)) (now (cells .entry)) w rules body given age ⌝ }
+{
+    let refusal = check_lent(records, shapes, cells, w);
+    if refusal != 0 {
+        return refused_step(refusal, given);
+    }
+    step_checked(records, shapes, cells, w, rules, body, given, age)
+}
+
+// For hosts: one tick of a body.
+pub fn step_body(
+    records: &[u32],
+    shapes: &[f32],
+    cells: &[u32],
+    w: Window,
+    rules: Rules,
+    body: BodyNumbers,
+    given: MotionNumbers,
+    age: u64,
+) -> MotionAnswer
+    ensures { λ r. ⌜ r ≡ withoutLiquid (stepEntry (now (records .entry)) (now (shapes .entry)) (now (cells .entry)) w rules body given age) ⌝ }
+{
+    let a = step_body_sensed(records, shapes, cells, w, rules, body, given, age);
+    let motion = a.motion;
+    MotionAnswer {
+        motion,
+        refusal: a.refusal,
+    }
+}
+
+fn refused_number(refusal: u32) -> Answer
+    ensures { λ r. ⌜ r ≡ numberAnswer (refused refusal) ⌝ }
+{
+    Answer {
+        refusal,
+        value: 0.0,
+    }
+}
+
+// For hosts: the friction under a living body.
+pub fn living_block_friction(
+    records: &[u32],
+    shapes: &[f32],
+    cells: &[u32],
+    w: Window,
+    rules: Rules,
+    feet: Vec3,
+) -> Answer
+    ensures { λ r. ⌜ r ≡ frictionEntry (now (records .entry)) (now (shapes .entry)) (now (cells .entry)) w rules feet ⌝ }
+{
+    let refusal = check_lent(records, shapes, cells, w);
+    if refusal != 0 {
+        return refused_number(refusal);
+    }
+    if rules_fit(records, rules) {
+        if is_position(feet) {
+            let told = samples::living_sample(records, cells, w, rules, feet);
+            return match told {
+                AskedSupport::Refused(n) => refused_number(n),
+                AskedSupport::Is(s) => Answer {
+                    refusal: 0,
+                    value: drags::sample_or(rules.friction, s),
+                },
+            };
+        }
+        return refused_number(4);
+    }
+    refused_number(3)
 }
