@@ -1,6 +1,5 @@
 -- the laws that every crate shares
 pub mod Cases
-pub mod Loops
 pub mod Asks
 pub mod Values
 pub mod Every
