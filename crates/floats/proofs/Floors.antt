@@ -1,10 +1,10 @@
 -- The floor of a number of size at most 2 ^ 50, by the sum of `Sums.antt`: what `floor` computes there. Assumes nothing.
 use mathlib.Core.Path.{_≡_, refl, sym, ap, _∙_, subst}
-use Prim.Native.Nat.{ℕ, zero, suc, _+_, _-_, _*_, _/_, _%_, _^_, _≤_, _<_}
+use Prim.Native.Nat.{ℕ, _+_, _-_, _*_, _/_, _%_, _^_, _≤_, _<_}
 use native.Mathlib.Nat.{zero-lt-suc, le-refl, le-of-lt, le-div-iff-mul-le, zero-mod}
 use native.Mathlib.Omega.{arith}
 use mathlib.Core.Bool.{Bool, true, false, not, cond, false≢true}
-use lib.IntN.{ℤ, pos}
+use lib.IntN.{ℤ}
 use lib.Dec.{T, ltb, ltb→lt, nltb→le, leb→le}
 use lib.Ieee.{Float, nan, inf, fin, binary64, up, down, round, add, sub, sum, lt, eq, fits}
 use lib.Ieee.Fits.{down-pos}

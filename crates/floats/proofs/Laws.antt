@@ -2,7 +2,7 @@
 -- there is one such number (`brackets-one`), `cellOf` and `ceilingOf` are the same numbers as integers (`cell-is`, `ceiling-is`), and worked
 -- examples. Assumes nothing.
 use mathlib.Core.Path.{_≡_, refl, sym, ap, _∙_, subst}
-use Prim.Native.Nat.{ℕ, zero, suc, _+_, _-_, _*_, _/_, _%_, _^_, _≤_, _<_}
+use Prim.Native.Nat.{ℕ, zero, suc, _+_, _-_, _*_, _/_, _^_, _≤_, _<_}
 use native.Mathlib.Nat.{zero-lt-suc, div-mul-le-self, lt-div-mul-add, div-one, div-le-self, le-trans, le-of-eq, le-of-lt, mul-one, add-zero, div-lt-iff-lt-mul, le-of-suc-le-suc, suc-mul, le-mul-of-pos-right, mul-le-mul-right}
 use native.Mathlib.Decide.{decLe}
 use native.Mathlib.Omega.{arith}

@@ -1,18 +1,17 @@
 -- From the whole-number root to the contract of `sqrt`. x, r and y are X / L, R / L and Y / L, in units of 1 / L, with L = 2 ^ 1074. Assumes nothing.
 use mathlib.Core.Path.{_≡_, refl, sym, ap, subst, _∙_}
-use mathlib.Core.Logic.{_⊎_, inl, inr}
-use Prim.Native.Nat.{ℕ, zero, suc, _+_, _-_, _*_, _/_, _%_, _^_, _≤_, _<_}
-use native.Mathlib.Nat.{mul-pos, mul-le-mul-left, mul-le-mul-right, le-trans, le-of-eq, le-of-lt, lt-of-lt-of-le, lt-of-le-of-lt, lt-of-mul-lt-mul-right, mul-lt-mul-of-pos-right, zero-lt-suc}
+use Prim.Native.Nat.{ℕ, zero, suc, _+_, _*_, _^_, _≤_, _<_}
+use native.Mathlib.Nat.{mul-pos, mul-le-mul-left, mul-le-mul-right, le-trans, le-of-eq, lt-of-lt-of-le, lt-of-le-of-lt, lt-of-mul-lt-mul-right, mul-lt-mul-of-pos-right}
 use native.Mathlib.Decide.{decLe}
 use native.Mathlib.Omega.{arith}
-use mathlib.Core.Bool.{Bool, true, false}
-use lib.IntN.{ℤ, pos, negsuc}
-use lib.Dec.{T, lit≤, lit<}
+use mathlib.Core.Bool.{false}
+use lib.IntN.{ℤ}
+use lib.Dec.{T, lit<}
 use lib.Pow.{pow-pos}
-use lib.Ieee.{Float, fin, binary64, up, down, fits, ofBits, toBits}
+use lib.Ieee.{Float, fin, binary64, up, down, fits}
 use lib.Ieee.Fits.{down-pos}
 use lib.Ieee.Exact.{HasValue}
-use lib.Ieee.Positive.{num, den, den-pos, positive, value→cross, positive-of-value}
+use lib.Ieee.Positive.{num, den, den-pos, value→cross, positive-of-value}
 use Rattle.floats.specs.Root.{Root, MidBelow, MidAbove}
 use Rattle.floats.specs.Steps.{Nearest, Scaled}
 use Rattle.floats.proofs.Halves.{square-lt}

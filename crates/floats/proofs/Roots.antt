@@ -2,7 +2,7 @@
 use mathlib.Core.Path.{_≡_, refl, sym, ap, subst, _∙_}
 use mathlib.Core.Logic.{_⊎_, inl, inr}
 use Prim.Native.Nat.{ℕ, zero, suc, _+_, _-_, _*_, _/_, _%_, _^_, _≤_, _<_}
-use native.Mathlib.Nat.{mul-one, mul-assoc, mul-comm, pow-suc, pow-succ', le-trans, le-of-eq, le-of-lt, lt-of-lt-of-le, lt-of-le-of-lt, lt-irrefl, eq-or-lt-of-le, lt-of-not-le, le-of-suc-le-suc, mul-lt-mul-of-pos-right, mul-le-mul-left, mul-le-mul-right}
+use native.Mathlib.Nat.{mul-one, mul-assoc, pow-succ', le-of-eq, le-of-lt, lt-of-lt-of-le, lt-irrefl, eq-or-lt-of-le, lt-of-not-le, mul-le-mul-left}
 use native.Mathlib.Decide.{decLe}
 use native.Mathlib.Omega.{arith}
 use mathlib.Core.Bool.{Bool, true, false, not}
@@ -12,12 +12,12 @@ use lib.Pow.{pow-add, pow-pos, pow-mono, pow-lt, shl-lt}
 use lib.Ieee.{Float, nan, inf, fin, binary64, up, down, round, fits}
 use lib.Ieee.Fits.{down-pos, round-fits}
 use lib.Ieee.Exact.{HasValue, round-exact}
-use lib.Ieee.Positive.{num, den, positive}
+use lib.Ieee.Positive.{num, den}
 use Rattle.base.specs.Choose.{choose}
-use Rattle.base.proofs.Values.{value-unique, fitting, Fitting, divides, Divides}
-use Rattle.floats.specs.Root.{Root, MidBelow, MidAbove, rootFrom, nearestFrom, nearestRoot, rootRaised, squaresExp, rootOf}
+use Rattle.base.proofs.Values.{value-unique, fitting, Fitting}
+use Rattle.floats.specs.Root.{Root, rootFrom, nearestFrom, nearestRoot, rootRaised, squaresExp, rootOf}
 use Rattle.floats.specs.Steps.{Nearest, Scaled}
-use Rattle.floats.proofs.Shift.{nearest-low, nearest-high}
+use Rattle.floats.proofs.Shift.{nearest-high}
 use Rattle.floats.proofs.Near.{root-is}
 use Rattle.floats.proofs.Unique.{unique}
 

@@ -8,11 +8,11 @@ use lib.IntN.{ℤ, pos, negsuc}
 use lib.Dec.{T, ltb, eqb, eqb→eq, ltb→lt}
 use lib.Pow.{pow-pos}
 use lib.Ieee.{Float, nan, inf, fin, Format, binary64, prec, emax, low, up, down, size, nearest, odd, units, round, neg, sub, sum, rem, eq, lt, fits}
-use lib.Ieee.Fits.{up-pos, down-pos, and-l}
+use lib.Ieee.Fits.{down-pos, and-l}
 use lib.Ieee.Exact.{HasValue}
 use lib.Ieee.Back.{round-whole}
 use lib.Ieee.Scale.{round-same}
-use borrow.Author.Tests.{ltb-false, lt-ltb, le-ltb, eq-eqb}
+use borrow.Author.Tests.{ltb-false, le-ltb, eq-eqb}
 use Rattle.floats.specs.Numbers.{isFinite}
 use Rattle.floats.specs.Whole.{floorSize, floorOf, ceilOf}
 use Rattle.base.proofs.Values.{fitting, zero-exp, round-small, round-back, sub-common}

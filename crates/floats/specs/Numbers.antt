@@ -1,6 +1,5 @@
 -- Finite numbers, their order and size, and what module 1 answers. `Float` is lib.Ieee's: `fin s m e` is m * 2 ^ e, negative where s is true.
 use mathlib.Core.Bool.{Bool, true, false}
-use Prim.Native.Nat.{ℕ}
 use lib.Ieee.{Float, nan, inf, fin, binary64, ofBits, lt, le}
 use Rattle.base.specs.Choose.{choose}
 use Rattle.floats.specs.declared.Answer.{Answer}

@@ -1,5 +1,4 @@
 -- The square root: `rootOf` computes it, `Root` says what it is, and `proofs/Roots.antt` shows that `Root` holds of `rootOf` and of nothing else.
-use mathlib.Core.Path.{_≡_}
 use Prim.Native.Nat.{ℕ, zero, suc, _+_, _-_, _*_, _/_, _%_, _^_, _<_}
 use mathlib.Core.Bool.{Bool, true, false}
 use lib.IntN.{ℤ, pos, negsuc}

@@ -1,13 +1,13 @@
 -- `floats::sqrt` meets its contract: the tests at its head by `Ends.antt`, what the bits come to by `Near.antt`, and that this is `rootOf` by `Roots.antt`. Assumes nothing.
 use borrow.Author.Needs.{needs}
-use mathlib.Core.Path.{_≡_, refl, sym, ap, subst, _∙_}
+use mathlib.Core.Path.{_≡_, refl, sym, subst}
 use Prim.Native.Nat.{ℕ, suc, _*_, _^_, _<_}
-use mathlib.Core.Bool.{Bool, true, false, not}
+use mathlib.Core.Bool.{true, false, not}
 use lib.IntN.{ℤ}
 use lib.Dec.{T}
 use lib.Ieee.{Float, fin, inf, binary64, fits, eq, lt, ofBits, toBits, nanBits, isNan}
 use lib.Ieee.Bits.{ofBits-fits}
-use Rattle.floats.specs.Root.{Root, hasRoot, rootOf}
+use Rattle.floats.specs.Root.{hasRoot, rootOf}
 use Rattle.floats.specs.Steps.{RootBits, unitsOf}
 use Rattle.floats.proofs.Answers.{taken, turned-away}
 use Rattle.floats.proofs.Ends.{none, at-zero, above, at-infinity, below-zero}
