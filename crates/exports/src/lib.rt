@@ -1,6 +1,8 @@
-// What a host in another language links: functions on numbers and lent slices of them.
+// What a host in another language links: functions on numbers and lent slices of them. Here are the order of their parameters, what is refused
+// of these, and how an answer is written; what they do stands in the crates below.
 mod drift;
 mod over;
+mod room;
 mod through;
 mod tick;
 
@@ -16,7 +18,7 @@ ghost use Rattle.floats.specs.Whole.{floorOf, ceilOf, cellOf};
 ghost use Rattle.floats.specs.Root.{hasRoot, rootOf};
 ghost use Rattle.tables.specs.Check.{tableRefusal};
 
-// Floor, ceiling and root: a refusal hands back zero, as module 1 has it.
+// Floor, ceiling, root and cell, to be timed alone: a refusal hands back zero, as module 1 has it.
 
 #[no_mangle]
 pub extern "C" fn boltjuniper_floor(x: f64) -> f64

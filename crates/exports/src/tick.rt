@@ -1,84 +1,35 @@
 // The step, in lent numbers.
-use crate::over::number_at;
-use crate::over::put;
-use crate::over::put_vec;
-use crate::over::vec_at;
-use crate::through::window_of;
-use step::BodyNumbers;
-use step::MotionNumbers;
-use step::Rules;
+use crate::room::short_of;
+use lent_boxes::put;
+use lent_boxes::put_vec;
 use step::StepAnswer;
 use tables::LiquidKind;
 ghost use mathlib.Core.Path.{_≡_};
 ghost use lib.IntN.{pos};
+ghost use lib.ListN.{length};
 ghost use lib.Ieee.{binary64, ofInt};
 ghost use Rattle.tables.specs.Tables.{kindNumber};
-ghost use Rattle.step.specs.Answers.{checkedEntry, stepEntry};
 ghost use Rattle.base.specs.Loop.{stored};
-ghost use Rattle.exports.specs.Windows.{windowOf};
-ghost use Rattle.exports.specs.Ticks.{motionAt, bodyAt, rulesAt, stepNumbers, stepWritten};
+ghost use Rattle.window.specs.Numbers.{windowOf};
+ghost use Rattle.exports.specs.Ticks.{bodyRefusal, checkedAt, stepAt, stepNumbers, stepWritten, wholeBody};
 
-fn motion_at(numbers: &[f64], words: &[u32]) -> MotionNumbers
-    ensures { λ r. ⌜ r ≡ motionAt (now (numbers .entry)) (now (words .entry)) ⌝ }
+fn whole_body(numbers: &[f64], words: &[u32], places: usize) -> bool
+    ensures { λ r. ⌜ r ≡ wholeBody (now (numbers .entry)) (now (words .entry)) places ⌝ }
 {
-    let feet = vec_at(numbers, 0);
-    let velocity = vec_at(numbers, 3);
-    let ground = tables::word(words, 0, 0);
-    MotionNumbers {
-        feet,
-        velocity,
-        ground,
-    }
+    bodies::lengths_fit(numbers, words) & (places >= 8)
 }
 
-fn body_at(numbers: &[f64], words: &[u32]) -> BodyNumbers
-    ensures { λ r. ⌜ r ≡ bodyAt (now (numbers .entry)) (now (words .entry)) ⌝ }
+// 3, then 4, or 0.
+fn body_refusal(records: &[u32], numbers: &[f64], words: &[u32]) -> u32
+    ensures { λ r. ⌜ r ≡ bodyRefusal (now (records .entry)) (now (numbers .entry)) (now (words .entry)) ⌝ }
 {
-    let width = number_at(numbers, 6);
-    let height = number_at(numbers, 7);
-    let offset = number_at(numbers, 8);
-    let gravity = number_at(numbers, 9);
-    let vertical = number_at(numbers, 10);
-    let horizontal = number_at(numbers, 11);
-    let flap = number_at(numbers, 12);
-    let step = number_at(numbers, 13);
-    let model = tables::word(words, 0, 1);
-    let stage = tables::word(words, 0, 2);
-    let friction = tables::word(words, 0, 3);
-    let flaps = tables::word(words, 0, 4);
-    BodyNumbers {
-        width,
-        height,
-        offset,
-        gravity,
-        vertical,
-        horizontal,
-        step,
-        flap,
-        flaps,
-        model,
-        stage,
-        friction,
+    if bodies::lengths_fit(numbers, words) {
+        let rules = bodies::rules_from(numbers, words);
+        let body = bodies::body_from(numbers, words);
+        let given = bodies::motion_from(numbers, words);
+        return bodies::number_refusal(records, rules, body, given);
     }
-}
-
-fn rules_at(numbers: &[f64], words: &[u32]) -> Rules
-    ensures { λ r. ⌜ r ≡ rulesAt (now (numbers .entry)) (now (words .entry)) ⌝ }
-{
-    let friction = number_at(numbers, 14);
-    let depth = number_at(numbers, 15);
-    let gravity = number_at(numbers, 16);
-    let water = number_at(numbers, 17);
-    let lava = number_at(numbers, 18);
-    let air = tables::word(words, 0, 5);
-    Rules {
-        friction,
-        depth,
-        gravity,
-        water,
-        lava,
-        air,
-    }
+    3
 }
 
 fn kind_number(kind: LiquidKind) -> u32
@@ -120,9 +71,9 @@ fn answer_into(out: &mut [f64], a: StepAnswer) -> u32
 }
 
 // One tick of a body over a window. `numbers` are feet, velocity, width, height, network offset, gravity, vertical drag, horizontal drag, flap,
-// step height, then of the rules default friction, sample depth, liquid gravity, water drag, lava drag; `words` are ground, model, stage,
-// ground friction, flap present, air state. It writes feet, velocity, ground and liquid, eight numbers, and returns 0; or it returns a
-// refusal and writes nothing.
+// step height, then of the rules default friction, sample depth, liquid gravity, water drag, lava drag, 19 of them; `words` are ground, model,
+// stage, ground friction, flap present, air state, 6 of them. It writes feet, velocity, ground and liquid, eight numbers, and returns 0; or it
+// returns a refusal and writes nothing. Where lengths fit and there is room the step itself finds 1 to 4, so that nothing is looked at twice.
 #[no_mangle]
 pub extern "C" fn boltjuniper_step(
     records: &[u32],
@@ -139,17 +90,19 @@ pub extern "C" fn boltjuniper_step(
     age: u64,
     out: &mut [f64],
 ) -> u32
-    ensures { λ r. ⌜ r ≡ stepEntry (now (records .entry)) (now (shapes .entry)) (now (cells .entry)) (windowOf ox oy oz sx sy sz) (rulesAt (now (numbers .entry)) (now (words .entry))) (bodyAt (now (numbers .entry)) (now (words .entry))) (motionAt (now (numbers .entry)) (now (words .entry))) age .refusal ⌝ }
-    ensures { λ _. ⌜ now (out .exit) ≡ stepWritten (now (out .entry)) (stepEntry (now (records .entry)) (now (shapes .entry)) (now (cells .entry)) (windowOf ox oy oz sx sy sz) (rulesAt (now (numbers .entry)) (now (words .entry))) (bodyAt (now (numbers .entry)) (now (words .entry))) (motionAt (now (numbers .entry)) (now (words .entry))) age) ⌝ }
+    ensures { λ r. ⌜ r ≡ stepAt (now (records .entry)) (now (shapes .entry)) (now (cells .entry)) (windowOf ox oy oz sx sy sz) (now (numbers .entry)) (now (words .entry)) age (length (now (out .entry))) .refusal ⌝ }
+    ensures { λ _. ⌜ now (out .exit) ≡ stepWritten (now (out .entry)) (stepAt (now (records .entry)) (now (shapes .entry)) (now (cells .entry)) (windowOf ox oy oz sx sy sz) (now (numbers .entry)) (now (words .entry)) age (length (now (out .entry)))) ⌝ }
 {
-    let w = window_of(ox, oy, oz, sx, sy, sz);
-    let rules = rules_at(numbers, words);
-    let body = body_at(numbers, words);
-    let given = motion_at(numbers, words);
-    answer_into(
-        out,
-        step::step_body_sensed(records, shapes, cells, w, rules, body, given, age),
-    )
+    let w = window::window_of(ox, oy, oz, sx, sy, sz);
+    if whole_body(numbers, words, out.len()) {
+        let rules = bodies::rules_from(numbers, words);
+        let body = bodies::body_from(numbers, words);
+        let given = bodies::motion_from(numbers, words);
+        let a = view::step_window(records, shapes, cells, w, rules, body, given, age);
+        return answer_into(out, a);
+    }
+    let early = body_refusal(records, numbers, words);
+    short_of(lent::check_lent(records, shapes, cells, w), early)
 }
 
 // The same over tables and a window that were checked before, once for many bodies.
@@ -169,15 +122,17 @@ pub extern "C" fn boltjuniper_step_checked(
     age: u64,
     out: &mut [f64],
 ) -> u32
-    ensures { λ r. ⌜ r ≡ checkedEntry (now (records .entry)) (now (shapes .entry)) (now (cells .entry)) (windowOf ox oy oz sx sy sz) (rulesAt (now (numbers .entry)) (now (words .entry))) (bodyAt (now (numbers .entry)) (now (words .entry))) (motionAt (now (numbers .entry)) (now (words .entry))) age .refusal ⌝ }
-    ensures { λ _. ⌜ now (out .exit) ≡ stepWritten (now (out .entry)) (checkedEntry (now (records .entry)) (now (shapes .entry)) (now (cells .entry)) (windowOf ox oy oz sx sy sz) (rulesAt (now (numbers .entry)) (now (words .entry))) (bodyAt (now (numbers .entry)) (now (words .entry))) (motionAt (now (numbers .entry)) (now (words .entry))) age) ⌝ }
+    ensures { λ r. ⌜ r ≡ checkedAt (now (records .entry)) (now (shapes .entry)) (now (cells .entry)) (windowOf ox oy oz sx sy sz) (now (numbers .entry)) (now (words .entry)) age (length (now (out .entry))) .refusal ⌝ }
+    ensures { λ _. ⌜ now (out .exit) ≡ stepWritten (now (out .entry)) (checkedAt (now (records .entry)) (now (shapes .entry)) (now (cells .entry)) (windowOf ox oy oz sx sy sz) (now (numbers .entry)) (now (words .entry)) age (length (now (out .entry)))) ⌝ }
 {
-    let w = window_of(ox, oy, oz, sx, sy, sz);
-    let rules = rules_at(numbers, words);
-    let body = body_at(numbers, words);
-    let given = motion_at(numbers, words);
-    answer_into(
-        out,
-        step::step_checked(records, shapes, cells, w, rules, body, given, age),
-    )
+    let w = window::window_of(ox, oy, oz, sx, sy, sz);
+    if whole_body(numbers, words, out.len()) {
+        let rules = bodies::rules_from(numbers, words);
+        let body = bodies::body_from(numbers, words);
+        let given = bodies::motion_from(numbers, words);
+        let a = view::checked_window(records, shapes, cells, w, rules, body, given, age);
+        return answer_into(out, a);
+    }
+    let early = body_refusal(records, numbers, words);
+    short_of(0, early)
 }

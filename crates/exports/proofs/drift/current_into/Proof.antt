@@ -1,6 +1,6 @@
 -- `exports::drift::current_into` meets its contract. Assumes nothing.
 use mathlib.Core.Path.{refl}
-use Rattle.exports.specs.Ticks.{currentAt}
+use Rattle.exports.specs.Currents.{currentAt}
 use borrow.Author.Needs.{needs}
 use Rattle.exports.proofs.drift.current_into.Statement.{statement}
 use Rattle.exports.proofs.drift.current_into.Tie as tie
