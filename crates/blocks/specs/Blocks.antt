@@ -6,7 +6,7 @@ use lib.Dec.{eqb, ltb}
 use lib.ListN.{length, getD, take, drop}
 use Rattle.base.specs.Choose.{choose}
 use Rattle.base.specs.Every.{every}
-use Rattle.idents.specs.Bytes.{bytes, equal}
+use Rattle.suffixes.specs.Bytes.{bytes, equal}
 use Rattle.blocks.specs.declared.Part.{Part}
 
 -- ---- blocks: "blocks of 512 bytes, little-endian words"

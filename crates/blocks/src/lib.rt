@@ -47,7 +47,7 @@ fn is_marked(block: &[u8]) -> bool
     if block.len() < 4 {
         return false;
     }
-    idents::equals(&block[..4], b"SCN1")
+    suffixes::equals(&block[..4], b"SCN1")
 }
 
 // The sum of words 0 to 126, wrapping at 2^32.

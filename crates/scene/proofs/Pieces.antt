@@ -12,7 +12,7 @@ use Rattle.base.proofs.Fill.{stored-then}
 use Rattle.boxes.specs.declared.Vec3.{Vec3}
 use Rattle.tables.specs.declared.LiquidKind.{LiquidKind}
 use Rattle.tables.specs.declared.LiquidKind.the-variants.{None, Water, Lava}
-use Rattle.idents.specs.Bytes.{bytes}
+use Rattle.suffixes.specs.Bytes.{bytes}
 use Rattle.step.specs.declared.StepAnswer.{StepAnswer}
 use Rattle.scene.specs.Text.{newline, hexOf, joinedText, vecText, groundDigit, liquidText, linesOf, refusedText, textOf, room, written, writtenCount}
 

@@ -10,7 +10,7 @@ use Rattle.base.specs.Loop.{listed, stored}
 use Rattle.boxes.specs.declared.Vec3.{Vec3}
 use Rattle.tables.specs.declared.LiquidKind.{LiquidKind}
 use Rattle.tables.specs.declared.LiquidKind.the-variants.{None, Water, Lava}
-use Rattle.idents.specs.Bytes.{bytes}
+use Rattle.suffixes.specs.Bytes.{bytes}
 use Rattle.step.specs.declared.StepAnswer.{StepAnswer}
 
 -- a newline

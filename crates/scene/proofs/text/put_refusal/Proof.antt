@@ -1,7 +1,7 @@
 -- `scene::text::put_refusal` meets its contract. Assumes nothing.
 use Rattle.scene.proofs.Pieces.{stored-all}
 use Rattle.scene.specs.Text.{newline, joinedText, refusedText}
-use Rattle.idents.specs.Bytes.{bytes}
+use Rattle.suffixes.specs.Bytes.{bytes}
 use Rattle.base.specs.Loop.{stored}
 use Prim.Native.Nat.{_+_, _%_}
 use mathlib.Core.List.{[], _∷_}

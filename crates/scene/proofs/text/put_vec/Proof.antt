@@ -1,6 +1,6 @@
 -- `scene::text::put_vec` meets its contract. Assumes nothing.
 use Rattle.scene.specs.Text.{newline, vecText, hexOf}
-use Rattle.idents.specs.Bytes.{bytes}
+use Rattle.suffixes.specs.Bytes.{bytes}
 use mathlib.Core.List.{[], _∷_}
 use Rattle.scene.proofs.Pieces.{stored-all}
 use Rattle.base.specs.Loop.{listed}

@@ -10,7 +10,7 @@ use lib.ListN.{length, getD, take, drop, length-take, length-drop, drop-of-lengt
 use lib.Seq.{drop-cons, take-all}
 use borrow.Author.Tests.{eq-eqb, ne-eqb}
 use Rattle.base.proofs.Every.{and-right}
-use Rattle.idents.specs.Bytes.{equal, endsWith, startsWith, hasWithin}
+use Rattle.suffixes.specs.Bytes.{equal, endsWith, startsWith, hasWithin}
 
 -- one element more
 from : (l : List ℕ) (i : ℕ) → i < length l → drop i l ≡ getD l i 0 ∷ drop (i + 1) l

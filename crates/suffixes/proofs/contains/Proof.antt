@@ -1,13 +1,13 @@
--- `idents::contains` meets its contract. The invariant: what is left, from `k` on, decides the whole. Assumes nothing.
+-- `suffixes::contains` meets its contract. The invariant: what is left, from `k` on, decides the whole. Assumes nothing.
 use mathlib.Core.Path.{_≡_, refl, sym, _∙_}
 use Prim.Native.Nat.{_+_, _≤_, _-_}
 use native.Mathlib.Omega.{arith}
 use lib.ListN.{length, drop}
 use denote.Ref.{now}
-use Rattle.idents.specs.Bytes.{hasWithin}
-use Rattle.idents.proofs.Bytes.{starts-by, starts-part, within-end, within-found, within-next}
-use Rattle.idents.proofs.contains.Statement.{statement}
-use Rattle.idents.proofs.contains.Tie as tie
+use Rattle.suffixes.specs.Bytes.{hasWithin}
+use Rattle.suffixes.proofs.Bytes.{starts-by, starts-part, within-end, within-found, within-next}
+use Rattle.suffixes.proofs.contains.Statement.{statement}
+use Rattle.suffixes.proofs.contains.Tie as tie
 
 abbrev Inv-loop : tie.InvT-loop
 Inv-loop id part n k₀ k = (k ≤ length id) × (hasWithin (drop k id) part ≡ hasWithin id part)

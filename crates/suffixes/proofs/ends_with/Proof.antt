@@ -1,10 +1,10 @@
--- `idents::ends_with` meets its contract. Assumes nothing.
+-- `suffixes::ends_with` meets its contract. Assumes nothing.
 use mathlib.Core.Path.{sym, _∙_}
 use denote.Ref.{now}
-use Rattle.idents.proofs.Bytes.{too-short, ends-by}
+use Rattle.suffixes.proofs.Bytes.{too-short, ends-by}
 use borrow.Author.Needs.{needs}
-use Rattle.idents.proofs.ends_with.Statement.{statement}
-use Rattle.idents.proofs.ends_with.Tie as tie
+use Rattle.suffixes.proofs.ends_with.Statement.{statement}
+use Rattle.suffixes.proofs.ends_with.Tie as tie
 
 returns : tie.Need-returns
 returns c = sym (too-short (now (c .before .before .before .args .id)) (now (c .before .before .before .args .suffix)) (c .if1 .taken))

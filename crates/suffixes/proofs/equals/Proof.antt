@@ -1,13 +1,13 @@
--- `idents::equals` meets its contract. The invariant: what is left, from `i` on, decides the whole. Assumes nothing.
+-- `suffixes::equals` meets its contract. The invariant: what is left, from `i` on, decides the whole. Assumes nothing.
 use mathlib.Core.Path.{_≡_, refl, sym}
 use Prim.Native.Nat.{_≤_, _-_}
 use native.Mathlib.Omega.{arith}
 use lib.ListN.{length, drop}
 use denote.Ref.{now}
-use Rattle.idents.specs.Bytes.{equal}
-use Rattle.idents.proofs.Bytes.{unequal, equal-end, equal-stop, equal-next}
-use Rattle.idents.proofs.equals.Statement.{statement}
-use Rattle.idents.proofs.equals.Tie as tie
+use Rattle.suffixes.specs.Bytes.{equal}
+use Rattle.suffixes.proofs.Bytes.{unequal, equal-end, equal-stop, equal-next}
+use Rattle.suffixes.proofs.equals.Statement.{statement}
+use Rattle.suffixes.proofs.equals.Tie as tie
 
 abbrev Inv-loop : tie.InvT-loop
 Inv-loop a b i₀ i = (i ≤ length a) × (equal (drop i a) (drop i b) ≡ equal a b)

@@ -1,4 +1,4 @@
--- What the tests on bytes come to: `equal` is equality, `endsWith` finds the identifier to be something and the suffix, and `hasWithin` something,
+-- What the tests on bytes come to: `equal` is equality, `endsWith` finds the bytes to be something and the suffix, and `hasWithin` something,
 -- the part and something more; and each finds what is there. Assumes nothing.
 use mathlib.Core.Path.{_≡_, refl, sym, ap, _∙_}
 use mathlib.Core.Bool.{Bool, true, false, _||_, false≢true}
@@ -10,7 +10,7 @@ use lib.ListN.{length, take, drop, length-append, take-append-drop}
 use lib.Seq.{take-append-seam, drop-append-seam}
 use borrow.Author.Tests.{eqb-true, eq-eqb}
 use Rattle.base.proofs.Every.{both}
-use Rattle.idents.specs.Bytes.{equal, endsWith, startsWith, hasWithin}
+use Rattle.suffixes.specs.Bytes.{equal, endsWith, startsWith, hasWithin}
 
 -- ---- equal
 pub equal-same : (a b : List ℕ) → equal a b ≡ true → a ≡ b

@@ -1,4 +1,4 @@
--- Identifiers are lists of bytes: when one equals, ends in, or has within it a fixed text.
+-- Lent bytes are lists of numbers: when one equals, ends in, or has within it a fixed text.
 use mathlib.Core.Bool.{Bool, true, false, _&&_, _||_}
 use mathlib.Core.List.{List, [], _∷_}
 use Prim.Native.Nat.{ℕ, _-_}
