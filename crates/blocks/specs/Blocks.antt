@@ -67,9 +67,9 @@ usedIn p j = choose (ltb j (p .words / perBlock (p .kind))) (perBlock (p .kind))
 unfoldable pub partFits : List ℕ → Part → Bool
 partFits file p = every (blocksOf p) (λ j. blockFits (blockOf file (p .first + j)) (p .first + j) (p .kind) (usedIn p j))
 
--- word i of a part
+-- word i of a part; 0 where the part has no such word
 unfoldable pub partWord : List ℕ → Part → ℕ → ℕ
-partWord file p i = wordAt (blockOf file (p .first + i / perBlock (p .kind))) (3 + i % perBlock (p .kind))
+partWord file p i = choose (ltb i (p .words)) (wordAt (blockOf file (p .first + i / perBlock (p .kind))) (3 + i % perBlock (p .kind))) 0
 
 -- ---- "Kinds in order: one 1 (body), 2, 3, one 4, 5"
 

@@ -8,7 +8,7 @@ use native.Mathlib.Omega.{arith}
 use lib.IntN.{ℤ, pos, negsuc, natAbs, _+ℤ_, _-ℤ_, +ℤ-comm, -ℤ-+ℤ-cancel}
 use lib.Signed.{leZ, ltZ}
 use lib.Dec.{T, ltb, leb, eqb, ltb→lt, leb→le, nltb→le}
-use lib.ListN.{length, take, drop, List·getD-eq-default}
+use lib.ListN.{length, take, drop}
 use lib.Ieee.{Float, binary64, ofBits, ofInt, add, lt, le}
 use lib.Ieee.Fits.{and-l, and-r}
 use borrow.Author.Tests.{ltb-true, leb-true, eqb-true}
@@ -22,6 +22,7 @@ use Rattle.boxes.specs.declared.Aabb.{Aabb}
 use Rattle.boxes.specs.Boxes.{offsetBy}
 use Rattle.cover.specs.Cover.{boxCount}
 use Rattle.tables.specs.Tables.{wordAt, isRegistered, boxesAt, stateBoxes, boxAt}
+use Rattle.tables.proofs.Lists.{no-word}
 use Rattle.tables.specs.Check.{stateCount, countsFit, recordFits, boxFits, tablesFit}
 use Rattle.window.specs.declared.Pos.{Pos}
 use Rattle.window.specs.declared.Window.{Window}
@@ -237,7 +238,7 @@ whole-records records shapes e =
     eqb-true (length records % 20) 0 (both (eqb (length records % 20) 0) (eqb (length shapes % 6) 0) (c2 .one) .one)
 
 no-record : (records : List ℕ) (state k : ℕ) → length records % 20 ≡ 0 → stateCount records ≤ state → wordAt records state k ≡ 0
-no-record records state k h l = List·getD-eq-default records 0 {n = state * 20 + k} (omega arith)
+no-record records state k h l = no-word records state k (omega arith)
 
 pub record Settled (w : Window) (p : Pos) (b : Aabb) : Type 0 where
   pub place : InWindow w p
