@@ -1,4 +1,7 @@
 // The window: a host lends cells and says by numbers where they lie. Its check (2), and the one look-up.
+mod numbers;
+
+pub use numbers::window_of;
 ghost use mathlib.Core.Path.{_≡_};
 ghost use Prim.Native.Nat.{_+_, _*_};
 ghost use lib.IntN.{_+ℤ_, _-ℤ_};
