@@ -8,9 +8,9 @@ use Rattle.base.specs.Ask.{Ask, refused, found}
 use Rattle.tables.specs.declared.LiquidKind.{LiquidKind}
 use Rattle.tables.specs.declared.LiquidKind.the-variants.{None}
 use Rattle.window.specs.declared.Window.{Window}
-use Rattle.step.specs.declared.BodyNumbers.{BodyNumbers}
-use Rattle.step.specs.declared.Rules.{Rules}
-use Rattle.step.specs.declared.MotionNumbers.{MotionNumbers}
+use Rattle.bodies.specs.declared.BodyNumbers.{BodyNumbers}
+use Rattle.bodies.specs.declared.Rules.{Rules}
+use Rattle.bodies.specs.declared.MotionNumbers.{MotionNumbers}
 use Rattle.step.specs.declared.Tick.{Tick}
 use Rattle.step.specs.declared.StepAnswer.{StepAnswer}
 use Rattle.step.specs.Answers.{stepAnswer, stepAsked, stepEntry}

@@ -1,11 +1,14 @@
 -- Which refusals a step can give: 5, 6 and 7 from its core, and from its entry no other than 1 to 7 and 9. Assumes nothing.
 use mathlib.Core.Path.{_≡_, refl}
-use mathlib.Core.Bool.{Bool, false}
+use mathlib.Core.Bool.{Bool, true, false, not}
 use mathlib.Core.Logic.{_⊎_, inl, inr}
 use mathlib.Core.List.{List}
 use Prim.Native.Nat.{ℕ, _≤_}
 use native.Mathlib.Omega.{arith}
+use lib.Dec.{eqb}
+use lib.ListN.{length}
 use lib.Ieee.{Float}
+use Rattle.base.specs.Choose.{choose}
 use Rattle.base.specs.Ask.{Ask, refused, found}
 use Rattle.boxes.specs.declared.Vec3.{Vec3}
 use Rattle.boxes.specs.declared.Aabb.{Aabb}
@@ -15,6 +18,9 @@ use Rattle.tables.specs.declared.LiquidKind.the-variants.{None, Water, Lava}
 use Rattle.tables.specs.declared.LiquidState.{LiquidState}
 use Rattle.window.specs.declared.Pos.{Pos}
 use Rattle.window.specs.declared.Window.{Window}
+use Rattle.tables.specs.Check.{tablesFit}
+use Rattle.window.specs.Window.{windowFits, windowRefusal}
+use Rattle.lent.specs.Lent.{unless, lentRefusal}
 use Rattle.window.specs.Look.{Block, none, some, lookAt}
 use Rattle.moves.proofs.Refuses.{Refuses, FiveOrSix, wider, finds, names, either, after, walks, asks, resumes, look-refuses, move-refuses}
 use Rattle.liquids.specs.Liquid.{liquidAsked, stopsFlow, blocksLiquidFlow}
@@ -22,13 +28,14 @@ use Rattle.liquids.specs.Flow.{Flowing, difference, walledBy, sideFlow, liquidF
 use Rattle.liquids.specs.Current.{liquidKnown, currentTurn, itemCurrent}
 use Rattle.liquids.specs.Flotation.{waterState, itemFlotation}
 use Rattle.liquids.specs.Living.{livingTurn, livingLiquid}
-use Rattle.step.specs.declared.Ground.{Ground}
-use Rattle.step.specs.declared.Ground.the-variants as ground
-use Rattle.step.specs.declared.Body.{Body}
-use Rattle.step.specs.declared.BodyNumbers.{BodyNumbers}
-use Rattle.step.specs.declared.Rules.{Rules}
-use Rattle.step.specs.declared.Motion.{Motion}
-use Rattle.step.specs.declared.MotionNumbers.{MotionNumbers}
+use Rattle.bodies.specs.declared.Ground.{Ground}
+use Rattle.bodies.specs.declared.Ground.the-variants as ground
+use Rattle.bodies.specs.declared.Body.{Body}
+use Rattle.bodies.specs.declared.BodyNumbers.{BodyNumbers}
+use Rattle.bodies.specs.declared.Rules.{Rules}
+use Rattle.bodies.specs.declared.Motion.{Motion}
+use Rattle.bodies.specs.declared.MotionNumbers.{MotionNumbers}
+use Rattle.bodies.specs.Limits.{numbersFit, motionFits, numberRefusal}
 use Rattle.step.specs.declared.Tick.{Tick}
 use Rattle.step.specs.Step.{sampled, supportingFriction, livingBlockFriction, livingGrip, livingInAir, applyLivingDrag, grip, horizontalAfter, pulled, afterMove, moveOn, itemBegins, begins, senses, stepBodySensed}
 use Rattle.step.specs.Answers.{finiteTick, stepAnswer, stepAsked, stepEntry}
@@ -168,16 +175,40 @@ Named n = (1 ≤ n) × (n ≤ 9) × (n ≡ 8 → ⊥)
 from-core : (n : ℕ) → FiveToSeven n → Named n
 from-core n k = (omega arith, omega arith, λ e. omega arith)
 
+-- a check answers 0 or such a number, and what is asked then refuses by such a number
+checked-refuses : {A : Type 0} (n : ℕ) (ask : Ask A) → (n ≡ 0) ⊎ Named n → Refuses Named ask → Refuses Named (unless (not (eqb n 0)) n ask)
+unfolding choose
+checked-refuses n ask (inl e) h = rw e h
+checked-refuses n ask (inr k) h = either (not (eqb n 0)) _ _ (names n k) h
+
+lent-chosen : (tables window : Bool) → let n : ℕ = choose (eqb (choose tables 0 1) 0) (choose window 0 2) (choose tables 0 1) in (n ≡ 0) ⊎ Named n
+unfolding choose
+lent-chosen true true = inl refl
+lent-chosen true false = inr (omega arith, omega arith, λ e. omega arith)
+lent-chosen false window = inr (omega arith, omega arith, λ e. omega arith)
+
+numbers-chosen : (numbers motion : Bool) → let n : ℕ = choose numbers (choose motion 0 4) 3 in (n ≡ 0) ⊎ Named n
+unfolding choose
+numbers-chosen true true = inl refl
+numbers-chosen true false = inr (omega arith, omega arith, λ e. omega arith)
+numbers-chosen false motion = inr (omega arith, omega arith, λ e. omega arith)
+
 module _ (records : List ℕ) (shapes : List Float) (cells : List ℕ) (w : Window) (rules : Rules) (body : BodyNumbers) (given : MotionNumbers) (age : ℕ) where
+  lent-number : (lentRefusal records shapes cells w ≡ 0) ⊎ Named (lentRefusal records shapes cells w)
+  unfolding lentRefusal windowRefusal
+  lent-number = lent-chosen (tablesFit records shapes) (windowFits (length cells) w)
+
+  given-number : (numberRefusal records rules body given ≡ 0) ⊎ Named (numberRefusal records rules body given)
+  unfolding numberRefusal
+  given-number = numbers-chosen (numbersFit records rules body (given .ground)) (motionFits (given .feet) (given .velocity))
+
   step-refuses : Refuses Named (stepAsked records shapes cells w rules body given age)
   unfolding finiteTick
   step-refuses =
-      either _ _ _ (names 1 (omega arith, omega arith, λ e. omega arith))
-      (either _ _ _ (names 2 (omega arith, omega arith, λ e. omega arith))
-      (either _ _ _ (names 3 (omega arith, omega arith, λ e. omega arith))
-      (either _ _ _ (names 4 (omega arith, omega arith, λ e. omega arith))
+      checked-refuses _ _ lent-number
+      (checked-refuses _ _ given-number
       (after _ _ (wider _ from-core (core-refuses cells w records shapes rules _ _ age)) (λ t.
-      either _ _ _ (names 9 (omega arith, omega arith, λ e. omega arith)) (finds t))))))
+      either _ _ _ (names 9 (omega arith, omega arith, λ e. omega arith)) (finds t))))
 
   of-answer : (m : Ask Tick) → Refuses Named m → (stepAnswer given m .refusal ≡ 0) ⊎ Named (stepAnswer given m .refusal)
   of-answer (refused n) h = inr (h .only n refl)

@@ -8,7 +8,7 @@ use Rattle.window.specs.declared.Pos.{Pos}
 use Rattle.window.specs.Look.{Block, stepped}
 use Rattle.liquids.specs.Flotation.{cellAt}
 use Rattle.step.specs.declared.Support.{Support}
-use Rattle.step.specs.declared.Rules.{Rules}
+use Rattle.bodies.specs.declared.Rules.{Rules}
 use Rattle.step.specs.Step.{downwards, sampled, supportingFriction}
 
 pub below-feet :

@@ -1,6 +1,3 @@
--- The definitions of module 8: bodies, their numbers in order, the step, the limits of a call, and what the program's answers say.
-pub mod Body
-pub mod Numbers
+-- The definitions of module 8: the step, and what the program's answers say.
 pub mod Step
-pub mod Limits
 pub mod Answers

@@ -29,19 +29,19 @@ use Rattle.liquids.specs.Liquid.{liquidAsked}
 use Rattle.liquids.specs.Current.{itemCurrent}
 use Rattle.liquids.specs.Flotation.{cellAt, itemFlotation}
 use Rattle.liquids.specs.Living.{livingLiquid}
-use Rattle.step.specs.declared.Model.{Model}
-use Rattle.step.specs.declared.Model.the-variants.{Item, Living, FallingBlock, Other}
-use Rattle.step.specs.declared.Stage.{Stage}
-use Rattle.step.specs.declared.Stage.the-variants.{BeforeMove, AfterMove, AfterDrag}
-use Rattle.step.specs.declared.Ground.{Ground}
-use Rattle.step.specs.declared.Ground.the-variants as ground
-use Rattle.step.specs.declared.Flap.{Flap}
-use Rattle.step.specs.declared.Flap.the-variants as flap
+use Rattle.bodies.specs.declared.Model.{Model}
+use Rattle.bodies.specs.declared.Model.the-variants.{Item, Living, FallingBlock, Other}
+use Rattle.bodies.specs.declared.Stage.{Stage}
+use Rattle.bodies.specs.declared.Stage.the-variants.{BeforeMove, AfterMove, AfterDrag}
+use Rattle.bodies.specs.declared.Ground.{Ground}
+use Rattle.bodies.specs.declared.Ground.the-variants as ground
+use Rattle.bodies.specs.declared.Flap.{Flap}
+use Rattle.bodies.specs.declared.Flap.the-variants as flap
 use Rattle.step.specs.declared.Support.{Support}
 use Rattle.step.specs.declared.Support.the-variants.{Friction, Nothing}
-use Rattle.step.specs.declared.Body.{Body}
-use Rattle.step.specs.declared.Rules.{Rules}
-use Rattle.step.specs.declared.Motion.{Motion}
+use Rattle.bodies.specs.declared.Body.{Body}
+use Rattle.bodies.specs.declared.Rules.{Rules}
+use Rattle.bodies.specs.declared.Motion.{Motion}
 use Rattle.step.specs.declared.Begun.{Begun}
 use Rattle.step.specs.declared.Tick.{Tick}
 

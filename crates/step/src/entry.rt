@@ -1,24 +1,24 @@
 // What a host calls: 1, 2, 3 and 4 in order, before any cell is asked for; then 5, 6 and 7 as they come; 9 last.
-use crate::BodyNumbers;
+use bodies::BodyNumbers;
+use bodies::MotionNumbers;
+use bodies::Rules;
+use bodies::body_of;
+use bodies::is_finite_motion;
+use bodies::is_position;
+use bodies::motion_of;
+use bodies::number_refusal;
+use bodies::rules_fit;
+use bodies::yes_number;
+use boxes::Vec3;
 use crate::MotionAnswer;
-use crate::MotionNumbers;
 use crate::Number;
-use crate::Rules;
 use crate::StepAnswer;
 use crate::Stepped;
 use crate::Tick;
-use crate::body_of;
-use crate::limits::is_finite_motion;
-use crate::limits::is_position;
-use crate::limits::motion_fits;
-use crate::limits::numbers_fit;
-use crate::limits::rules_fit;
-use crate::motion_of;
 use crate::moving::step_through;
 use crate::sample::living_friction;
-use crate::yes_number;
-use boxes::Vec3;
 use floats::Answer;
+use lent::check_lent;
 use tables::LiquidKind;
 use window::Window;
 ghost use mathlib.Core.Path.{_≡_};
@@ -84,28 +84,24 @@ pub fn step_checked(
 ) -> StepAnswer
     ensures { λ r. ⌜ r ≡ checkedEntry (now (records .entry)) (now (shapes .entry)) (now (cells .entry)) w rules body given age ⌝ }
 {
-    if numbers_fit(records, rules, body, given.ground) {
-        let feet = given.feet;
-        let velocity = given.velocity;
-        if motion_fits(feet, velocity) {
-            let told = step_through(
-                records,
-                shapes,
-                cells,
-                w,
-                rules,
-                body_of(body),
-                motion_of(given),
-                age,
-            );
-            return match told {
-                Stepped::Refused(n) => refused_step(n, given),
-                Stepped::To(t) => finite_step(given, t),
-            };
-        }
-        return refused_step(4, given);
+    let refusal = number_refusal(records, rules, body, given);
+    if refusal != 0 {
+        return refused_step(refusal, given);
     }
-    refused_step(3, given)
+    let told = step_through(
+        records,
+        shapes,
+        cells,
+        w,
+        rules,
+        body_of(body),
+        motion_of(given),
+        age,
+    );
+    match told {
+        Stepped::Refused(n) => refused_step(n, given),
+        Stepped::To(t) => finite_step(given, t),
+    }
 }
 
 // For hosts: one tick of a body, and the liquid that a living body travelled in.
@@ -121,11 +117,9 @@ pub fn step_body_sensed(
 ) -> StepAnswer
     ensures { λ r. ⌜ r ≡ stepEntry (now (records .entry)) (now (shapes .entry)) (now (cells .entry)) w rules body given age ⌝ }
 {
-    if tables::check_tables(records, shapes) != 0 {
-        return refused_step(1, given);
-    }
-    if window::check_window(cells, w) != 0 {
-        return refused_step(2, given);
+    let refusal = check_lent(records, shapes, cells, w);
+    if refusal != 0 {
+        return refused_step(refusal, given);
     }
     step_checked(records, shapes, cells, w, rules, body, given, age)
 }
@@ -171,11 +165,9 @@ pub fn living_block_friction(
 ) -> Answer
     ensures { λ r. ⌜ r ≡ frictionEntry (now (records .entry)) (now (shapes .entry)) (now (cells .entry)) w rules feet ⌝ }
 {
-    if tables::check_tables(records, shapes) != 0 {
-        return refused_number(1);
-    }
-    if window::check_window(cells, w) != 0 {
-        return refused_number(2);
+    let refusal = check_lent(records, shapes, cells, w);
+    if refusal != 0 {
+        return refused_number(refusal);
     }
     if rules_fit(records, rules) {
         if is_position(feet) {

@@ -1,13 +1,18 @@
 // Module 8, the step: friction samples, drags, and one tick of a body. This file has the records and what the step does without asking for a
-// cell; sample.rt asks for friction, moving.rt has the step, limits.rt the limits of a call, and entry.rt what a host calls.
+// cell; sample.rt asks for friction, moving.rt has the step, and entry.rt what a host calls.
+use bodies::Body;
+use bodies::Flap;
+use bodies::Model;
+use bodies::Motion;
+use bodies::MotionNumbers;
+use bodies::Rules;
+use bodies::Stage;
 use boxes::Vec3;
 use tables::LiquidKind;
 ghost use mathlib.Core.Path.{_≡_};
-ghost use Rattle.step.specs.Body.{modelOf, stageOf, frictionOf, isYes, yesNumber, flapOf, bodyOf, motionOf};
 ghost use Rattle.step.specs.Step.{sampleOr, sinks, flaps, falls, damped, livingVelocity, livingInLiquid, afloat, floats, restsNow, isItem, isLiving, isFallingBlock, isBeforeMove, isDry, pulled, unlessStopped, keptAfter, verticalAfter, dragged, tick};
 
 mod entry;
-mod limits;
 mod moving;
 mod sample;
 
@@ -16,33 +21,6 @@ pub use entry::step_body;
 pub use entry::step_body_sensed;
 pub use entry::step_checked;
 pub use moving::step_through;
-
-// Motion rules that are no parameters.
-pub enum Model {
-    Item,
-    Living,
-    FallingBlock,
-    Other,
-}
-
-// When gravity comes, beside the move and the drag.
-pub enum Stage {
-    BeforeMove,
-    AfterMove,
-    AfterDrag,
-}
-
-// Extra friction on the ground: none, or that of the block below.
-pub enum Ground {
-    None,
-    Block,
-}
-
-// The wing flap drag of a living body.
-pub enum Flap {
-    None,
-    Drag(f64),
-}
 
 // A sampled friction, or nothing.
 pub enum Support {
@@ -66,60 +44,6 @@ pub enum Number {
 pub enum Dragged {
     To(Vec3),
     Refused(u32),
-}
-
-// A body. `offset` is the network offset, `vertical` and `horizontal` are the drags, `step` is the step height.
-pub struct Body {
-    pub width: f64,
-    pub height: f64,
-    pub offset: f64,
-    pub gravity: f64,
-    pub vertical: f64,
-    pub horizontal: f64,
-    pub step: f64,
-    pub flap: Flap,
-    pub model: Model,
-    pub stage: Stage,
-    pub friction: Ground,
-}
-
-// A body as a host hands it in: model, stage and friction by number, `flaps` 1 where the flap is present.
-pub struct BodyNumbers {
-    pub width: f64,
-    pub height: f64,
-    pub offset: f64,
-    pub gravity: f64,
-    pub vertical: f64,
-    pub horizontal: f64,
-    pub step: f64,
-    pub flap: f64,
-    pub flaps: u32,
-    pub model: u32,
-    pub stage: u32,
-    pub friction: u32,
-}
-
-// What holds for every body: a living body's default friction and sample depth, gravity and drags in liquids, and the air state.
-pub struct Rules {
-    pub friction: f64,
-    pub depth: f64,
-    pub gravity: f64,
-    pub water: f64,
-    pub lava: f64,
-    pub air: u32,
-}
-
-pub struct Motion {
-    pub feet: Vec3,
-    pub velocity: Vec3,
-    pub ground: bool,
-}
-
-// A motion as a host hands it in: ground 1 or 0.
-pub struct MotionNumbers {
-    pub feet: Vec3,
-    pub velocity: Vec3,
-    pub ground: u32,
 }
 
 // An item before its move: its velocity with current and flotation, the liquid that floats it, and whether it rests.
@@ -157,99 +81,6 @@ pub struct StepAnswer {
 pub struct MotionAnswer {
     pub motion: MotionNumbers,
     pub refusal: u32,
-}
-
-fn model_of(number: u32) -> Model
-    ensures { λ r. ⌜ r ≡ modelOf number ⌝ }
-{
-    if number == 0 {
-        return Model::Item;
-    }
-    if number == 1 {
-        return Model::Living;
-    }
-    if number == 2 {
-        return Model::FallingBlock;
-    }
-    Model::Other
-}
-
-fn stage_of(number: u32) -> Stage
-    ensures { λ r. ⌜ r ≡ stageOf number ⌝ }
-{
-    if number == 0 {
-        return Stage::BeforeMove;
-    }
-    if number == 1 {
-        return Stage::AfterMove;
-    }
-    Stage::AfterDrag
-}
-
-fn friction_of(number: u32) -> Ground
-    ensures { λ r. ⌜ r ≡ frictionOf number ⌝ }
-{
-    if number == 1 {
-        return Ground::Block;
-    }
-    Ground::None
-}
-
-fn is_yes(number: u32) -> bool
-    ensures { λ r. ⌜ r ≡ isYes number ⌝ }
-{
-    number == 1
-}
-
-fn yes_number(b: bool) -> u32
-    ensures { λ r. ⌜ r ≡ yesNumber b ⌝ }
-{
-    if b { 1 } else { 0 }
-}
-
-fn flap_of(present: u32, drag: f64) -> Flap
-    ensures { λ r. ⌜ r ≡ flapOf present drag ⌝ }
-{
-    if is_yes(present) {
-        return Flap::Drag(drag);
-    }
-    Flap::None
-}
-
-// The body that a host's numbers mean.
-pub fn body_of(b: BodyNumbers) -> Body
-    ensures { λ r. ⌜ r ≡ bodyOf b ⌝ }
-{
-    let flap = flap_of(b.flaps, b.flap);
-    let model = model_of(b.model);
-    let stage = stage_of(b.stage);
-    let friction = friction_of(b.friction);
-    Body {
-        width: b.width,
-        height: b.height,
-        offset: b.offset,
-        gravity: b.gravity,
-        vertical: b.vertical,
-        horizontal: b.horizontal,
-        step: b.step,
-        flap,
-        model,
-        stage,
-        friction,
-    }
-}
-
-pub fn motion_of(m: MotionNumbers) -> Motion
-    ensures { λ r. ⌜ r ≡ motionOf m ⌝ }
-{
-    let feet = m.feet;
-    let velocity = m.velocity;
-    let ground = is_yes(m.ground);
-    Motion {
-        feet,
-        velocity,
-        ground,
-    }
 }
 
 // The sampled number, or the default where nothing was sampled.

@@ -1,12 +1,12 @@
 // One tick of a body.
 use crate::Begins;
 use crate::Begun;
-use crate::Body;
+use bodies::Body;
 use crate::Dragged;
-use crate::Ground;
-use crate::Motion;
+use bodies::Ground;
+use bodies::Motion;
 use crate::Number;
-use crate::Rules;
+use bodies::Rules;
 use crate::Stepped;
 use crate::Supports;
 use crate::drag;

@@ -1,7 +1,7 @@
 // Friction samples: what the step asks of the cells under a body.
-use crate::Body;
+use bodies::Body;
 use crate::Number;
-use crate::Rules;
+use bodies::Rules;
 use crate::Support;
 use crate::Supports;
 use crate::sample_or;

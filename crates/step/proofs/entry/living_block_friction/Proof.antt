@@ -6,25 +6,15 @@ use borrow.Author.Needs.{needs}
 use Rattle.step.proofs.entry.living_block_friction.Statement.{statement}
 use Rattle.step.proofs.entry.living_block_friction.Tie as tie
 
-check-tables-requires : tie.Need-check-tables-requires
-check-tables-requires c κs = search needs
+check-lent-requires : tie.Need-check-lent-requires
+check-lent-requires c κs = search needs
 
 refused-number-requires : tie.Need-refused-number-requires
 refused-number-requires c κs = search needs
 
 returns : tie.Need-returns
 unfolding frictionEntry choose
-returns c = rw (← c .before .before .check-tables .ensures, ne-eqb _ _ (c .before .if1 .taken), ← c .refused-number .ensures)
-
-check-window-requires : tie.Need-check-window-requires
-check-window-requires c κs = search needs
-
-refused-number-requires-2 : tie.Need-refused-number-requires-2
-refused-number-requires-2 c κs = search needs
-
-returns-2 : tie.Need-returns-2
-unfolding frictionEntry choose
-returns-2 c = rw (← c .before .before .before .before .check-tables .ensures, eq-eqb _ _ (c .before .before .before .if1 .left), ← c .before .before .check-window .ensures, ne-eqb _ _ (c .before .if2 .taken), ← c .refused-number2 .ensures)
+returns c = rw (← c .before .before .check-lent .ensures, ne-eqb _ _ (c .before .if1 .taken), ← c .refused-number .ensures)
 
 rules-fit-requires : tie.Need-rules-fit-requires
 rules-fit-requires c κs = search needs
@@ -38,53 +28,50 @@ living-friction-requires c κs = search needs
 enum-known-told : tie.Need-enum-known-told
 enum-known-told c = search needs
 
-refused-number-requires-3 : tie.Need-refused-number-requires-3
-refused-number-requires-3 c κs = search needs
+refused-number-requires-2 : tie.Need-refused-number-requires-2
+refused-number-requires-2 c κs = search needs
 
 enum-known-told-2 : tie.Need-enum-known-told-2
 enum-known-told-2 c = search needs
 
+returns-2 : tie.Need-returns-2
+unfolding frictionEntry choose
+returns-2 c = rw (← c .before .before .before .before .before .before .before .before .before .before .check-lent .ensures, eq-eqb _ _ (c .before .before .before .before .before .before .before .before .before .if1 .left), ← c .before .before .before .before .before .before .before .before .rules-fit .ensures, c .before .before .before .before .before .before .before .if2 .taken, ← c .before .before .before .before .before .before .is-position .ensures, c .before .before .before .before .before .if3 .taken, ← c .before .before .before .before .living-friction .ensures, c .before .before .told .given .1, ← c .refused-number2 .ensures)
+
 returns-3 : tie.Need-returns-3
 unfolding frictionEntry choose
-returns-3 c = rw (← c .before .before .before .before .before .before .before .before .before .before .before .before .check-tables .ensures, eq-eqb _ _ (c .before .before .before .before .before .before .before .before .before .before .before .if1 .left), ← c .before .before .before .before .before .before .before .before .before .before .check-window .ensures, eq-eqb _ _ (c .before .before .before .before .before .before .before .before .before .if2 .left), ← c .before .before .before .before .before .before .before .before .rules-fit .ensures, c .before .before .before .before .before .before .before .if3 .taken, ← c .before .before .before .before .before .before .is-position .ensures, c .before .before .before .before .before .if4 .taken, ← c .before .before .before .before .living-friction .ensures, c .before .before .told .given .1, ← c .refused-number3 .ensures)
+returns-3 c = rw (← c .before .before .before .before .before .before .before .before .before .check-lent .ensures, eq-eqb _ _ (c .before .before .before .before .before .before .before .before .if1 .left), ← c .before .before .before .before .before .before .before .rules-fit .ensures, c .before .before .before .before .before .before .if2 .taken, ← c .before .before .before .before .before .is-position .ensures, c .before .before .before .before .if3 .taken, ← c .before .before .before .living-friction .ensures, c .before .told2 .given .1)
+
+refused-number-requires-3 : tie.Need-refused-number-requires-3
+refused-number-requires-3 c κs = search needs
 
 returns-4 : tie.Need-returns-4
 unfolding frictionEntry choose
-returns-4 c = rw (← c .before .before .before .before .before .before .before .before .before .before .before .check-tables .ensures, eq-eqb _ _ (c .before .before .before .before .before .before .before .before .before .before .if1 .left), ← c .before .before .before .before .before .before .before .before .before .check-window .ensures, eq-eqb _ _ (c .before .before .before .before .before .before .before .before .if2 .left), ← c .before .before .before .before .before .before .before .rules-fit .ensures, c .before .before .before .before .before .before .if3 .taken, ← c .before .before .before .before .before .is-position .ensures, c .before .before .before .before .if4 .taken, ← c .before .before .before .living-friction .ensures, c .before .told2 .given .1)
+returns-4 c = rw (← c .before .before .before .before .before .before .check-lent .ensures, eq-eqb _ _ (c .before .before .before .before .before .if1 .left), ← c .before .before .before .before .rules-fit .ensures, c .before .before .before .if2 .taken, ← c .before .before .is-position .ensures, c .before .if3 .left, ← c .refused-number3 .ensures)
 
 refused-number-requires-4 : tie.Need-refused-number-requires-4
 refused-number-requires-4 c κs = search needs
 
 returns-5 : tie.Need-returns-5
 unfolding frictionEntry choose
-returns-5 c = rw (← c .before .before .before .before .before .before .before .before .check-tables .ensures, eq-eqb _ _ (c .before .before .before .before .before .before .before .if1 .left), ← c .before .before .before .before .before .before .check-window .ensures, eq-eqb _ _ (c .before .before .before .before .before .if2 .left), ← c .before .before .before .before .rules-fit .ensures, c .before .before .before .if3 .taken, ← c .before .before .is-position .ensures, c .before .if4 .left, ← c .refused-number4 .ensures)
-
-refused-number-requires-5 : tie.Need-refused-number-requires-5
-refused-number-requires-5 c κs = search needs
-
-returns-6 : tie.Need-returns-6
-unfolding frictionEntry choose
-returns-6 c = rw (← c .before .before .before .before .before .before .check-tables .ensures, eq-eqb _ _ (c .before .before .before .before .before .if1 .left), ← c .before .before .before .before .check-window .ensures, eq-eqb _ _ (c .before .before .before .if2 .left), ← c .before .before .rules-fit .ensures, c .before .if3 .left, ← c .refused-number5 .ensures)
+returns-5 c = rw (← c .before .before .before .before .check-lent .ensures, eq-eqb _ _ (c .before .before .before .if1 .left), ← c .before .before .rules-fit .ensures, c .before .if2 .left, ← c .refused-number4 .ensures)
 
 pub living-block-friction-spec : {M : Type 1} → statement M
 living-block-friction-spec =
     tie.close
     (tie.spec
-    check-tables-requires
+    check-lent-requires
     refused-number-requires
     returns
-    check-window-requires
-    refused-number-requires-2
-    returns-2
     rules-fit-requires
     is-position-requires
     living-friction-requires
     enum-known-told
-    refused-number-requires-3
+    refused-number-requires-2
     enum-known-told-2
+    returns-2
     returns-3
+    refused-number-requires-3
     returns-4
     refused-number-requires-4
-    returns-5
-    refused-number-requires-5
-    returns-6)
+    returns-5)
