@@ -6,7 +6,7 @@ use lib.Dec.{eqb, ltb}
 use lib.ListN.{length, getD, take, drop}
 use Rattle.base.specs.Choose.{choose}
 use Rattle.base.specs.Every.{every}
-use Rattle.idents.specs.Bytes.{bytes, equal}
+use Rattle.suffixes.specs.Bytes.{bytes, equal}
 use Rattle.blocks.specs.declared.Part.{Part}
 
 -- ---- blocks: "blocks of 512 bytes, little-endian words"
@@ -67,9 +67,9 @@ usedIn p j = choose (ltb j (p .words / perBlock (p .kind))) (perBlock (p .kind))
 unfoldable pub partFits : List ℕ → Part → Bool
 partFits file p = every (blocksOf p) (λ j. blockFits (blockOf file (p .first + j)) (p .first + j) (p .kind) (usedIn p j))
 
--- word i of a part
+-- word i of a part; 0 where the part has no such word
 unfoldable pub partWord : List ℕ → Part → ℕ → ℕ
-partWord file p i = wordAt (blockOf file (p .first + i / perBlock (p .kind))) (3 + i % perBlock (p .kind))
+partWord file p i = choose (ltb i (p .words)) (wordAt (blockOf file (p .first + i / perBlock (p .kind))) (3 + i % perBlock (p .kind))) 0
 
 -- ---- "Kinds in order: one 1 (body), 2, 3, one 4, 5"
 

@@ -47,7 +47,7 @@ fn is_marked(block: &[u8]) -> bool
     if block.len() < 4 {
         return false;
     }
-    idents::equals(&block[..4], b"SCN1")
+    suffixes::equals(&block[..4], b"SCN1")
 }
 
 // The sum of words 0 to 126, wrapping at 2^32.
@@ -166,13 +166,16 @@ pub fn part_fits(file: &[u8], p: Part) -> bool
     true
 }
 
-// Word i of a part.
+// Word i of a part: 0 where the part has no such word.
 pub fn part_word(file: &[u8], p: Part, i: u32) -> u32
     ensures { λ r. ⌜ r ≡ partWord (now (file .entry)) p i ⌝ }
 {
-    let per = per_block(p.kind);
-    let b = p.first as usize + (i / per) as usize;
-    word(block_of(file, b), 3 + i % per)
+    if i < p.words {
+        let per = per_block(p.kind);
+        let b = p.first as usize + (i / per) as usize;
+        return word(block_of(file, b), 3 + i % per);
+    }
+    0
 }
 
 pub fn body_part() -> Part

@@ -51,11 +51,14 @@ fn word_at(records: &[u32], i: usize) -> u32
     if i < records.len() { records[i] } else { 0 }
 }
 
-// Word k of a state's record: 0 where there is none.
+// Word k of a state's record: 0 where there is none, and from k = 20 on, where the next record begins.
 pub fn word(records: &[u32], state: u32, k: u32) -> u32
     ensures { λ r. ⌜ r ≡ wordAt (now (records .entry)) state k ⌝ }
 {
-    word_at(records, wide(state) * 20 + wide(k))
+    if k < 20 {
+        return word_at(records, wide(state) * 20 + wide(k));
+    }
+    0
 }
 
 pub fn is_registered(records: &[u32], state: u32) -> bool

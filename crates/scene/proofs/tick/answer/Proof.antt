@@ -1,0 +1,19 @@
+-- `scene::tick::answer` meets its contract. Assumes nothing.
+use borrow.Author.Needs.{needs}
+use Rattle.scene.proofs.tick.answer.Statement.{statement}
+use Rattle.scene.proofs.tick.answer.Tie as tie
+
+tick-of-requires : tie.Need-tick-of-requires
+tick-of-requires c κs = search needs
+
+write-answer-requires : tie.Need-write-answer-requires
+write-answer-requires c κs = search needs
+
+same-length : tie.Need-same-length
+same-length c = search needs
+
+returns : tie.Need-returns
+returns c = rw (← c .before .before .before .before .tick-of .ensures) (c .before .before .write-answer .ensures)
+
+pub answer-spec : {M : Type 1} → statement M
+answer-spec = tie.close (tie.spec tick-of-requires write-answer-requires same-length returns)

@@ -1,0 +1,56 @@
+-- `text::put_vec` meets its contract. Assumes nothing.
+use Rattle.text.specs.Text.{vecText}
+use Rattle.text.proofs.Cursor.{first, last}
+use borrow.Author.Needs.{needs}
+use Rattle.text.proofs.put_vec.Statement.{statement}
+use Rattle.text.proofs.put_vec.Tie as tie
+
+put-hex-requires : tie.Need-put-hex-requires
+put-hex-requires c κs = search needs
+
+slice-aggregate-put-text : tie.Need-slice-aggregate-put-text
+slice-aggregate-put-text c = search needs
+
+put-text-requires : tie.Need-put-text-requires
+put-text-requires c κs = search needs
+
+put-hex-requires-2 : tie.Need-put-hex-requires-2
+put-hex-requires-2 c κs = search needs
+
+slice-aggregate-put-text-2 : tie.Need-slice-aggregate-put-text-2
+slice-aggregate-put-text-2 c = search needs
+
+put-text-requires-2 : tie.Need-put-text-requires-2
+put-text-requires-2 c κs = search needs
+
+put-hex-requires-3 : tie.Need-put-hex-requires-3
+put-hex-requires-3 c κs = search needs
+
+slice-aggregate-put-text-3 : tie.Need-slice-aggregate-put-text-3
+slice-aggregate-put-text-3 c = search needs
+
+put-text-requires-3 : tie.Need-put-text-requires-3
+put-text-requires-3 c κs = search needs
+
+same-length : tie.Need-same-length
+same-length c = search needs
+
+returns : tie.Need-returns
+unfolding vecText
+returns c = first _ (c .before .before .before .before .before .before .before .before .before .before .before .before .before .before .before .before .before .before .before .before .before .before .before .before .before .put-hex .ensures) (first _ (c .before .before .before .before .before .before .before .before .before .before .before .before .before .before .before .before .before .before .before .before .put-text .ensures) (first _ (c .before .before .before .before .before .before .before .before .before .before .before .before .before .before .before .before .put-hex2 .ensures) (first _ (c .before .before .before .before .before .before .before .before .before .before .before .put-text2 .ensures) (first _ (c .before .before .before .before .before .before .before .put-hex3 .ensures) (last (c .before .before .put-text3 .ensures))))))
+
+pub put-vec-spec : {M : Type 1} → statement M
+put-vec-spec =
+    tie.close
+    (tie.spec
+    put-hex-requires
+    slice-aggregate-put-text
+    put-text-requires
+    put-hex-requires-2
+    slice-aggregate-put-text-2
+    put-text-requires-2
+    put-hex-requires-3
+    slice-aggregate-put-text-3
+    put-text-requires-3
+    same-length
+    returns)
