@@ -4,3 +4,6 @@ pub mod Asks
 pub mod Values
 pub mod Every
 pub mod Fill
+pub mod Tests
+pub mod Differences
+pub mod Members

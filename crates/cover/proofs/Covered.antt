@@ -1,5 +1,5 @@
 -- The search for a gap answers what `coversFace` says: it finds one exactly when a cell is in no rectangle. Assumes nothing.
-use mathlib.Core.Bool.{Bool, true, false, not, _&&_, _||_, true≢false}
+use mathlib.Core.Bool.{Bool, true, false, not, _&&_, _||_, true≢false, and-comm}
 use mathlib.Core.Path.{_≡_, refl, sym, _∙_}
 use mathlib.Core.List.{List, []}
 use Prim.Native.Nat.{ℕ, zero, suc, _<_, _≤_}
@@ -146,12 +146,6 @@ module _ (counts : ℕ → Bool) (edge : ℕ → Float) (gap : Float → Bool) (
       climb i s (o .0) n (λ k l p q. past-false k p q (none-at n (gapPast counts edge gap) (o .1) k l))
 
 -- ---- the face
-and-comm : (a b : Bool) → a && b ≡ b && a
-and-comm true true = refl
-and-comm true false = refl
-and-comm false true = refl
-and-comm false false = refl
-
 past-end : (i a e : ℕ) → a < e → (e ≤ i → e ≤ a) → i < e
 past-end i a e h g = go (decLe e i)
   where

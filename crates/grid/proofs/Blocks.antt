@@ -1,9 +1,9 @@
 -- The boxes of a settled cell, as whole numbers: each lies in its cell, or up to half a block above it (`block`). Assumes nothing.
 use mathlib.Core.Path.{_≡_, refl, sym, ap, _∙_, subst}
-use mathlib.Core.Logic.{_⊎_, inl, inr}
-use mathlib.Core.Bool.{Bool, true, false, not, _&&_, false≢true}
+use mathlib.Core.Logic.{_⊎_, inl}
+use mathlib.Core.Bool.{Bool, true, false, _&&_, false≢true}
 use mathlib.Core.List.{List, [], List·Memᴰ, List·Memᴰ·cases-cons}
-use Prim.Native.Nat.{ℕ, suc, _+_, _-_, _*_, _%_, _^_, _≤_, _<_}
+use Prim.Native.Nat.{ℕ, _+_, _-_, _*_, _^_, _≤_, _<_}
 use native.Mathlib.Omega.{arith}
 use lib.IntN.{ℤ, pos, negsuc, natAbs, _+ℤ_, _-ℤ_, +ℤ-comm, -ℤ-+ℤ-cancel}
 use lib.Signed.{leZ, ltZ}
@@ -12,11 +12,12 @@ use lib.ListN.{length}
 use lib.Ieee.{Float, binary64, ofBits, ofInt, add, lt, le}
 use lib.Ieee.Fits.{and-l, and-r}
 use borrow.Author.Tests.{ltb-true, leb-true}
-use Rattle.base.specs.Choose.{choose}
-use Rattle.base.specs.Loop.{listed}
 use Rattle.base.specs.Ask.{Ask, refused, found, _>>=_}
 use Rattle.base.specs.Every.{every}
 use Rattle.base.proofs.Every.{both, every-at}
+use Rattle.base.proofs.Tests.{T-true}
+use Rattle.base.proofs.Differences.{subℕ-add}
+use Rattle.base.proofs.Members.{in-listed}
 use Rattle.floats.specs.Numbers.{zero64}
 use Rattle.boxes.specs.declared.Aabb.{Aabb}
 use Rattle.boxes.specs.Boxes.{offsetBy}
@@ -32,11 +33,11 @@ use Rattle.moves.specs.Collect.{CellShape, cube, boxes, originOf, one64, cubeAt
 use Rattle.moves.specs.Settled.{settled, settledBoxes}
 use Rattle.grid.specs.Grid.{onGrid, isProper}
 use Rattle.grid.specs.Demand.{cellAndHalf, isInCell, shapeOnGrid, settledOnGrid, cellFrom, everyCell, shapesOnGrid}
-use Rattle.grid.proofs.Units.{At, add-at, at-same, T-true, le-at, lt-at}
+use Rattle.grid.proofs.Units.{At, add-at, at-same, le-at, lt-at}
 use Rattle.grid.proofs.Axis.{Span}
 use Rattle.grid.proofs.Counted.{base, OnSpan, zero-at}
 use Rattle.grid.proofs.Readings.{read, three, proper}
-use Rattle.grid.proofs.Cells.{numbered, subℕ-add, number, origin-at}
+use Rattle.grid.proofs.Cells.{numbered, number, origin-at}
 
 -- ---- one side of a box of the cell n, at most `tall` units from the cell's lower end
 pub record InCell (a b : Float) (n tall : ℕ) : Type 0 where
@@ -164,20 +165,6 @@ module _ {w : Window} {p : Pos} (i : InWindow w p) where
         y = shape-side (b .min .y) (b .max .y) (ofInt binary64 (p .y)) cellAndHalf (i .y .number) 6144 (i .y .small) (omega arith) half-at (origin-on (i .y)) (g .low .y) (g .high .y) (g .solid .y) (l .y) (h .y);
         z = shape-side (b .min .z) (b .max .z) (ofInt binary64 (p .z)) one64 (i .z .number) 4096 (i .z .small) (omega arith) one-at (origin-on (i .z)) (g .low .z) (g .high .z) (g .solid .z) (l .z) (h .z);
       }
-
--- ---- a box of a list is one of its numbers
-record Listed {A : Type 0} (a : A) (f : ℕ → A) (n i : ℕ) : Type 0 where
-  at : ℕ
-  below : at < n
-  is : a ≡ f (i + at)
-
-in-listed : {A : Type 0} (a : A) (f : ℕ → A) (n i : ℕ) → List·Memᴰ a (listed f n i) → Listed a f n i
-unfolding listed
-in-listed a f (suc n) i m = go (List·Memᴰ·cases-cons m) (λ r. in-listed a f n (i + 1) r)
-  where
-    go : (a ≡ f i) ⊎ List·Memᴰ a (listed f n (i + 1)) → (List·Memᴰ a (listed f n (i + 1)) → Listed a f n (i + 1)) → Listed a f (suc n) i
-    go (inl e) rest = record { at = 0; below = omega arith; is = e ∙ ap f (let z : i ≡ i + 0 = omega arith in z) }
-    go (inr r) rest = let l = rest r in record { at = suc (l .at); below = (let z : l .at < n = l .below in omega arith); is = l .is ∙ ap f (let z : i + 1 + l .at ≡ i + suc (l .at) = omega arith in z) }
 
 -- ---- a cell that is settled lies in the window
 no : {A : Type 0} → _≡_ {A = ℕ} 0 1 → A

@@ -1,15 +1,17 @@
 -- Clipping is exact on the grid. Assumes nothing.
 use mathlib.Core.Path.{_≡_, refl, sym, ap, _∙_, subst}
-use mathlib.Core.Bool.{Bool, true, false, not, _&&_, cond}
-use Prim.Native.Nat.{ℕ, zero, suc, _+_, _-_, _/_, _≤_, _<_}
+use mathlib.Core.Bool.{Bool, true, false, _&&_}
+use Prim.Native.Nat.{ℕ, zero, suc, _+_, _/_, _≤_}
 use native.Mathlib.Nat.{mul-div-cancel}
 use native.Mathlib.Omega.{arith}
-use lib.IntN.{ℤ, pos, negsuc, subℕ, _+ℤ_, _-ℤ_, +ℤ-negℤ-cancel}
+use lib.IntN.{ℤ, pos, subℕ, _-ℤ_}
 use lib.Signed.{ltZ, leZ}
-use lib.Dec.{T, ltb, leb, ltb→lt, nltb→le}
+use lib.Dec.{T}
 use lib.Ieee.{Float, nan, inf, fin, binary64, down, sub, lt, le}
 use lib.Ieee.Fits.{down-pos}
 use Rattle.base.specs.Choose.{choose}
+use Rattle.base.proofs.Tests.{and-is, or-is}
+use Rattle.base.proofs.Differences.{subℕ-pos, subℕ-neg, subℕ-sub, subℕ-lt, subℕ-leZ}
 use Rattle.floats.specs.Numbers.{zero64, isWithin, leastOf, greatestOf}
 use Rattle.floats.specs.Whole.{signedOf}
 use Rattle.boxes.specs.declared.Aabb.{Aabb}
@@ -17,49 +19,9 @@ use Rattle.boxes.specs.Boxes.{apart, stopAt}
 use Rattle.boxes.specs.Limits.{twoTo, areWithin, sidesOf, isBox}
 use Rattle.grid.specs.Grid.{onGrid, vecOnGrid}
 use Rattle.grid.specs.Exact.{gridUnits, leastZ, greatestZ, apartZ, stopAtZ, Exact, ClipLaw}
-use Rattle.grid.proofs.Units.{At, Signed, sub-at, lt-at, le-at, ltb-iff, leb-iff}
-use Rattle.grid.proofs.Counted.{zero-at, and-is, or-is}
+use Rattle.grid.proofs.Units.{At, Signed, sub-at, lt-at, le-at}
+use Rattle.grid.proofs.Counted.{zero-at}
 use Rattle.grid.proofs.Readings.{Read, read, at-grid, within-units, reach, limit-at, three, vec-within}
-use Rattle.grid.proofs.Cells.{subℕ-pos, subℕ-neg, subℕ-add}
-
--- ---- differences of whole numbers
-pub subℕ-same : (a b c d : ℕ) → a + d ≡ c + b → subℕ a b ≡ subℕ c d
-subℕ-same a b c d e = go (ltb a b) (ltb→lt a b) (nltb→le a b)
-  where
-    go : (u : Bool) → (T u → a < b) → (T (not u) → b ≤ a) → subℕ a b ≡ subℕ c d
-    go true f g = let z : a < b = f tt in subℕ-neg a b (b - suc a) (omega arith) ∙ sym (subℕ-neg c d (b - suc a) (omega arith))
-    go false f g = let z : b ≤ a = g tt in subℕ-pos a b (a - b) (omega arith) ∙ sym (subℕ-pos c d (a - b) (omega arith))
-
--- y = x + k, and y - k = x
-pub subℕ-less : (p n k : ℕ) → subℕ p n -ℤ pos k ≡ subℕ p (n + k)
-subℕ-less p n k = ap (λ (z : ℤ). z -ℤ pos k) (subℕ-same p n (p + k) (n + k) (omega arith) ∙ sym (subℕ-add p (n + k) k)) ∙ +ℤ-negℤ-cancel (subℕ p (n + k)) (pos k)
-
-sub-units : (p n q m : ℕ) → subℕ p n -ℤ subℕ q m ≡ subℕ (p + m) (n + q)
-sub-units p n q m = go (ltb q m) (ltb→lt q m) (nltb→le q m)
-  where
-    go : (u : Bool) → (T u → q < m) → (T (not u) → m ≤ q) → subℕ p n -ℤ cond u (negsuc (m - suc q)) (pos (q - m)) ≡ subℕ (p + m) (n + q)
-    go true f g = let z : q < m = f tt in subℕ-add p n (suc (m - suc q)) ∙ subℕ-same (p + suc (m - suc q)) n (p + m) (n + q) (omega arith)
-    go false f g = let z : m ≤ q = g tt in subℕ-less p n (q - m) ∙ subℕ-same p (n + (q - m)) (p + m) (n + q) (omega arith)
-
-lt-whole : (p n q m : ℕ) → ltZ (subℕ p n) (subℕ q m) ≡ ltb (p + m) (q + n)
-lt-whole p n q m = go (ltb p n) (ltb→lt p n) (nltb→le p n) (ltb q m) (ltb→lt q m) (nltb→le q m)
-  where
-    go : (u : Bool) → (T u → p < n) → (T (not u) → n ≤ p) → (v : Bool) → (T v → q < m) → (T (not v) → m ≤ q)
-        → ltZ (cond u (negsuc (n - suc p)) (pos (p - n))) (cond v (negsuc (m - suc q)) (pos (q - m))) ≡ ltb (p + m) (q + n)
-    go true f f' true g g' = let x = f tt in let y = g tt in ltb-iff (m - suc q) (n - suc p) (p + m) (q + n) (λ z. omega arith) (λ z. omega arith)
-    go true f f' false g g' = let x = f tt in let y = g' tt in ltb-iff 0 1 (p + m) (q + n) (λ z. omega arith) (λ z. omega arith)
-    go false f f' true g g' = let x = f' tt in let y = g tt in ltb-iff 1 0 (p + m) (q + n) (λ z. omega arith) (λ z. omega arith)
-    go false f f' false g g' = let x = f' tt in let y = g' tt in ltb-iff (p - n) (q - m) (p + m) (q + n) (λ z. omega arith) (λ z. omega arith)
-
-le-whole : (p n q m : ℕ) → leZ (subℕ p n) (subℕ q m) ≡ leb (p + m) (q + n)
-le-whole p n q m = go (ltb p n) (ltb→lt p n) (nltb→le p n) (ltb q m) (ltb→lt q m) (nltb→le q m)
-  where
-    go : (u : Bool) → (T u → p < n) → (T (not u) → n ≤ p) → (v : Bool) → (T v → q < m) → (T (not v) → m ≤ q)
-        → leZ (cond u (negsuc (n - suc p)) (pos (p - n))) (cond v (negsuc (m - suc q)) (pos (q - m))) ≡ leb (p + m) (q + n)
-    go true f f' true g g' = let x = f tt in let y = g tt in leb-iff (m - suc q) (n - suc p) (p + m) (q + n) (λ z. omega arith) (λ z. omega arith)
-    go true f f' false g g' = let x = f tt in let y = g' tt in leb-iff 0 1 (p + m) (q + n) (λ z. omega arith) (λ z. omega arith)
-    go false f f' true g g' = let x = f' tt in let y = g tt in leb-iff 1 0 (p + m) (q + n) (λ z. omega arith) (λ z. omega arith)
-    go false f f' false g g' = let x = f' tt in let y = g' tt in leb-iff (p - n) (q - m) (p + m) (q + n) (λ z. omega arith) (λ z. omega arith)
 
 -- ---- numbers on the grid
 at-units : (x : Float) (p n : ℕ) → At x p n → gridUnits x ≡ subℕ p n
@@ -90,14 +52,14 @@ lt-exact : (x y : Float) → T (onGrid x) → T (onGrid y) → lt x y ≡ ltZ (g
 lt-exact x y s t =
     let a = read x s in
     let b = read y t in
-    lt-at x y (a .plus) (a .minus) (b .plus) (b .minus) (a .at) (b .at) ∙ sym (lt-whole (a .plus) (a .minus) (b .plus) (b .minus))
+    lt-at x y (a .plus) (a .minus) (b .plus) (b .minus) (a .at) (b .at) ∙ sym (subℕ-lt (a .plus) (a .minus) (b .plus) (b .minus))
     ∙ ap (λ (z : ℤ). ltZ z (subℕ (b .plus) (b .minus))) (sym (read-units x a)) ∙ ap (λ (z : ℤ). ltZ (gridUnits x) z) (sym (read-units y b))
 
 le-exact : (x y : Float) → T (onGrid x) → T (onGrid y) → le x y ≡ leZ (gridUnits x) (gridUnits y)
 le-exact x y s t =
     let a = read x s in
     let b = read y t in
-    le-at x y (a .plus) (a .minus) (b .plus) (b .minus) (a .at) (b .at) ∙ sym (le-whole (a .plus) (a .minus) (b .plus) (b .minus))
+    le-at x y (a .plus) (a .minus) (b .plus) (b .minus) (a .at) (b .at) ∙ sym (subℕ-leZ (a .plus) (a .minus) (b .plus) (b .minus))
     ∙ ap (λ (z : ℤ). leZ z (subℕ (b .plus) (b .minus))) (sym (read-units x a)) ∙ ap (λ (z : ℤ). leZ (gridUnits x) z) (sym (read-units y b))
 
 zero-exact : Exact zero64 (pos 0)
@@ -111,7 +73,7 @@ difference x y s t p q =
     let al : a .plus + a .minus ≤ reach = within-units x (twoTo 25) reach limit-at p a in
     let bl : b .plus + b .minus ≤ reach = within-units y (twoTo 25) reach limit-at q b in
     subst (λ (z : ℤ). Exact (sub binary64 x y) z)
-    (sym (ap (λ (z : ℤ). z -ℤ gridUnits y) (read-units x a) ∙ ap (λ (z : ℤ). subℕ (a .plus) (a .minus) -ℤ z) (read-units y b) ∙ sub-units (a .plus) (a .minus) (b .plus) (b .minus)))
+    (sym (ap (λ (z : ℤ). z -ℤ gridUnits y) (read-units x a) ∙ ap (λ (z : ℤ). subℕ (a .plus) (a .minus) -ℤ z) (read-units y b) ∙ subℕ-sub (a .plus) (a .minus) (b .plus) (b .minus)))
     (exact-at (sub binary64 x y) (a .plus + b .minus) (a .minus + b .plus) (sub-at x y (a .plus) (a .minus) (b .plus) (b .minus) (a .at) (b .at) (omega arith) (omega arith)))
 
 -- ---- the steps of a clip

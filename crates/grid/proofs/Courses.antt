@@ -10,6 +10,7 @@ use lib.Dec.{T, ltb, leb, eqb, leb→le, le→leb, ltb→lt, nltb→le, not-T}
 use lib.Ieee.{Float, binary64, add, sub, neg, lt, le, eq}
 use lib.Ieee.Fits.{and-i, and-l, and-r, eq→eqb}
 use Rattle.base.specs.Choose.{choose}
+use Rattle.base.proofs.Tests.{or-l, or-r, or-split}
 use Rattle.floats.specs.Numbers.{zero64}
 use Rattle.boxes.specs.declared.Vec3.{Vec3}
 use Rattle.boxes.specs.declared.Aabb.{Aabb}
@@ -28,18 +29,6 @@ use Rattle.grid.proofs.Counted.{top, On, OnAll, Leads, zero-at, all-x, 
 use Rattle.grid.proofs.Readings.{read, at-grid}
 
 -- ---- the way, by tests on floats
-or-l : (a b : Bool) → T a → T (a || b)
-or-l true b t = tt
-or-l false b t = absurd t
-
-or-r : (a b : Bool) → T b → T (a || b)
-or-r true b t = tt
-or-r false b t = t
-
-or-split : (a b : Bool) → T (a || b) → T a ⊎ T b
-or-split true b t = inl tt
-or-split false b t = inr t
-
 -- with both read from lo
 from-lo : (x y : Float) (a b lo : ℕ) → At x a lo → At y b lo → le x y ≡ leb a b
 from-lo x y a b lo h j = le-is x y a lo b lo a b h j (omega arith)

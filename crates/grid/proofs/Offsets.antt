@@ -1,12 +1,13 @@
 -- Moving a box is exact on the grid. Assumes nothing.
-use mathlib.Core.Path.{_≡_, refl, sym, ap, _∙_, subst}
-use mathlib.Core.Bool.{Bool, true, false, not, cond}
-use Prim.Native.Nat.{ℕ, suc, _+_, _-_, _^_, _≤_, _<_}
+use mathlib.Core.Path.{refl, sym, ap, _∙_, subst}
+use mathlib.Core.Bool.{false}
+use Prim.Native.Nat.{_+_, _^_, _≤_}
 use native.Mathlib.Omega.{arith}
-use lib.IntN.{ℤ, pos, negsuc, subℕ, _+ℤ_}
-use lib.Dec.{T, ltb, ltb→lt, nltb→le}
+use lib.IntN.{ℤ, subℕ, _+ℤ_}
+use lib.Dec.{T}
 use lib.Ieee.{Float, binary64, add}
 use lib.Ieee.Fits.{and-l, and-r}
+use Rattle.base.proofs.Differences.{subℕ-plus}
 use Rattle.floats.specs.Numbers.{isWithin}
 use Rattle.boxes.specs.declared.Vec3.{Vec3}
 use Rattle.boxes.specs.Limits.{twoTo, areWithin}
@@ -14,16 +15,7 @@ use Rattle.grid.specs.Grid.{onGrid, vecOnGrid}
 use Rattle.grid.specs.Exact.{gridUnits, Exact, isNear, OffsetLaw}
 use Rattle.grid.proofs.Units.{At, add-at}
 use Rattle.grid.proofs.Readings.{read, within-units, Three, three, vec-within}
-use Rattle.grid.proofs.Cells.{subℕ-add}
-use Rattle.grid.proofs.Clips.{subℕ-same, subℕ-less, exact-at, read-units}
-
--- ---- sums of whole numbers
-add-units : (p n q m : ℕ) → subℕ p n +ℤ subℕ q m ≡ subℕ (p + q) (n + m)
-add-units p n q m = go (ltb q m) (ltb→lt q m) (nltb→le q m)
-  where
-    go : (u : Bool) → (T u → q < m) → (T (not u) → m ≤ q) → subℕ p n +ℤ cond u (negsuc (m - suc q)) (pos (q - m)) ≡ subℕ (p + q) (n + m)
-    go true f g = let z : q < m = f tt in subℕ-less p n (suc (m - suc q)) ∙ subℕ-same p (n + suc (m - suc q)) (p + q) (n + m) (omega arith)
-    go false f g = let z : m ≤ q = g tt in subℕ-add p n (q - m) ∙ subℕ-same (p + (q - m)) n (p + q) (n + m) (omega arith)
+use Rattle.grid.proofs.Clips.{exact-at, read-units}
 
 -- ---- sums of numbers on the grid
 limit-at : At (twoTo 26) (2 ^ 38) 0
@@ -36,7 +28,7 @@ total x y p s q t =
     let al : a .plus + a .minus ≤ 2 ^ 38 = within-units x (twoTo 26) (2 ^ 38) limit-at p a in
     let bl : b .plus + b .minus ≤ 2 ^ 38 = within-units y (twoTo 26) (2 ^ 38) limit-at q b in
     subst (λ (z : ℤ). Exact (add binary64 x y) z)
-    (sym (ap (λ (z : ℤ). z +ℤ gridUnits y) (read-units x a) ∙ ap (λ (z : ℤ). subℕ (a .plus) (a .minus) +ℤ z) (read-units y b) ∙ add-units (a .plus) (a .minus) (b .plus) (b .minus)))
+    (sym (ap (λ (z : ℤ). z +ℤ gridUnits y) (read-units x a) ∙ ap (λ (z : ℤ). subℕ (a .plus) (a .minus) +ℤ z) (read-units y b) ∙ subℕ-plus (a .plus) (a .minus) (b .plus) (b .minus)))
     (exact-at (add binary64 x y) (a .plus + b .plus) (a .minus + b .minus) (add-at x y (a .plus) (a .minus) (b .plus) (b .minus) (a .at) (b .at) (omega arith) (omega arith)))
 
 -- ---- a corner

@@ -4,17 +4,18 @@ use mathlib.Core.Path.{_≡_, sym, _∙_, subst}
 use mathlib.Core.Bool.{Bool, true, false, not}
 use Prim.Native.Nat.{ℕ, _+_, _-_, _^_, _≤_, _<_}
 use native.Mathlib.Omega.{arith}
-use lib.Dec.{T, ltb, eqb, ltb→lt, lt→ltb, eqb→eq, not-T, T-not, nltb→le}
+use lib.Dec.{T, ltb, ltb→lt, lt→ltb, eqb→eq, not-T, T-not, nltb→le}
 use lib.Ieee.{Float, binary64, add, sub, lt, eq}
 use lib.Ieee.Fits.{eq→eqb}
 use Rattle.base.specs.Choose.{choose}
+use Rattle.base.proofs.Tests.{T-true, ltb-no}
 use Rattle.floats.specs.Numbers.{zero64, isWithin}
 use Rattle.boxes.specs.declared.Aabb.{Aabb}
 use Rattle.boxes.specs.Boxes.{overlap}
 use Rattle.boxes.specs.Limits.{twoTo}
 use Rattle.grid.specs.Grid.{onGrid}
 use Rattle.grid.specs.Demand.{gridUnit, further, Free, Struck, Travels}
-use Rattle.grid.proofs.Units.{At, add-at, sub-at, at-same, T-true, ltb-no, lt-is, eq-at}
+use Rattle.grid.proofs.Units.{At, add-at, sub-at, at-same, lt-is, eq-at}
 use Rattle.grid.proofs.Axis.{Way, upward, downward}
 use Rattle.grid.proofs.Counted.{base, zero-at}
 use Rattle.grid.proofs.Readings.{read, at-grid, within-units}

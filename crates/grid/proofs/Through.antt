@@ -3,8 +3,8 @@
 use mathlib.Core.Path.{_≡_, refl, sym, ap, _∙_, subst}
 use mathlib.Core.Logic.{_⊎_, inl, inr}
 use mathlib.Core.Bool.{Bool, true, false, not, _&&_}
-use mathlib.Core.List.{List, [], _∷_, _++_, List·Memᴰ, List·Memᴰ·head, List·Memᴰ·tail, List·Memᴰ·cases-cons}
-use Prim.Native.Nat.{ℕ, suc, _+_, _-_, _*_, _≤_, _<_}
+use mathlib.Core.List.{List, [], _∷_, List·Memᴰ, List·Memᴰ·head, List·Memᴰ·tail, List·Memᴰ·cases-cons, List·Memᴰ·append-cases}
+use Prim.Native.Nat.{ℕ, suc, _+_, _*_, _≤_, _<_}
 use native.Mathlib.Omega.{arith}
 use lib.Dec.{T, eqb, eqb→eq}
 use lib.ListN.{length}
@@ -12,6 +12,7 @@ use lib.Ieee.{Float}
 use lib.Ieee.Fits.{and-i, and-l, and-r}
 use Rattle.base.specs.Choose.{choose}
 use Rattle.base.specs.Ask.{Ask, refused, found, _>>=_}
+use Rattle.base.proofs.Tests.{no-not}
 use Rattle.boxes.specs.declared.Vec3.{Vec3}
 use Rattle.boxes.specs.declared.Aabb.{Aabb}
 use Rattle.boxes.specs.declared.MoveResult.{MoveResult}
@@ -34,7 +35,6 @@ use Rattle.moves.proofs.Order.{keptOf, collected-is, is-collected}
 use Rattle.moves.proofs.Refuses.{FiveOrSix, collect-refuses}
 use Rattle.grid.specs.Grid.{onGrid, vecOnGrid, isProper, isFree}
 use Rattle.grid.specs.Demand.{Demand3, keepsStep, IsSettled, shapesOnGrid, isFreeIn, windowOnGrid, keepsAmong, keepsStepIn, WindowDemand}
-use Rattle.grid.proofs.Units.{T-true}
 use Rattle.grid.proofs.Axis.{Span, Meets}
 use Rattle.grid.proofs.Whole.{Box, Solid, Overlap}
 use Rattle.grid.proofs.Counted.{On, overlap-to, overlap-from}
@@ -46,25 +46,13 @@ use Rattle.grid.proofs.Blocks.{InCells, Settled, at-cell, block}
 use Rattle.grid.proofs.Areas.{area, area-on}
 
 -- ---- what is in the lists together is in one of them
-in-either : {A : Type 0} (a : A) (xs ys : List A) → List·Memᴰ a (xs ++ ys) → List·Memᴰ a xs ⊎ List·Memᴰ a ys
-in-either a [] ys m = inr m
-in-either {A} a (x ∷ xs) ys m = go (List·Memᴰ·cases-cons m) (λ n. in-either a xs ys n)
-  where
-    later : List·Memᴰ a xs ⊎ List·Memᴰ a ys → List·Memᴰ a (x ∷ xs) ⊎ List·Memᴰ a ys
-    later (inl n) = inl (List·Memᴰ·tail n)
-    later (inr n) = inr n
-
-    go : (a ≡ x) ⊎ List·Memᴰ a (xs ++ ys) → (List·Memᴰ a (xs ++ ys) → List·Memᴰ a xs ⊎ List·Memᴰ a ys) → List·Memᴰ a (x ∷ xs) ⊎ List·Memᴰ a ys
-    go (inl e) rest = inl (List·Memᴰ·head e)
-    go (inr n) rest = later (rest n)
-
 record OneOf {A I : Type 0} (a : A) (g : I → List A) : Type 0 where
   at : I
   is : List·Memᴰ a (g at)
 
 in-one : {A : Type 0} (a : A) (g : ℕ → List A) (k i : ℕ) → List·Memᴰ a (joined g k i) → OneOf a g
 unfolding joined
-in-one a g (suc k) i m = go (in-either a (g i) (joined g k (i + 1)) m) (λ n. in-one a g k (i + 1) n)
+in-one a g (suc k) i m = go (List·Memᴰ·append-cases (g i) m) (λ n. in-one a g k (i + 1) n)
   where
     go : List·Memᴰ a (g i) ⊎ List·Memᴰ a (joined g k (i + 1)) → (List·Memᴰ a (joined g k (i + 1)) → OneOf a g) → OneOf a g
     go (inl n) rest = record { at = i; is = n }
@@ -226,10 +214,6 @@ accepted false false false false (refused n) m d h ground f e = absurd (never (f
     never (inl z) = omega arith
     never (inr z) = omega arith
 accepted false false false false (found bs) m d h ground f e = record { one = refl; two = refl; three = refl; four = refl; boxes = bs; collects = refl; result = refl }
-
-no-not : (b : Bool) → not b ≡ false → T b
-no-not true e = tt
-no-not false e = absurd (subst T e tt)
 
 pub demand3-window : WindowDemand
 unfolding moveEntry moveAabb windowOnGrid keepsStepIn

@@ -11,10 +11,11 @@ use lib.Ieee.{Float}
 use lib.Ieee.Fits.{and-i, and-l, and-r}
 use Rattle.base.specs.Choose.{choose}
 use Rattle.base.specs.Every.{every, some}
+use Rattle.base.proofs.Tests.{every-same}
 use Rattle.floats.specs.Numbers as N
 use Rattle.cover.specs.declared.Side.the-variants.{North, East, South, West}
 use Rattle.cover.specs.Cover as O
-use Rattle.cover.specs.Cover.{boxCount, fullFaces}
+use Rattle.cover.specs.Cover.{boxCount}
 use Rattle.cover.specs.Gaps as G
 use Rattle.cover.specs.Gaps.{coversBySearch}
 use Rattle.cover.proofs.Examples.{allFit, full-search}
@@ -61,11 +62,6 @@ record-searched : (records : List ℕ) (shapes : List Float) (state : ℕ) → T
 unfolding K.recordFits K.facesFit
 record-searched records shapes state t =
     rw (full-search (stateBoxes records shapes state) (fit-part shapes (wordAt records state 7) (wordAt records state 8) t))
-
-every-same : (p q : ℕ → Bool) → ((i : ℕ) → p i ≡ q i) → (n : ℕ) → every n p ≡ every n q
-unfolding every
-every-same p q h zero = refl
-every-same p q h (suc n) = rw (every-same p q h n, h n)
 
 pub tables-searched : (records : List ℕ) (shapes : List Float) → T (allFit shapes)
     → tablesFit records shapes ≡ (K.countsFit records shapes && every (K.stateCount records) (recordSearched records shapes) && every (boxCount shapes) (K.boxFits shapes))
