@@ -9,16 +9,16 @@ use Rattle.boxes.specs.Boxes.{fromFeet}
 use Rattle.window.specs.declared.Pos.{Pos}
 use Rattle.window.specs.Look.{Block}
 use Rattle.liquids.specs.declared.Current.{Current}
-use Rattle.liquids.specs.Liquid.{liquidAsked}
+use Rattle.flow.specs.Liquid.{liquidHeld}
 use Rattle.liquids.specs.Current.{itemCurrent}
-use Rattle.liquids.specs.Flotation.{cellAt}
+use Rattle.ranges.specs.Cells.{cellHolding}
 use Rattle.lent_boxes.specs.Boxes.{flagOf}
 
 -- what the flows do to an item at these feet, of this width and height: the cell of its feet is asked for first, as the step does
 unfoldable pub currentAt : (Pos → Ask Block) → List ℕ → Vec3 → Float → Float → Ask Current
 currentAt look records feet width height = do
-  let foot : Pos = cellAt feet
-  state ← liquidAsked look records foot
+  let foot : Pos = cellHolding feet
+  state ← liquidHeld look records foot
   itemCurrent look records (fromFeet feet width height) foot state
 
 -- what it adds to the velocity, and 1.0 where there is water: four numbers

@@ -5,8 +5,8 @@ use lent_boxes::flag_of;
 use lent_boxes::put;
 use lent_boxes::put_vec;
 use liquids::Current;
-use liquids::Currents;
-use liquids::Held;
+use liquids::AskedCurrent;
+use flow::AskedLiquid;
 use window::Window;
 ghost use mathlib.Core.Path.{_≡_};
 ghost use Rattle.boxes.specs.Boxes.{vec};
@@ -34,15 +34,15 @@ fn current_into(
     ensures { λ r. ⌜ r ≡ currentRefusal (currentAt (lookAt (now (cells .entry)) w) (now (records .entry)) feet width height) ⌝ }
     ensures { λ _. ⌜ now (out .exit) ≡ currentWritten (now (out .entry)) (currentAt (lookAt (now (cells .entry)) w) (now (records .entry)) feet width height) ⌝ }
 {
-    let foot = liquids::cell_at(feet);
-    let state = match liquids::liquid_at(records, cells, w, foot) {
-        Held::Refused(n) => return n,
-        Held::Is(s) => s,
+    let foot = ranges::cell_holding(feet);
+    let state = match flow::liquid_at(records, cells, w, foot) {
+        AskedLiquid::Refused(n) => return n,
+        AskedLiquid::Is(s) => s,
     };
     let aabb = Aabb::from_feet(feet, width, height);
     match liquids::item_current(records, cells, w, aabb, foot, state) {
-        Currents::Refused(n) => n,
-        Currents::Is(c) => {
+        AskedCurrent::Refused(n) => n,
+        AskedCurrent::Is(c) => {
             put_current(out, c);
             0
         }

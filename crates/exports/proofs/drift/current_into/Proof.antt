@@ -5,8 +5,8 @@ use borrow.Author.Needs.{needs}
 use Rattle.exports.proofs.drift.current_into.Statement.{statement}
 use Rattle.exports.proofs.drift.current_into.Tie as tie
 
-cell-at-requires : tie.Need-cell-at-requires
-cell-at-requires c κs = search needs
+cell-holding-requires : tie.Need-cell-holding-requires
+cell-holding-requires c κs = search needs
 
 liquid-at-requires : tie.Need-liquid-at-requires
 liquid-at-requires c κs = search needs
@@ -16,7 +16,7 @@ enum-known-n c = search needs
 
 returns : tie.Need-returns
 unfolding currentAt
-returns c = rw (← c .before .before .before .before .cell-at .ensures, ← c .before .before .before .liquid-at .ensures, c .before .n .given .1) (refl, refl)
+returns c = rw (← c .before .before .before .before .cell-holding .ensures, ← c .before .before .before .liquid-at .ensures, c .before .n .given .1) (refl, refl)
 
 enum-known-s : tie.Need-enum-known-s
 enum-known-s c = search needs
@@ -38,20 +38,20 @@ put-current-requires c κs = search needs
 
 returns-2 : tie.Need-returns-2
 unfolding currentAt
-returns-2 c = rw (← c .before .before .before .before .before .before .before .before .before .cell-at .ensures, ← c .before .before .before .before .before .before .before .before .liquid-at .ensures, c .before .before .before .before .before .before .s .given .1, ← c .before .before .before .before .from-feet .ensures, ← c .before .before .before .item-current .ensures, c .before .n2 .given .1) (refl, refl)
+returns-2 c = rw (← c .before .before .before .before .before .before .before .before .before .cell-holding .ensures, ← c .before .before .before .before .before .before .before .before .liquid-at .ensures, c .before .before .before .before .before .before .s .given .1, ← c .before .before .before .before .from-feet .ensures, ← c .before .before .before .item-current .ensures, c .before .n2 .given .1) (refl, refl)
 
 same-length : tie.Need-same-length
 same-length c = search needs
 
 returns-3 : tie.Need-returns-3
 unfolding currentAt
-returns-3 c = rw (← c .before .before .before .before .before .before .before .before .before .before .before .before .before .cell-at .ensures, ← c .before .before .before .before .before .before .before .before .before .before .before .before .liquid-at .ensures, c .before .before .before .before .before .before .before .before .before .before .s .given .1, ← c .before .before .before .before .before .before .before .before .from-feet .ensures, ← c .before .before .before .before .before .before .before .item-current .ensures, c .before .before .before .before .before .c .given .1, c .before .before .put-current .ensures) (refl, refl)
+returns-3 c = rw (← c .before .before .before .before .before .before .before .before .before .before .before .before .before .cell-holding .ensures, ← c .before .before .before .before .before .before .before .before .before .before .before .before .liquid-at .ensures, c .before .before .before .before .before .before .before .before .before .before .s .given .1, ← c .before .before .before .before .before .before .before .before .from-feet .ensures, ← c .before .before .before .before .before .before .before .item-current .ensures, c .before .before .before .before .before .c .given .1, c .before .before .put-current .ensures) (refl, refl)
 
 pub current-into-spec : {M : Type 1} → statement M
 current-into-spec =
     tie.close
     (tie.spec
-    cell-at-requires
+    cell-holding-requires
     liquid-at-requires
     enum-known-n
     returns
