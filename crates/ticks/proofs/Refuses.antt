@@ -29,7 +29,7 @@ use Rattle.bodies.specs.declared.Rules.{Rules}
 use Rattle.bodies.specs.declared.Motion.{Motion}
 use Rattle.drags.specs.Drags.{pulled}
 use Rattle.samples.specs.Samples.{sampled, supportingFriction, livingSample, livingBlockFriction, livingSupport, groundSupport, supportAfter}
-use Rattle.ticks.specs.Step.{afterMove, moveOn, itemBegins, begins, senses, stepBodySensed}
+use Rattle.ticks.specs.Step.{afterMove, moveOn, itemBegins, tickBegins, senses, stepBodySensed}
 
 -- ---- what asks for cells, where a look-up refuses by P
 module _ {P : ℕ → Type 0} (look : Pos → Ask Block) (h : (p : Pos) → Refuses P (look p)) (records : List ℕ) where
@@ -129,8 +129,8 @@ module _ {P : ℕ → Type 0} (look : Pos → Ask Block) (h : (p : Pos) → Refu
         (walks _ _ (λ p s. after _ _ (known-refuses foot t p) (λ a. either _ _ _ (after _ _ (flow-refuses p a) (λ f. finds _)) (finds _))) _)
         (resumes _ (λ s. finds _)))
 
-    begins-refuses : (body : Body) (aabb : Aabb) (motion : Motion) (age : ℕ) → Refuses P (begins look records body aabb motion age)
-    unfolding begins itemBegins
+    begins-refuses : (body : Body) (aabb : Aabb) (motion : Motion) (age : ℕ) → Refuses P (tickBegins look records body aabb motion age)
+    unfolding tickBegins itemBegins
     begins-refuses body aabb motion age =
         either _ _ _
         (after _ _ (liquid-refuses _) (λ s.

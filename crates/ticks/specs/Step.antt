@@ -74,8 +74,8 @@ itemBegins look records body aabb motion age = do
   found record { velocity = velocity; flotation = flotation; rests = restsNow (motion .ground) velocity (current .water) age }
 
 -- let flotation = if body.model == PhysicsModel::Item { .. } else { None };
-unfoldable pub begins : (Pos → Ask Block) → List ℕ → Body → Aabb → Motion → ℕ → Ask Begun
-begins look records body aabb motion age =
+unfoldable pub tickBegins : (Pos → Ask Block) → List ℕ → Body → Aabb → Motion → ℕ → Ask Begun
+tickBegins look records body aabb motion age =
     choose (isItem (body .model))
     (itemBegins look records body aabb motion age)
     (found record { velocity = motion .velocity; flotation = None; rests = false })
@@ -87,7 +87,7 @@ senses look records body aabb = choose (isLiving (body .model)) (livingLiquid lo
 unfoldable pub stepBodySensed : (Pos → Ask Block) → List ℕ → List Float → Rules → Body → Motion → ℕ → Ask Tick
 stepBodySensed look records shapes rules body motion age = do
   let aabb : Aabb = fromFeet (motion .feet) (body .width) (body .height)
-  begun ← begins look records body aabb motion age
+  begun ← tickBegins look records body aabb motion age
   choose (begun .rests) (found (tickTo (motion .feet) (begun .velocity) (motion .ground) None NotAsked))
       (do
         liquid ← senses look records body aabb

@@ -22,7 +22,7 @@ use tables::LiquidKind;
 use window::Window;
 ghost use mathlib.Core.Path.{_≡_};
 ghost use Rattle.window.specs.Look.{lookAt};
-ghost use Rattle.ticks.specs.Step.{afterMove, moveOn, itemBegins, begins, senses, stepBodySensed};
+ghost use Rattle.ticks.specs.Step.{afterMove, moveOn, itemBegins, tickBegins, senses, stepBodySensed};
 ghost use Rattle.liquids.specs.Answers.{kindAsked};
 ghost use Rattle.ticks.specs.Answers.{tickAsked, begunAsked};
 
@@ -134,7 +134,7 @@ fn item_begins(
     })
 }
 
-fn begins(
+fn tick_begins(
     records: &[u32],
     cells: &[u32],
     w: Window,
@@ -143,7 +143,7 @@ fn begins(
     motion: Motion,
     age: u64,
 ) -> AskedBegun
-    ensures { λ r. ⌜ begunAsked r ≡ begins (lookAt (now (cells .entry)) w) (now (records .entry)) body aabb motion age ⌝ }
+    ensures { λ r. ⌜ begunAsked r ≡ tickBegins (lookAt (now (cells .entry)) w) (now (records .entry)) body aabb motion age ⌝ }
 {
     let model = body.model;
     if is_item(model) {
@@ -182,7 +182,7 @@ pub fn step_through(
 {
     let feet = motion.feet;
     let aabb = Aabb::from_feet(feet, body.width, body.height);
-    let begun = match begins(records, cells, w, body, aabb, motion, age) {
+    let begun = match tick_begins(records, cells, w, body, aabb, motion, age) {
         AskedBegun::Refused(n) => return AskedTick::Refused(n),
         AskedBegun::Is(b) => b,
     };

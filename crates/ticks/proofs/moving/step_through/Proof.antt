@@ -8,15 +8,15 @@ use Rattle.ticks.proofs.moving.step_through.Tie as tie
 from-feet-requires : tie.Need-from-feet-requires
 from-feet-requires c κs = search needs
 
-begins-requires : tie.Need-begins-requires
-begins-requires c κs = search needs
+tick-begins-requires : tie.Need-tick-begins-requires
+tick-begins-requires c κs = search needs
 
 enum-known-n : tie.Need-enum-known-n
 enum-known-n c = search needs
 
 returns : tie.Need-returns
 unfolding stepBodySensed choose
-returns c = rw (← c .before .before .before .before .from-feet .ensures, ← c .before .before .before .begins .ensures, c .before .n .given .1)
+returns c = rw (← c .before .before .before .before .from-feet .ensures, ← c .before .before .before .tick-begins .ensures, c .before .n .given .1)
 
 enum-known-b : tie.Need-enum-known-b
 enum-known-b c = search needs
@@ -26,7 +26,7 @@ tick-to-requires c κs = search needs
 
 returns-2 : tie.Need-returns-2
 unfolding stepBodySensed choose
-returns-2 c = rw (← c .before .before .before .before .before .before .before .from-feet .ensures, ← c .before .before .before .before .before .before .begins .ensures, c .before .before .before .before .b .given .1, c .before .before .if1 .taken, ← c .tick-to .ensures)
+returns-2 c = rw (← c .before .before .before .before .before .before .before .from-feet .ensures, ← c .before .before .before .before .before .before .tick-begins .ensures, c .before .before .before .before .b .given .1, c .before .before .if1 .taken, ← c .tick-to .ensures)
 
 senses-requires : tie.Need-senses-requires
 senses-requires c κs = search needs
@@ -36,7 +36,7 @@ enum-known-n-2 c = search needs
 
 returns-3 : tie.Need-returns-3
 unfolding stepBodySensed choose
-returns-3 c = rw (← c .before .before .before .before .before .before .before .before .before .from-feet .ensures, ← c .before .before .before .before .before .before .before .before .begins .ensures, c .before .before .before .before .before .before .b .given .1, c .before .before .before .before .if1 .left, ← c .before .before .before .senses .ensures, c .before .n2 .given .1)
+returns-3 c = rw (← c .before .before .before .before .before .before .before .before .before .from-feet .ensures, ← c .before .before .before .before .before .before .before .before .tick-begins .ensures, c .before .before .before .before .before .before .b .given .1, c .before .before .before .before .if1 .left, ← c .before .before .before .senses .ensures, c .before .n2 .given .1)
 
 enum-known-kind : tie.Need-enum-known-kind
 enum-known-kind c = search needs
@@ -46,14 +46,14 @@ move-on-requires c κs = search needs
 
 returns-4 : tie.Need-returns-4
 unfolding stepBodySensed choose
-returns-4 c = rw (← c .before .before .before .before .before .before .before .before .before .before .before .from-feet .ensures, ← c .before .before .before .before .before .before .before .before .before .before .begins .ensures, c .before .before .before .before .before .before .before .before .b .given .1, c .before .before .before .before .before .before .if1 .left, ← c .before .before .before .before .before .senses .ensures, c .before .before .before .kind .given .1, ← c .move-on .ensures)
+returns-4 c = rw (← c .before .before .before .before .before .before .before .before .before .before .before .from-feet .ensures, ← c .before .before .before .before .before .before .before .before .before .before .tick-begins .ensures, c .before .before .before .before .before .before .before .before .b .given .1, c .before .before .before .before .before .before .if1 .left, ← c .before .before .before .before .before .senses .ensures, c .before .before .before .kind .given .1, ← c .move-on .ensures)
 
 pub step-through-spec : {M : Type 1} → statement M
 step-through-spec =
     tie.close
     (tie.spec
     from-feet-requires
-    begins-requires
+    tick-begins-requires
     enum-known-n
     returns
     enum-known-b

@@ -1,9 +1,9 @@
--- `ticks::moving::begins` meets its contract. Assumes nothing.
-use Rattle.ticks.specs.Step.{begins}
+-- `ticks::moving::tick_begins` meets its contract. Assumes nothing.
+use Rattle.ticks.specs.Step.{tickBegins}
 use Rattle.base.specs.Choose.{choose}
 use borrow.Author.Needs.{needs}
-use Rattle.ticks.proofs.moving.begins.Statement.{statement}
-use Rattle.ticks.proofs.moving.begins.Tie as tie
+use Rattle.ticks.proofs.moving.tick_begins.Statement.{statement}
+use Rattle.ticks.proofs.moving.tick_begins.Tie as tie
 
 is-item-requires : tie.Need-is-item-requires
 is-item-requires c κs = search needs
@@ -12,12 +12,12 @@ item-begins-requires : tie.Need-item-begins-requires
 item-begins-requires c κs = search needs
 
 returns : tie.Need-returns
-unfolding begins choose
+unfolding tickBegins choose
 returns c = rw (← c .before .before .is-item .ensures, c .before .if1 .taken, ← c .item-begins .ensures)
 
 returns-2 : tie.Need-returns-2
-unfolding begins choose
+unfolding tickBegins choose
 returns-2 c = rw (← c .before .before .is-item .ensures, c .before .if1 .left)
 
-pub begins-spec : {M : Type 1} → statement M
-begins-spec = tie.close (tie.spec is-item-requires item-begins-requires returns returns-2)
+pub tick-begins-spec : {M : Type 1} → statement M
+tick-begins-spec = tie.close (tie.spec is-item-requires item-begins-requires returns returns-2)
