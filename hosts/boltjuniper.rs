@@ -1,5 +1,6 @@
 //! Boltjuniper for hosts in Rust: safe wrappers around what hosts/boltjuniper.h declares. Link target/staticlib/libexports.a. An answer is
-//! what was written, or the number of the refusal (docs/REFUSALS.md).
+//! what was written, or the number of the refusal (docs/REFUSALS.md). Lengths and flags are right by their types, so neither they nor 11 are
+//! ever the reason.
 
 mod linked {
     unsafe extern "C" {

@@ -14,7 +14,8 @@ static int block, blocks;
 
 struct count { const char *what; int agree, differ; };
 static struct count steps = {"step", 0, 0}, malformed = {"files that are no scenes", 0, 0}, checked = {"step_checked", 0, 0},
-                    tables = {"check_tables", 0, 0}, moves = {"move", 0, 0}, lists = {"move_over_list", 0, 0};
+                    tables = {"check_tables", 0, 0}, moves = {"move", 0, 0}, lists = {"move_over_list", 0, 0},
+                    lengths = {"lengths, ground and room", 0, 0};
 
 static void add(struct count *c, const char *ours, const char *theirs) {
     if (strcmp(ours, theirs) == 0) {
@@ -158,15 +159,61 @@ static void one_list(char *call) {
 }
 
 /* Case A of the requirements: what its step does to the box. */
+static const uint32_t states[40] = {[0] = 1, [20] = 3, [28] = 1, [39] = 15}, ground[16] = {1, 1, 1, 1, 1, 1, 1, 1};
+static const float cube[6] = {0, 0, 0, 1, 1, 1};
+static const double mover[9] = {0, 1.25, 0, 1, 2.25, 1, 0.25, -0.5, 0};
+
 static void case_a(void) {
-    static const uint32_t states[40] = {[0] = 1, [20] = 3, [28] = 1, [39] = 15}, ground[16] = {1, 1, 1, 1, 1, 1, 1, 1};
-    static const float cube[6] = {0, 0, 0, 1, 1, 1};
-    static const double mover[9] = {0, 1.25, 0, 1, 2.25, 1, 0.25, -0.5, 0}, theirs[10] = {0.25, 1, 0, 1.25, 2, 1, 0.25, -0.25, 0, 1};
+    static const double theirs[10] = {0.25, 1, 0, 1.25, 2, 1, 0.25, -0.25, 0, 1};
     double out[10];
     char a[512], b[512];
     move_text(a, boltjuniper_move(states, 40, cube, 6, ground, 16, 0, -1, 0, 2, 4, 2, mover, 9, 0, 0, out, 10), out);
     move_text(b, 0, theirs);
     add(&moves, a, b);
+}
+
+/* Slices of other lengths than their page says, a ground above 1, and too little room: what is refused, and that nothing is written. */
+static void refuses(uint32_t ours, uint32_t theirs, double *out) {
+    char a[64], b[64];
+    int n = sprintf(a, "refused %" PRIu32, ours);
+    for (int k = 0; theirs && k < 10; k++)
+        if (out[k] != -1) sprintf(a + n, ", and something written");
+    sprintf(b, "refused %" PRIu32, theirs);
+    add(&lengths, a, b);
+    for (int k = 0; k < 10; k++) out[k] = -1;
+}
+
+static void a_step(uint32_t theirs, size_t state_words, size_t numbers_len, size_t words_len, double gravity, size_t room) {
+    double numbers[20] = {0.5, 1.25, 0.5, 0.25, 0, 0, 1, 1, 0, gravity, 0.5, 0.5}, out[10] = {-1, -1, -1, -1, -1, -1, -1, -1, -1, -1};
+    static const uint32_t words[7] = {0, 3};
+    refuses(boltjuniper_step(states, state_words, cube, 6, ground, 16, 0, -1, 0, 2, 4, 2, numbers, numbers_len, words, words_len, 0, out, room),
+            theirs, out);
+    if (state_words == 40)
+        refuses(boltjuniper_step_checked(states, 40, cube, 6, ground, 16, 0, -1, 0, 2, 4, 2, numbers, numbers_len, words, words_len, 0, out, room),
+                theirs, out);
+}
+
+static void a_move(uint32_t theirs, size_t state_words, size_t mover_len, double step_height, uint32_t on_ground, size_t room) {
+    double out[10] = {-1, -1, -1, -1, -1, -1, -1, -1, -1, -1};
+    refuses(boltjuniper_move(states, state_words, cube, 6, ground, 16, 0, -1, 0, 2, 4, 2, mover, mover_len, step_height, on_ground, out, room),
+            theirs, out);
+}
+
+static void a_list(uint32_t theirs, size_t boxes_len, double last, size_t mover_len, uint32_t on_ground, size_t room) {
+    static double many[6 * 130];
+    double out[10] = {-1, -1, -1, -1, -1, -1, -1, -1, -1, -1};
+    if (boxes_len) many[boxes_len - 1] = last;
+    refuses(boltjuniper_move_over_list(many, boxes_len, mover, mover_len, 0, on_ground, out, room), theirs, out);
+    if (boxes_len) many[boxes_len - 1] = 0;
+}
+
+static void all_lengths(void) {
+    a_step(0, 40, 19, 6, 0.5, 8), a_step(3, 40, 18, 6, 0.5, 8), a_step(3, 40, 20, 6, 0.5, 8), a_step(3, 40, 19, 5, 0.5, 8);
+    a_step(3, 40, 19, 7, 0.5, 8), a_step(11, 40, 19, 6, 0.5, 7), a_step(3, 40, 19, 6, 17, 0), a_step(1, 39, 18, 6, 0.5, 0);
+    a_move(0, 40, 9, 0, 0, 10), a_move(4, 40, 8, 0, 0, 10), a_move(3, 40, 9, 0, 2, 10), a_move(3, 40, 8, 5, 0, 0);
+    a_move(11, 40, 9, 0, 1, 9), a_move(4, 40, 8, 0, 1, 0), a_move(1, 39, 8, 5, 2, 0);
+    a_list(0, 6, 0, 9, 1, 10), a_list(4, 7, 0, 9, 0, 10), a_list(3, 6, 0, 9, 2, 10), a_list(4, 6, 0, 8, 0, 10), a_list(11, 6, 0, 9, 0, 9);
+    a_list(4, 6 * 130, -1, 9, 0, 0), a_list(11, 6 * 130, 0, 9, 0, 0), a_list(6, 6 * 130, 0, 9, 0, 10), a_list(0, 6 * 128, 0, 9, 0, 10);
 }
 
 int main(void) {
@@ -179,8 +226,9 @@ int main(void) {
     }
     fclose(f);
     case_a();
-    const struct count *all[] = {&steps, &malformed, &checked, &tables, &moves, &lists};
+    all_lengths();
+    const struct count *all[] = {&steps, &malformed, &checked, &tables, &moves, &lists, &lengths};
     int bad = 0;
-    for (int k = 0; k < 6; k++) bad |= tell(all[k]);
+    for (int k = 0; k < 7; k++) bad |= tell(all[k]);
     return bad;
 }
