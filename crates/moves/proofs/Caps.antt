@@ -23,7 +23,19 @@ use Rattle.ranges.specs.Walk.{line, layer, walk}
 use Rattle.moves.specs.Collect.{CellShape, aabbsOf, cellShape, offer, offerAll, visit, push, pushed, hit, isHit, rangeOf, collectUpTo, collidesWithBlocks}
 use Rattle.moves.specs.Answers.{heldAsked}
 use Rattle.moves.proofs.Refuses.{Refuses, Five, FiveOrSix, look-refuses, cell-refuses, capped-refuses}
-use Rattle.moves.proofs.Collects.{list-told, refusal-told}
+
+-- ---- what was asked, from the answer of a collection
+list-told : (h : Held) (m : Ask (List Aabb)) → Refuses FiveOrSix m → h ≡ heldAsked m → h .refusal ≡ 0 → m ≡ found (h .boxes)
+list-told h (found bs) f e z = rw e
+list-told h (refused n) f e z = never (f .only n refl) (sym (ap (λ (x : Held). x .refusal) e) ∙ z)
+  where
+    never : (n ≡ 5) ⊎ (n ≡ 6) → n ≡ 0 → refused n ≡ found (h .boxes)
+    never (inl a) b = absurd (omega arith)
+    never (inr a) b = absurd (omega arith)
+
+refusal-told : (h : Held) (m : Ask (List Aabb)) → h ≡ heldAsked m → (h .refusal ≡ 0 → ⊥) → m ≡ refused (h .refusal)
+refusal-told h (found bs) e z = absurd (z (ap (λ (x : Held). x .refusal) e))
+refusal-told h (refused n) e z = rw e
 
 -- ---- two walks side by side: both refuse 5, or both go on, or the first refuses 6
 data Beside {S U : Type 0} (P : S → U → Type 0) (Q : Ask (Turn U Bool) → Type 0) (m : Ask (Turn S Bool)) (n : Ask (Turn U Bool)) : Type 0 where

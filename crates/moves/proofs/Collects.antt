@@ -2,7 +2,6 @@
 use mathlib.Core.Path.{_≡_, refl, sym, ap, _∙_}
 use mathlib.Core.Bool.{Bool, true, false}
 use mathlib.Core.List.{List, [], _∷_, _++_}
-use mathlib.Core.Logic.{_⊎_, inl, inr}
 use Prim.Native.Nat.{ℕ, zero, suc, _+_, _-_, _≤_, _<_, min}
 use native.Mathlib.Numerals.{add-one}
 use native.Mathlib.Omega.{arith}
@@ -22,22 +21,19 @@ use Rattle.boxes.specs.declared.MoveResult.{MoveResult}
 use Rattle.boxes.specs.Boxes.{overlap}
 use Rattle.boxes.specs.Passes.{sweepOf, endOf}
 use Rattle.boxes.proofs.Shape.{moves}
-use Rattle.boxes.specs.Lists.{room, listOf, emptyList, noBox, Held, held}
-use Rattle.boxes.specs.Move.{moveOver}
+use Rattle.boxes.specs.Lists.{room, listOf, emptyList, noBox, held}
 use Rattle.window.specs.declared.Pos.{Pos}
 use Rattle.window.specs.declared.Window.{Window}
 use Rattle.window.specs.Look.{Block, lookAt}
 use Rattle.ranges.specs.declared.Range.{Range}
 use Rattle.ranges.specs.Ranges.{placeAt}
 use Rattle.ranges.specs.Walk.{line, layer, walk}
-use Rattle.moves.specs.Collect.{cellShape, offer, offerAll, visit, push, rangeOf, collectUpTo, collectBlockBoxes}
+use Rattle.moves.specs.Collect.{cellShape, offer, offerAll, visit, push, rangeOf, collectUpTo}
 use Rattle.tables.specs.Tables.{boxesAt}
 use Rattle.moves.specs.declared.Shape.{Shape}
-use Rattle.moves.specs.declared.FewBoxes.{FewBoxes}
-use Rattle.moves.specs.Parts.{shapeIn, countOf, nthAabb, few, noFew}
+use Rattle.moves.specs.Parts.{shapeIn, countOf, nthAabb}
 use Rattle.moves.specs.Answers.{heldAsked, sweptArea, moveAabb}
 use Rattle.moves.proofs.Boxes.{listed-all}
-use Rattle.moves.proofs.Refuses.{Refuses, FiveOrSix, collect-refuses}
 
 -- ---- one after the other
 then-then : {S R : Type 0} (m : Ask (Turn S R)) (k l : S → Ask (Turn S R)) → ((m >>= onward k) >>= onward l) ≡ (m >>= onward (λ s. k s >>= onward l))
@@ -198,23 +194,6 @@ pub empty-list : (l : BoxList) → l ≡ emptyList → Room room (l .boxes) (l .
 unfolding emptyList
 empty-list l e = rw e (record { whole = length-replicate 128 noBox; counts = omega arith }, refl)
 
-pub empty-few : (l : FewBoxes) → l ≡ noFew → Room few (l .boxes) (l .count) × (take (l .count) (l .boxes) ≡ [])
-unfolding noFew
-empty-few l e = rw e (record { whole = length-replicate 48 noBox; counts = omega arith }, refl)
-
--- ---- what was asked, from the answer of a collection
-pub list-told : (h : Held) (m : Ask (List Aabb)) → Refuses FiveOrSix m → h ≡ heldAsked m → h .refusal ≡ 0 → m ≡ found (h .boxes)
-list-told h (found bs) f e z = rw e
-list-told h (refused n) f e z = never (f .only n refl) (sym (ap (λ (x : Held). x .refusal) e) ∙ z)
-  where
-    never : (n ≡ 5) ⊎ (n ≡ 6) → n ≡ 0 → refused n ≡ found (h .boxes)
-    never (inl a) b = absurd (omega arith)
-    never (inr a) b = absurd (omega arith)
-
-pub refusal-told : (h : Held) (m : Ask (List Aabb)) → h ≡ heldAsked m → (h .refusal ≡ 0 → ⊥) → m ≡ refused (h .refusal)
-refusal-told h (found bs) e z = absurd (z (ap (λ (x : Held). x .refusal) e))
-refusal-told h (refused n) e z = rw e
-
 -- ---- the answers, for r the range of the area
 module _ (cap : ℕ) (look : Pos → Ask Block) (records : List ℕ) (shapes : List Float) (area : Aabb) (r : Range) (e : r ≡ rangeOf area) where
   pub was-collected : (bs : List Aabb) → found (next bs) ≡ all (push cap) look records shapes area r [] → collectUpTo cap look records shapes area ≡ found bs
@@ -236,7 +215,6 @@ module _ (cells : List ℕ) (w : Window) (records : List ℕ) (shapes : List Flo
   abbrev whole-move : Ask MoveResult
   whole-move = moveAabb (lookAt cells w) records shapes (q .aabb) (q .delta) (q .step) (q .ground)
 
-  -- over the boxes where they were put
   pub moved : (r : Range) → r ≡ rangeOf area → (bs : List Aabb) → found (next bs) ≡ all (push room) (lookAt cells w) records shapes area r [] → (s : Sweep) → s ≡ sweepOf bs q → (m : MoveResult) → m ≡ endOf q s → found m ≡ whole-move
   unfolding moveAabb
   moved r er bs h s es m em = rw (← e, was-collected room (lookAt cells w) records shapes area r er bs h, em, moves bs q s es)
@@ -244,13 +222,3 @@ module _ (cells : List ℕ) (w : Window) (records : List ℕ) (shapes : List Flo
   pub not-moved : (r : Range) → r ≡ rangeOf area → (k : ℕ) → refused k ≡ all (push room) (lookAt cells w) records shapes area r [] → refused k ≡ whole-move
   unfolding moveAabb
   not-moved r er k h = rw (← e, was-refused room (lookAt cells w) records shapes area r er k h)
-
-  -- over the list that a collection answered
-  module _ (h : Held) (eh : h ≡ heldAsked (collectBlockBoxes (lookAt cells w) records shapes area)) where
-    pub moved-over : h .refusal ≡ 0 → (m : MoveResult) → m ≡ moveOver (h .boxes) (q .aabb) (q .delta) (q .step) (q .ground) → found m ≡ whole-move
-    unfolding moveAabb
-    moved-over z m em = rw (← e, list-told h (collectBlockBoxes (lookAt cells w) records shapes area) (collect-refuses cells w records shapes area) eh z, em)
-
-    pub refused-over : (h .refusal ≡ 0 → ⊥) → refused (h .refusal) ≡ whole-move
-    unfolding moveAabb
-    refused-over z = rw (← e, refusal-told h (collectBlockBoxes (lookAt cells w) records shapes area) eh z)

@@ -26,12 +26,6 @@ ghost use mathlib.Core.Bool.{_&&_};
 ghost use Rattle.base.specs.Ask.{refused};
 ghost use Rattle.boxes.specs.Limits.{isBox, isDelta};
 
-// Room for the boxes that a move meets as a rule, and a count: what a step pays for is this room, not that of the list.
-struct FewBoxes {
-    boxes: [Aabb; 48],
-    count: usize,
-}
-
 // What stands in a cell: a full cube, or the boxes of the shapes by the two words of a record.
 struct Shape {
     cube: bool,

@@ -1,20 +1,18 @@
 // The move of a box through the blocks of a window.
 use crate::AskedShape;
-use crate::FewBoxes;
 use crate::Moved;
-use crate::collect;
 use crate::count_of;
 use crate::nth_aabb;
 use crate::part_at;
 use crate::range_of;
 use boxes::Aabb;
+use boxes::BoxList;
 use boxes::Request;
 use boxes::Vec3;
 use ranges::At;
 use window::Window;
 ghost use mathlib.Core.Path.{_≡_};
 ghost use Rattle.window.specs.Look.{lookAt};
-ghost use Rattle.moves.specs.Parts.{noFew};
 ghost use Rattle.moves.specs.Answers.{movedAsked, sweptArea, moveAabb};
 
 // The area that a move sweeps: towards its delta, and up by the step height.
@@ -24,36 +22,13 @@ fn swept_area(q: Request) -> Aabb
     q.aabb.expand_towards(q.delta).expand_towards(Vec3::new(0.0, q.step, 0.0))
 }
 
-fn no_few() -> FewBoxes
-    ensures { λ r. ⌜ r ≡ noFew ⌝ }
-{
-    let o = Vec3 { x: 0.0, y: 0.0, z: 0.0 };
-    let b = Aabb { min: o, max: o };
-    let boxes = [b; 48];
-    FewBoxes { boxes, count: 0 }
-}
-
-// The move where a box meets more than a few: over the list of 128.
-fn move_among_many(records: &[u32], shapes: &[f32], cells: &[u32], w: Window, q: Request) -> Moved
-    ensures { λ r. ⌜ movedAsked r ≡ moveAabb (lookAt (now (cells .entry)) w) (now (records .entry)) (now (shapes .entry)) (q .aabb) (q .delta) (q .step) (q .ground) ⌝ }
-{
-    let got = collect(records, shapes, cells, w, swept_area(q));
-    let refusal = got.refusal;
-    if refusal == 0 {
-        let list = got.list;
-        return Moved::To(boxes::move_over(list, q.aabb, q.delta, q.step, q.ground));
-    }
-    Moved::Refused(refusal)
-}
-
-// The move where a box meets a few, and else the move among many. Collection and passes stand in one function, so that the boxes are read where
-// they were put: handed on by value, all of their room would be copied.
-fn move_among_few(records: &[u32], shapes: &[f32], cells: &[u32], w: Window, q: Request) -> Moved
+// Collection and passes stand in one function, so that the list is read where it was built: handed on by value, it would be copied.
+fn swept_through(records: &[u32], shapes: &[f32], cells: &[u32], w: Window, q: Request) -> Moved
     ensures { λ r. ⌜ movedAsked r ≡ moveAabb (lookAt (now (cells .entry)) w) (now (records .entry)) (now (shapes .entry)) (q .aabb) (q .delta) (q .step) (q .ground) ⌝ }
 {
     let area = swept_area(q);
     let r = range_of(area);
-    let mut list = no_few();
+    let mut list = BoxList::new();
     for y in 0..r.y.count {
         for x in 0..r.x.count {
             for z in 0..r.z.count {
@@ -68,8 +43,8 @@ fn move_among_few(records: &[u32], shapes: &[f32], cells: &[u32], w: Window, q: 
                     let b = nth_aabb(part.cube, shape, p, k);
                     if b.intersects(area) {
                         let i = list.count;
-                        if i >= 48 {
-                            return move_among_many(records, shapes, cells, w, q);
+                        if i >= 128 {
+                            return Moved::Refused(6);
                         }
                         list.boxes[i] = b;
                         list.count = i + 1;
@@ -107,5 +82,5 @@ pub fn move_through(records: &[u32], shapes: &[f32], cells: &[u32], w: Window, a
         step,
         ground,
     };
-    move_among_few(records, shapes, cells, w, q)
+    swept_through(records, shapes, cells, w, q)
 }

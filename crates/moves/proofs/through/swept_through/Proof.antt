@@ -1,4 +1,4 @@
--- `moves::through::move_among_few` meets its contract: its first four loops leave what `Collects.antt` says, and the passes over what they left are
+-- `moves::through::swept_through` meets its contract: its first four loops leave what `Collects.antt` says, and the passes over what they left are
 -- those of a move over a list. Assumes nothing.
 use mathlib.Core.Path.{_≡_, refl, sym, ap, _∙_}
 use mathlib.Core.Logic.{⊎-elim}
@@ -7,43 +7,43 @@ use Prim.Native.Nat.{ℕ, _-_, _<_}
 use native.Mathlib.Omega.{arith}
 use lib.ListN.{take, drop}
 use Rattle.boxes.specs.declared.Aabb.{Aabb}
+use Rattle.boxes.specs.declared.BoxList.{BoxList}
 use Rattle.boxes.specs.Lists.{room}
 use Rattle.boxes.specs.Move.{clipAll}
 use Rattle.boxes.specs.Passes.{clipAlong, passesFrom, sweepOf}
 use Rattle.boxes.proofs.Turns.{clip-turn, made, pass-on, pass-over, passes-end}
 use Rattle.window.specs.Look.{lookAt}
-use Rattle.moves.specs.declared.FewBoxes.{FewBoxes}
 use Rattle.moves.specs.Collect.{push, cellShape}
-use Rattle.moves.specs.Parts.{nthAabb, shapeAsked, few}
-use Rattle.moves.proofs.Collects.{Room, all, layersFrom, linesFrom, cellsFrom, boxesFrom, walk-begins, layer-begins, line-begins, cell-begins, cell-refused, box-next, boxes-end, cells-end, lines-end, layers-end, kept, passed, empty-few, fully, moved, not-moved}
+use Rattle.moves.specs.Parts.{nthAabb, shapeAsked}
+use Rattle.moves.proofs.Collects.{Room, all, layersFrom, linesFrom, cellsFrom, boxesFrom, walk-begins, layer-begins, line-begins, cell-begins, cell-refused, box-next, boxes-end, cells-end, lines-end, layers-end, kept, passed, box-refused, full, empty-list, fully, moved, not-moved}
 use borrow.Author.Needs.{needs}
-use Rattle.moves.proofs.through.move_among_few.Statement.{statement}
-use Rattle.moves.proofs.through.move_among_few.Tie as tie
+use Rattle.moves.proofs.through.swept_through.Statement.{statement}
+use Rattle.moves.proofs.through.swept_through.Tie as tie
 
 abbrev Inv-loop4 : tie.InvT-loop4
 Inv-loop4 records shapes cells w q area r list₀ y x z p part shape n k₀ y-end x-end z-end list k =
-    Room few (list .boxes) (list .count) × (boxesFrom (push room) (lookAt cells w) records shapes area r y x z (nthAabb (part .cube) shape p) n k (take (list .count) (list .boxes)) ≡ all (push room) (lookAt cells w) records shapes area r [])
+    Room room (list .boxes) (list .count) × (boxesFrom (push room) (lookAt cells w) records shapes area r y x z (nthAabb (part .cube) shape p) n k (take (list .count) (list .boxes)) ≡ all (push room) (lookAt cells w) records shapes area r [])
 
 abbrev μ-loop4 : tie.MeasureT-loop4
 μ-loop4 records shapes cells w q area r list₀ y x z p part shape n k₀ y-end x-end z-end list k = n - k
 
 abbrev Inv-loop3 : tie.InvT-loop3
 Inv-loop3 records shapes cells w q area r list₀ y x z₀ y-end x-end z-end list z =
-    Room few (list .boxes) (list .count) × (cellsFrom (push room) (lookAt cells w) records shapes area r y x z (take (list .count) (list .boxes)) ≡ all (push room) (lookAt cells w) records shapes area r [])
+    Room room (list .boxes) (list .count) × (cellsFrom (push room) (lookAt cells w) records shapes area r y x z (take (list .count) (list .boxes)) ≡ all (push room) (lookAt cells w) records shapes area r [])
 
 abbrev μ-loop3 : tie.MeasureT-loop3
 μ-loop3 records shapes cells w q area r list₀ y x z₀ y-end x-end z-end list z = z-end - z
 
 abbrev Inv-loop2 : tie.InvT-loop2
 Inv-loop2 records shapes cells w q area r list₀ y x₀ y-end x-end list x =
-    Room few (list .boxes) (list .count) × (linesFrom (push room) (lookAt cells w) records shapes area r y x (take (list .count) (list .boxes)) ≡ all (push room) (lookAt cells w) records shapes area r [])
+    Room room (list .boxes) (list .count) × (linesFrom (push room) (lookAt cells w) records shapes area r y x (take (list .count) (list .boxes)) ≡ all (push room) (lookAt cells w) records shapes area r [])
 
 abbrev μ-loop2 : tie.MeasureT-loop2
 μ-loop2 records shapes cells w q area r list₀ y x₀ y-end x-end list x = x-end - x
 
 abbrev Inv-loop : tie.InvT-loop
 Inv-loop records shapes cells w q area r list₀ y₀ y-end list y =
-    Room few (list .boxes) (list .count) × (layersFrom (push room) (lookAt cells w) records shapes area r y (take (list .count) (list .boxes)) ≡ all (push room) (lookAt cells w) records shapes area r [])
+    Room room (list .boxes) (list .count) × (layersFrom (push room) (lookAt cells w) records shapes area r y (take (list .count) (list .boxes)) ≡ all (push room) (lookAt cells w) records shapes area r [])
 
 abbrev μ-loop : tie.MeasureT-loop
 μ-loop records shapes cells w q area r list₀ y₀ y-end list y = y-end - y
@@ -70,11 +70,11 @@ range-of-requires :
     tie.Need-range-of-requires Inv-loop4 μ-loop4 Inv-loop3 μ-loop3 Inv-loop2 μ-loop2 Inv-loop μ-loop Inv-loop6 μ-loop6 Inv-loop5 μ-loop5
 range-of-requires c κs = search needs
 
-no-few-requires : tie.Need-no-few-requires Inv-loop4 μ-loop4 Inv-loop3 μ-loop3 Inv-loop2 μ-loop2 Inv-loop μ-loop Inv-loop6 μ-loop6 Inv-loop5 μ-loop5
-no-few-requires c κs = search needs
+new-requires : tie.Need-new-requires Inv-loop4 μ-loop4 Inv-loop3 μ-loop3 Inv-loop2 μ-loop2 Inv-loop μ-loop Inv-loop6 μ-loop6 Inv-loop5 μ-loop5
+new-requires c κs = search needs
 
 loop-holds : tie.Need-loop-holds Inv-loop4 μ-loop4 Inv-loop3 μ-loop3 Inv-loop2 μ-loop2 Inv-loop μ-loop Inv-loop6 μ-loop6 Inv-loop5 μ-loop5
-loop-holds c = let e = empty-few _ (c .no-few .ensures) in (e .0, walk-begins (push room) _ _ _ _ _ _ ∙ ap (all (push room) _ _ _ _ _) (e .1))
+loop-holds c = let e = empty-list _ (c .new .ensures) in (e .0, walk-begins (push room) _ _ _ _ _ _ ∙ ap (all (push room) _ _ _ _ _) (e .1))
 
 loop2-holds : tie.Need-loop2-holds Inv-loop4 μ-loop4 Inv-loop3 μ-loop3 Inv-loop2 μ-loop2 Inv-loop μ-loop Inv-loop6 μ-loop6 Inv-loop5 μ-loop5
 loop2-holds c = let i = c .before .loop .inv in (i .0, sym (layer-begins (push room) _ _ _ _ _ _ _ (c .loop-test .taken)) ∙ i .1)
@@ -117,12 +117,8 @@ intersects-requires :
     tie.Need-intersects-requires Inv-loop4 μ-loop4 Inv-loop3 μ-loop3 Inv-loop2 μ-loop2 Inv-loop μ-loop Inv-loop6 μ-loop6 Inv-loop5 μ-loop5
 intersects-requires c κs = search needs
 
-move-among-many-requires :
-    tie.Need-move-among-many-requires Inv-loop4 μ-loop4 Inv-loop3 μ-loop3 Inv-loop2 μ-loop2 Inv-loop μ-loop Inv-loop6 μ-loop6 Inv-loop5 μ-loop5
-move-among-many-requires c κs = search needs
-
 returns-2 : tie.Need-returns-2 Inv-loop4 μ-loop4 Inv-loop3 μ-loop3 Inv-loop2 μ-loop2 Inv-loop μ-loop Inv-loop6 μ-loop6 Inv-loop5 μ-loop5
-returns-2 c = c .move-among-many .ensures
+returns-2 c = let i = c .before .before .before .before .before .loop4 .inv in not-moved _ _ _ _ _ _ (c .before .before .before .before .before .before .before .before .before .before .before .before .before .before .before .before .before .before .before .before .before .swept-area .ensures) _ (c .before .before .before .before .before .before .before .before .before .before .before .before .before .before .before .before .before .before .before .before .range-of .ensures) 6 (sym (box-refused (push room) _ _ _ _ _ _ _ _ _ _ _ _ _ (c .before .before .before .before .loop4-test .taken) (c .before .before .before .nth-aabb .ensures) 6 (full room _ _ (i .0) room _ _ (c .if2 .taken) (sym (c .before .before .intersects .ensures) ∙ c .before .if1 .taken))) ∙ i .1)
 
 mul-b : tie.Need-mul-b Inv-loop4 μ-loop4 Inv-loop3 μ-loop3 Inv-loop2 μ-loop2 Inv-loop μ-loop Inv-loop6 μ-loop6 Inv-loop5 μ-loop5
 mul-b c = let i = c .before .before .before .before .before .loop4 .inv .0 .whole in omega arith
@@ -145,9 +141,9 @@ loop4-again c =
     let l = c .before .before .before .before .loop4 .list in
     let i = c .before .before .before .before .loop4 .inv in
     let o = sym (c .before .intersects .ensures) in
-    let boxes-in : FewBoxes → List Aabb = λ x. x .boxes in
-    let count-in : FewBoxes → ℕ = λ x. x .count in
-    let m = ⊎-elim (λ w. let b : l .count < 48 = w .1 .left in let g : l .count < 128 = omega arith in kept few room _ _ (l .boxes) (c .if1 .list .boxes) (l .count) (c .if1 .list .count) (i .0) (ap boxes-in (w .2)) (ap count-in (w .2)) b g (o ∙ w .0 .taken)) (λ w. passed few room _ _ (l .boxes) (c .if1 .list .boxes) (l .count) (c .if1 .list .count) (i .0) (ap boxes-in (w .1)) (ap count-in (w .1)) (o ∙ w .0 .left)) (c .if1 .came) in
+    let boxes-in : BoxList → List Aabb = λ x. x .boxes in
+    let count-in : BoxList → ℕ = λ x. x .count in
+    let m = ⊎-elim (λ w. let b : l .count < 128 = w .1 .left in kept room room _ _ (l .boxes) (c .if1 .list .boxes) (l .count) (c .if1 .list .count) (i .0) (ap boxes-in (w .2)) (ap count-in (w .2)) b b (o ∙ w .0 .taken)) (λ w. passed room room _ _ (l .boxes) (c .if1 .list .boxes) (l .count) (c .if1 .list .count) (i .0) (ap boxes-in (w .1)) (ap count-in (w .1)) (o ∙ w .0 .left)) (c .if1 .came) in
     (m .0, sym (box-next (push room) _ _ _ _ _ _ _ _ _ _ _ _ _ (c .before .before .before .loop4-test .taken) (c .before .before .nth-aabb .ensures) _ (m .1)) ∙ i .1)
 
 add-z : tie.Need-add-z Inv-loop4 μ-loop4 Inv-loop3 μ-loop3 Inv-loop2 μ-loop2 Inv-loop μ-loop Inv-loop6 μ-loop6 Inv-loop5 μ-loop5
@@ -211,7 +207,7 @@ loop6-less : tie.Need-loop6-less Inv-loop4 μ-loop4 Inv-loop3 μ-loop3 Inv-loop2
 loop6-less c = omega arith
 
 loop6-again : tie.Need-loop6-again Inv-loop4 μ-loop4 Inv-loop3 μ-loop3 Inv-loop2 μ-loop2 Inv-loop μ-loop Inv-loop6 μ-loop6 Inv-loop5 μ-loop5
-loop6-again c = clip-turn (c .before .before .before .before .before .before .before .before .before .before .before .before .loop .list .boxes) (c .before .before .before .before .before .before .before .before .before .before .before .before .loop .list .count) few (c .before .before .before .before .before .before .before .before .before .before .before .before .loop .inv .0 .whole) _ (c .before .before .before .loop6 .i) (fully few _ _ (c .before .before .before .before .before .before .before .before .before .before .before .before .loop .inv .0)) (clipAlong (c .before .before .before .before .before .before .before .axis-of .result)) (c .before .before .before .before .before .before .before .before .before .loop5 .s .now .aabb) _ (c .before .before .before .loop6 .d) _ _ (c .before .before .loop6-test .taken) (c .clip-along .ensures) (c .before .before .before .loop6 .inv)
+loop6-again c = clip-turn (c .before .before .before .before .before .before .before .before .before .before .before .before .loop .list .boxes) (c .before .before .before .before .before .before .before .before .before .before .before .before .loop .list .count) room (c .before .before .before .before .before .before .before .before .before .before .before .before .loop .inv .0 .whole) _ (c .before .before .before .loop6 .i) (fully room _ _ (c .before .before .before .before .before .before .before .before .before .before .before .before .loop .inv .0)) (clipAlong (c .before .before .before .before .before .before .before .axis-of .result)) (c .before .before .before .before .before .before .before .before .before .loop5 .s .now .aabb) _ (c .before .before .before .loop6 .d) _ _ (c .before .before .loop6-test .taken) (c .clip-along .ensures) (c .before .before .before .loop6 .inv)
 
 gone-requires : tie.Need-gone-requires Inv-loop4 μ-loop4 Inv-loop3 μ-loop3 Inv-loop2 μ-loop2 Inv-loop μ-loop Inv-loop6 μ-loop6 Inv-loop5 μ-loop5
 gone-requires c κs = search needs
@@ -223,7 +219,7 @@ ended-requires : tie.Need-ended-requires Inv-loop4 μ-loop4 Inv-loop3 μ-loop3 I
 ended-requires c κs = search needs
 
 returns-3 : tie.Need-returns-3 Inv-loop4 μ-loop4 Inv-loop3 μ-loop3 Inv-loop2 μ-loop2 Inv-loop μ-loop Inv-loop6 μ-loop6 Inv-loop5 μ-loop5
-returns-3 c = moved _ _ _ _ _ _ (c .before .before .before .before .before .before .before .before .before .before .before .before .before .before .before .before .before .before .swept-area .ensures) _ (c .before .before .before .before .before .before .before .before .before .before .before .before .before .before .before .before .before .range-of .ensures) _ (sym (layers-end (push room) _ _ _ _ _ _ _ (c .before .before .before .before .before .before .before .before .before .before .before .before .before .before .loop-test .left)) ∙ c .before .before .before .before .before .before .before .before .before .before .before .before .before .before .before .loop .inv .1) _ (pass-over _ _ (c .before .before .before .before .before .before .before .before .before .before .before .before .loop5 .pass) (c .before .before .before .before .before .before .before .before .before .before .before .before .loop5 .s) (c .before .before .next .result) _ (made (c .before .before .before .before .before .before .before .before .before .before .before .before .before .before .before .loop .list .boxes) (c .before .before .before .before .before .before .before .before .before .before .before .before .before .before .before .loop .list .count) few (c .before .before .before .before .before .before .before .before .before .before .before .before .before .before .before .loop .inv .0 .whole) _ _ (fully few _ _ (c .before .before .before .before .before .before .before .before .before .before .before .before .before .before .before .loop .inv .0)) _ (c .before .before .before .before .before .before .before .before .before .before .before .before .loop5 .pass) (c .before .before .before .before .before .before .before .before .before .before .before .before .loop5 .s) _ _ _ _ (c .before .before .before .before .before .before .loop6 .d) (c .before .before .before .before .before .before .before .before .before .before .axis-of .ensures) (c .before .before .before .before .before .before .before .wanted .ensures) (c .before .before .before .before .before .loop6-test .left) (c .before .before .before .before .before .before .loop6 .inv) (c .before .before .before .gone .ensures) (c .before .before .next .ensures)) (c .before .before .before .before .before .before .before .before .before .before .before .loop5-test .taken) (c .before .if3 .taken) (c .before .before .before .before .before .before .before .before .before .before .before .before .loop5 .inv)) _ (c .ended .ensures)
+returns-3 c = moved _ _ _ _ _ _ (c .before .before .before .before .before .before .before .before .before .before .before .before .before .before .before .before .before .before .swept-area .ensures) _ (c .before .before .before .before .before .before .before .before .before .before .before .before .before .before .before .before .before .range-of .ensures) _ (sym (layers-end (push room) _ _ _ _ _ _ _ (c .before .before .before .before .before .before .before .before .before .before .before .before .before .before .loop-test .left)) ∙ c .before .before .before .before .before .before .before .before .before .before .before .before .before .before .before .loop .inv .1) _ (pass-over _ _ (c .before .before .before .before .before .before .before .before .before .before .before .before .loop5 .pass) (c .before .before .before .before .before .before .before .before .before .before .before .before .loop5 .s) (c .before .before .next .result) _ (made (c .before .before .before .before .before .before .before .before .before .before .before .before .before .before .before .loop .list .boxes) (c .before .before .before .before .before .before .before .before .before .before .before .before .before .before .before .loop .list .count) room (c .before .before .before .before .before .before .before .before .before .before .before .before .before .before .before .loop .inv .0 .whole) _ _ (fully room _ _ (c .before .before .before .before .before .before .before .before .before .before .before .before .before .before .before .loop .inv .0)) _ (c .before .before .before .before .before .before .before .before .before .before .before .before .loop5 .pass) (c .before .before .before .before .before .before .before .before .before .before .before .before .loop5 .s) _ _ _ _ (c .before .before .before .before .before .before .loop6 .d) (c .before .before .before .before .before .before .before .before .before .before .axis-of .ensures) (c .before .before .before .before .before .before .before .wanted .ensures) (c .before .before .before .before .before .loop6-test .left) (c .before .before .before .before .before .before .loop6 .inv) (c .before .before .before .gone .ensures) (c .before .before .next .ensures)) (c .before .before .before .before .before .before .before .before .before .before .before .loop5-test .taken) (c .before .if3 .taken) (c .before .before .before .before .before .before .before .before .before .before .before .before .loop5 .inv)) _ (c .ended .ensures)
 
 add-pass : tie.Need-add-pass Inv-loop4 μ-loop4 Inv-loop3 μ-loop3 Inv-loop2 μ-loop2 Inv-loop μ-loop Inv-loop6 μ-loop6 Inv-loop5 μ-loop5
 add-pass c = omega arith
@@ -232,7 +228,7 @@ loop5-less : tie.Need-loop5-less Inv-loop4 μ-loop4 Inv-loop3 μ-loop3 Inv-loop2
 loop5-less c = omega arith
 
 loop5-again : tie.Need-loop5-again Inv-loop4 μ-loop4 Inv-loop3 μ-loop3 Inv-loop2 μ-loop2 Inv-loop μ-loop Inv-loop6 μ-loop6 Inv-loop5 μ-loop5
-loop5-again c = pass-on _ _ (c .before .before .before .before .before .before .before .before .before .before .before .loop5 .pass) (c .before .before .before .before .before .before .before .before .before .before .before .loop5 .s) (c .before .next .result) _ (made (c .before .before .before .before .before .before .before .before .before .before .before .before .before .before .loop .list .boxes) (c .before .before .before .before .before .before .before .before .before .before .before .before .before .before .loop .list .count) few (c .before .before .before .before .before .before .before .before .before .before .before .before .before .before .loop .inv .0 .whole) _ _ (fully few _ _ (c .before .before .before .before .before .before .before .before .before .before .before .before .before .before .loop .inv .0)) _ (c .before .before .before .before .before .before .before .before .before .before .before .loop5 .pass) (c .before .before .before .before .before .before .before .before .before .before .before .loop5 .s) _ _ _ _ (c .before .before .before .before .before .loop6 .d) (c .before .before .before .before .before .before .before .before .before .axis-of .ensures) (c .before .before .before .before .before .before .wanted .ensures) (c .before .before .before .before .loop6-test .left) (c .before .before .before .before .before .loop6 .inv) (c .before .before .gone .ensures) (c .before .next .ensures)) (c .before .before .before .before .before .before .before .before .before .before .loop5-test .taken) (c .if3 .left) (c .before .before .before .before .before .before .before .before .before .before .before .loop5 .inv)
+loop5-again c = pass-on _ _ (c .before .before .before .before .before .before .before .before .before .before .before .loop5 .pass) (c .before .before .before .before .before .before .before .before .before .before .before .loop5 .s) (c .before .next .result) _ (made (c .before .before .before .before .before .before .before .before .before .before .before .before .before .before .loop .list .boxes) (c .before .before .before .before .before .before .before .before .before .before .before .before .before .before .loop .list .count) room (c .before .before .before .before .before .before .before .before .before .before .before .before .before .before .loop .inv .0 .whole) _ _ (fully room _ _ (c .before .before .before .before .before .before .before .before .before .before .before .before .before .before .loop .inv .0)) _ (c .before .before .before .before .before .before .before .before .before .before .before .loop5 .pass) (c .before .before .before .before .before .before .before .before .before .before .before .loop5 .s) _ _ _ _ (c .before .before .before .before .before .loop6 .d) (c .before .before .before .before .before .before .before .before .before .axis-of .ensures) (c .before .before .before .before .before .before .wanted .ensures) (c .before .before .before .before .loop6-test .left) (c .before .before .before .before .before .loop6 .inv) (c .before .before .gone .ensures) (c .before .next .ensures)) (c .before .before .before .before .before .before .before .before .before .before .loop5-test .taken) (c .if3 .left) (c .before .before .before .before .before .before .before .before .before .before .before .loop5 .inv)
 
 ended-requires-2 :
     tie.Need-ended-requires-2 Inv-loop4 μ-loop4 Inv-loop3 μ-loop3 Inv-loop2 μ-loop2 Inv-loop μ-loop Inv-loop6 μ-loop6 Inv-loop5 μ-loop5
@@ -241,8 +237,8 @@ ended-requires-2 c κs = search needs
 returns-4 : tie.Need-returns-4 Inv-loop4 μ-loop4 Inv-loop3 μ-loop3 Inv-loop2 μ-loop2 Inv-loop μ-loop Inv-loop6 μ-loop6 Inv-loop5 μ-loop5
 returns-4 c = moved _ _ _ _ _ _ (c .before .before .before .before .before .before .before .before .swept-area .ensures) _ (c .before .before .before .before .before .before .before .range-of .ensures) _ (sym (layers-end (push room) _ _ _ _ _ _ _ (c .before .before .before .before .loop-test .left)) ∙ c .before .before .before .before .before .loop .inv .1) _ (passes-end _ _ (c .before .before .loop5 .pass) (c .before .before .loop5 .s) _ (c .before .loop5-test .left) (c .before .before .loop5 .inv)) _ (c .ended2 .ensures)
 
-pub move-among-few-spec : {M : Type 1} → statement M
-move-among-few-spec =
+pub swept-through-spec : {M : Type 1} → statement M
+swept-through-spec =
     tie.close
     (tie.spec
     Inv-loop4
@@ -259,7 +255,7 @@ move-among-few-spec =
     μ-loop5
     swept-area-requires
     range-of-requires
-    no-few-requires
+    new-requires
     loop-holds
     loop2-holds
     loop3-holds
@@ -273,7 +269,6 @@ move-among-few-spec =
     loop4-holds
     nth-aabb-requires
     intersects-requires
-    move-among-many-requires
     returns-2
     mul-b
     element-set-from-b
