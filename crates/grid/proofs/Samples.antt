@@ -20,6 +20,7 @@ use Rattle.boxes.specs.Entry as E
 use Rattle.tables.specs.Tables as B
 use Rattle.window.specs.Window as W
 use Rattle.window.specs.Look as U
+use Rattle.lent.specs.Lent.{unless, lentRefusal}
 use Rattle.ranges.specs.Ranges as R
 use Rattle.ranges.specs.Walk as Q
 use Rattle.connect.specs.Connect as J
@@ -57,17 +58,17 @@ pub record FairIn (cells : List ℕ) (s : F.MoveScene) (stepsUp : Bool) : Type 0
 taken : (cells : List ℕ) (s : F.MoveScene)
     → X.moveEntry T.records T.shapes cells S.sampleWindow F.mover (s .delta) (s .step) (s .ground)
     ≡ X.moveAnswer F.mover
-    (X.unless (not (eqb (W.windowRefusal (length cells) S.sampleWindow) 0)) 2
-    (X.unless (not (L.isStep (s .step))) 3
-    (X.unless (not (L.isBox F.mover && L.isDelta (s .delta))) 4
+    (unless (not (eqb (W.windowRefusal (length cells) S.sampleWindow) 0)) (W.windowRefusal (length cells) S.sampleWindow)
+    (unless (not (L.isStep (s .step))) 3
+    (unless (not (L.isBox F.mover && L.isDelta (s .delta))) 4
     (X.moveAabb (U.lookAt cells S.sampleWindow) T.records T.shapes F.mover (s .delta) (s .step) (s .ground)))))
-unfolding C.choose X.moveEntry
+unfolding C.choose lentRefusal X.moveEntry
 taken cells s = rw tables-fit
 
 pub sliding-through : FairIn S.slidingCells F.p1 false
-unfolding C.choose N.sizeOf O.listed A.turning Y.every H.floorSize H.floorInt H.cellOf M.clipAll M.clipSequence M.steppedUp M.moveOver B.isRegistered B.boxesAt W.inside W.indexOf W.sizesFit W.coordinateFits W.originFits W.windowFits W.windowRefusal U.lookAt R.spanOf R.onFrom Q.line Q.layer Q.walk J.connectsAs J.connectedState P.connectedShape P.shapeOf P.cellShape P.offerAll P.visit P.collectBlockBoxes Z.settledBoxes X.moveAabb G.onGrid G.isProper G.isFree D.shapeOnGrid D.everyCell D.windowOnGrid D.keepsStep D.keepsStepIn T.records T.shapes S.sampleWindow S.slidingCells I.ofInt I.ofBits I.round I.add I.sub I.mul I.neg I.lt I.le I.eq I.ne
+unfolding C.choose N.sizeOf O.listed A.turning Y.every H.floorSize H.floorInt H.cellOf M.clipAll M.clipSequence M.steppedUp M.moveOver B.isRegistered B.boxesAt W.inside W.indexOf W.sizesFit W.coordinateFits W.originFits W.windowFits W.windowRefusal U.lookAt R.spanOf R.onFrom Q.line Q.layer Q.walk J.connectsAs J.connectedState P.connectedShape P.shapeOf P.cellShape P.offerAll P.visit P.collectUpTo Z.settledBoxes X.moveAabb G.onGrid G.isProper G.isFree D.shapeOnGrid D.everyCell D.windowOnGrid D.keepsStep D.keepsStepIn T.records T.shapes S.sampleWindow S.slidingCells I.ofInt I.ofBits I.round I.add I.sub I.mul I.neg I.lt I.le I.eq I.ne
 sliding-through = record { onGrid = tt; accepted = ap (λ (r : MoveAnswer). r .refusal) (taken S.slidingCells F.p1); kept = refl }
 
 pub climbing-through : FairIn S.climbingCells F.p4 true
-unfolding C.choose N.sizeOf O.listed A.turning Y.every H.floorSize H.floorInt H.cellOf M.clipAll M.clipSequence M.steppedUp M.moveOver B.isRegistered B.boxesAt W.inside W.indexOf W.sizesFit W.coordinateFits W.originFits W.windowFits W.windowRefusal U.lookAt R.spanOf R.onFrom Q.line Q.layer Q.walk J.connectsAs J.connectedState P.connectedShape P.shapeOf P.cellShape P.offerAll P.visit P.collectBlockBoxes Z.settledBoxes X.moveAabb G.onGrid G.isProper G.isFree D.shapeOnGrid D.everyCell D.windowOnGrid D.keepsStep D.keepsStepIn T.records T.shapes S.sampleWindow S.climbingCells I.ofInt I.ofBits I.round I.add I.sub I.mul I.neg I.lt I.le I.eq I.ne
+unfolding C.choose N.sizeOf O.listed A.turning Y.every H.floorSize H.floorInt H.cellOf M.clipAll M.clipSequence M.steppedUp M.moveOver B.isRegistered B.boxesAt W.inside W.indexOf W.sizesFit W.coordinateFits W.originFits W.windowFits W.windowRefusal U.lookAt R.spanOf R.onFrom Q.line Q.layer Q.walk J.connectsAs J.connectedState P.connectedShape P.shapeOf P.cellShape P.offerAll P.visit P.collectUpTo Z.settledBoxes X.moveAabb G.onGrid G.isProper G.isFree D.shapeOnGrid D.everyCell D.windowOnGrid D.keepsStep D.keepsStepIn T.records T.shapes S.sampleWindow S.climbingCells I.ofInt I.ofBits I.round I.add I.sub I.mul I.neg I.lt I.le I.eq I.ne
 climbing-through = record { onGrid = tt; accepted = ap (λ (r : MoveAnswer). r .refusal) (taken S.climbingCells F.p4); kept = refl }

@@ -6,10 +6,10 @@ use mathlib.Core.Bool.{Bool, true, false, not, _&&_}
 use mathlib.Core.List.{List, [], _∷_, List·Memᴰ, List·Memᴰ·head, List·Memᴰ·tail, List·Memᴰ·cases-cons, List·Memᴰ·append-cases}
 use Prim.Native.Nat.{ℕ, suc, _+_, _*_, _≤_, _<_}
 use native.Mathlib.Omega.{arith}
-use lib.Dec.{T, eqb, eqb→eq}
+use lib.Dec.{T, eqb, eqb→eq, T-not}
 use lib.ListN.{length}
 use lib.Ieee.{Float}
-use lib.Ieee.Fits.{and-i, and-l, and-r}
+use lib.Ieee.Fits.{and-i, and-l, and-r, eq→eqb}
 use Rattle.base.specs.Choose.{choose}
 use Rattle.base.specs.Ask.{Ask, refused, found, _>>=_}
 use Rattle.base.proofs.Tests.{no-not}
@@ -26,6 +26,7 @@ use Rattle.window.specs.declared.Window.{Window}
 use Rattle.window.specs.Window.{windowFits, windowRefusal}
 use Rattle.window.specs.Look.{lookAt}
 use Rattle.window.proofs.Cells as N
+use Rattle.lent.specs.Lent.{unless, lentRefusal}
 use Rattle.ranges.specs.declared.Range.{Range}
 use Rattle.ranges.specs.Ranges.{placeAt}
 use Rattle.moves.specs.Collect.{rangeOf, collectBlockBoxes}
@@ -188,41 +189,48 @@ module _ (records : List ℕ) (shapes : List Float) (cells : List ℕ) (w : Wind
       from-start (IsSettled records shapes cells w) bs (k .boxes) (k .on) (k .solid) m d h s back seen (free-all m bs (λ o n. start-clear t o (back o n)))
 
 -- ---- a move that is not refused
-abbrev answerTo : Bool → Bool → Bool → Bool → Ask (List Aabb) → Aabb → Vec3 → Float → Bool → MoveAnswer
-answerTo t u v x c m d h ground =
-    moveAnswer m (choose t (refused 1) (choose u (refused 2) (choose v (refused 3) (choose x (refused 4) (c >>= (λ boxes. found (moveOver boxes m d h ground)))))))
+abbrev answerTo : ℕ → Bool → Bool → Bool → Ask (List Aabb) → Aabb → Vec3 → Float → Bool → MoveAnswer
+answerTo lent t v x c m d h ground =
+    moveAnswer m (unless t lent (unless v 3 (unless x 4 (c >>= (λ boxes. found (moveOver boxes m d h ground))))))
 
-record Accepted (t u v x : Bool) (c : Ask (List Aabb)) (m : Aabb) (d : Vec3) (h : Float) (ground : Bool) (r : MoveAnswer) : Type 0 where
-  one : t ≡ false
-  two : u ≡ false
+record Accepted (t v x : Bool) (c : Ask (List Aabb)) (m : Aabb) (d : Vec3) (h : Float) (ground : Bool) (r : MoveAnswer) : Type 0 where
+  lent : t ≡ false
   three : v ≡ false
   four : x ≡ false
   boxes : List Aabb
   collects : c ≡ found boxes
   result : r .result ≡ moveOver boxes m d h ground
 
-accepted : (t u v x : Bool) (c : Ask (List Aabb)) (m : Aabb) (d : Vec3) (h : Float) (ground : Bool) → ((n : ℕ) → c ≡ refused n → FiveOrSix n)
-    → answerTo t u v x c m d h ground .refusal ≡ 0 → Accepted t u v x c m d h ground (answerTo t u v x c m d h ground)
+accepted : (lent : ℕ) (t v x : Bool) (c : Ask (List Aabb)) (m : Aabb) (d : Vec3) (h : Float) (ground : Bool) → (T t → lent ≡ 0 → ⊥) → ((n : ℕ) → c ≡ refused n → FiveOrSix n)
+    → answerTo lent t v x c m d h ground .refusal ≡ 0 → Accepted t v x c m d h ground (answerTo lent t v x c m d h ground)
 unfolding choose
-accepted true u v x c m d h ground f e = absurd (omega arith)
-accepted false true v x c m d h ground f e = absurd (omega arith)
-accepted false false true x c m d h ground f e = absurd (omega arith)
-accepted false false false true c m d h ground f e = absurd (omega arith)
-accepted false false false false (refused n) m d h ground f e = absurd (never (f n refl))
+accepted lent true v x c m d h ground g f e = absurd (g tt e)
+accepted lent false true x c m d h ground g f e = absurd (omega arith)
+accepted lent false false true c m d h ground g f e = absurd (omega arith)
+accepted lent false false false (refused n) m d h ground g f e = absurd (never (f n refl))
   where
     never : FiveOrSix n → ⊥
     never (inl z) = omega arith
     never (inr z) = omega arith
-accepted false false false false (found bs) m d h ground f e = record { one = refl; two = refl; three = refl; four = refl; boxes = bs; collects = refl; result = refl }
+accepted lent false false false (found bs) m d h ground g f e = record { lent = refl; three = refl; four = refl; boxes = bs; collects = refl; result = refl }
+
+window-taken : (tables window : ℕ) → choose (eqb tables 0) window tables ≡ 0 → window ≡ 0
+unfolding choose
+window-taken tables window e = go (eqb tables 0) (λ z. eq→eqb {a = tables} {b = 0} z) e
+  where
+    go : (t : Bool) → (tables ≡ 0 → T t) → choose t window tables ≡ 0 → window ≡ 0
+    go true f e = e
+    go false f e = absurd (f e)
 
 pub demand3-window : WindowDemand
-unfolding moveEntry moveAabb windowOnGrid keepsStepIn
+unfolding moveEntry moveAabb lentRefusal windowOnGrid keepsStepIn
 demand3-window records shapes cells w m d h ground t e =
     let c = collectBlockBoxes (lookAt cells w) records shapes (sweptArea m d h) in
-    let a = accepted (not (eqb (tableRefusal records shapes) 0)) (not (eqb (windowRefusal (length cells) w) 0)) (not (isStep h)) (not (isBox m && isDelta d)) c m d h ground
+    let l = lentRefusal records shapes cells w in
+    let a = accepted l (not (eqb l 0)) (not (isStep h)) (not (isBox m && isDelta d)) c m d h ground (λ t z. T-not (eqb l 0) t (eq→eqb {a = l} {b = 0} z))
     (collect-refuses cells w records shapes (sweptArea m d h) .only) e in
     let bs = a .boxes in
-    let W = N.accepted (length cells) w (eqb→eq (windowRefusal (length cells) w) 0 (no-not (eqb (windowRefusal (length cells) w) 0) (a .two))) in
+    let W = N.accepted (length cells) w (window-taken (tableRefusal records shapes) (windowRefusal (length cells) w) (eqb→eq l 0 (no-not (eqb l 0) (a .lent)))) in
     let bd = no-not (isBox m && isDelta d) (a .four) in
     let t1 = and-r (isProper m) (shapesOnGrid records shapes cells w && (vecOnGrid d && (onGrid h && isFreeIn records shapes cells w m))) t in
     let t2 = and-r (shapesOnGrid records shapes cells w) (vecOnGrid d && (onGrid h && isFreeIn records shapes cells w m)) t1 in
