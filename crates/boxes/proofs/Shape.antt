@@ -12,7 +12,7 @@ use Rattle.boxes.specs.declared.Swept.{Swept}
 use Rattle.boxes.specs.declared.Request.{Request}
 use Rattle.boxes.specs.declared.Sweep.{Sweep}
 use Rattle.boxes.specs.Move.{clipSequence, steppedUp, longer, moveOver}
-use Rattle.boxes.specs.Passes.{axisOf, clipAlong, wantedOf, goneOf, tries, nextOf, passOf, passesFrom, sweepOf, endOf}
+use Rattle.boxes.specs.Passes.{axisOf, clipAlong, wantedOf, goneOf, tries, nextSweep, passOf, passesFrom, sweepOf, endOfMove}
 
 module _ (boxes : List Aabb) (q : Request) where
   abbrev first : Swept
@@ -32,11 +32,11 @@ module _ (boxes : List Aabb) (q : Request) where
   third = choose (tries q (first .moved)) again done
 
   three : sweepOf boxes q ≡ choose (third .over) third (passesFrom 4 3 boxes q third)
-  unfolding choose passesFrom passOf nextOf goneOf wantedOf axisOf clipAlong clipSequence
+  unfolding choose passesFrom passOf nextSweep goneOf wantedOf axisOf clipAlong clipSequence
   three = refl
 
   four : passesFrom 4 3 boxes q again .now ≡ longer first stepped
-  unfolding choose passesFrom passOf nextOf goneOf wantedOf axisOf clipAlong clipSequence steppedUp
+  unfolding choose passesFrom passOf nextSweep goneOf wantedOf axisOf clipAlong clipSequence steppedUp
   four = refl
 
   by : (t : Bool) → tries q (first .moved) ≡ t → sweepOf boxes q .now ≡ choose t (longer first stepped) first
@@ -53,9 +53,9 @@ module _ (boxes : List Aabb) (q : Request) where
   pub swept : sweepOf boxes q .now ≡ choose (tries q (first .moved)) (longer first stepped) first
   swept = by _ refl
 
-pub moves : (boxes : List Aabb) (q : Request) (s : Sweep) → s ≡ sweepOf boxes q → endOf q s ≡ moveOver boxes (q .aabb) (q .delta) (q .step) (q .ground)
+pub moves : (boxes : List Aabb) (q : Request) (s : Sweep) → s ≡ sweepOf boxes q → endOfMove q s ≡ moveOver boxes (q .aabb) (q .delta) (q .step) (q .ground)
 unfolding moveOver
-moves boxes q s e = ap (endOf q) e ∙ ap (λ (k : Swept). endOf q record { now = k; first = k; over = true }) (swept boxes q)
+moves boxes q s e = ap (endOfMove q) e ∙ ap (λ (k : Swept). endOfMove q record { now = k; first = k; over = true }) (swept boxes q)
 
 -- with no step height there is one attempt
 pub one-attempt : (boxes : List Aabb) (aabb : Aabb) (delta : Vec3) (s : Sweep) → s ≡ sweepOf boxes record { aabb = aabb; delta = delta; step = zero64; ground = false } → s .now ≡ clipSequence boxes aabb delta

@@ -13,7 +13,7 @@ use Rattle.boxes.specs.declared.Swept.{Swept}
 use Rattle.boxes.specs.declared.Request.{Request}
 use Rattle.boxes.specs.declared.Sweep.{Sweep}
 use Rattle.boxes.specs.Move.{clipAll}
-use Rattle.boxes.specs.Passes.{axisOf, clipAlong, wantedOf, goneOf, nextOf, passOf, passesFrom}
+use Rattle.boxes.specs.Passes.{axisOf, clipAlong, wantedOf, goneOf, nextSweep, passOf, passesFrom}
 use Rattle.boxes.proofs.Lists.{at-box, past-boxes}
 
 module _ (bs : List Aabb) (count most : ℕ) (whole : length bs ≡ most) (n i : ℕ) (counts : n ≡ min count most) (clip : Aabb → Aabb → Float → Float) (mover : Aabb) where
@@ -27,12 +27,12 @@ module _ (bs : List Aabb) (count most : ℕ) (whole : length bs ≡ most) (n i :
   clip-end d w h inv = rw (past-boxes bs count most whole n i counts h) at inv
 
 -- a pass, step by step as the code makes it
-pub pass-is : (boxes : List Aabb) (q : Request) (pass : ℕ) (s t : Sweep) (got : Swept) (axis : ℕ) (d e : Float) → axis ≡ axisOf pass → d ≡ wantedOf pass axis q (s .now) → e ≡ clipAll (clipAlong axis) boxes (s .now .aabb) d → got ≡ goneOf pass axis (s .now) e → t ≡ nextOf pass q (s .first) got → t ≡ passOf pass boxes q s
+pub pass-is : (boxes : List Aabb) (q : Request) (pass : ℕ) (s t : Sweep) (got : Swept) (axis : ℕ) (d e : Float) → axis ≡ axisOf pass → d ≡ wantedOf pass axis q (s .now) → e ≡ clipAll (clipAlong axis) boxes (s .now .aabb) d → got ≡ goneOf pass axis (s .now) e → t ≡ nextSweep pass q (s .first) got → t ≡ passOf pass boxes q s
 unfolding passOf
 pass-is boxes q pass s t got axis d e ea ed ee eg et = rw (et, eg, ee, ed, ea)
 
 -- the same of a list whose boxes were gone through
-pub made : (bs : List Aabb) (count most : ℕ) → length bs ≡ most → (n i : ℕ) → n ≡ min count most → (q : Request) (pass : ℕ) (s t : Sweep) (got : Swept) (axis : ℕ) (d e : Float) → axis ≡ axisOf pass → d ≡ wantedOf pass axis q (s .now) → n ≤ i → clipAll (clipAlong axis) (drop i (take count bs)) (s .now .aabb) e ≡ clipAll (clipAlong axis) (take count bs) (s .now .aabb) d → got ≡ goneOf pass axis (s .now) e → t ≡ nextOf pass q (s .first) got → t ≡ passOf pass (take count bs) q s
+pub made : (bs : List Aabb) (count most : ℕ) → length bs ≡ most → (n i : ℕ) → n ≡ min count most → (q : Request) (pass : ℕ) (s t : Sweep) (got : Swept) (axis : ℕ) (d e : Float) → axis ≡ axisOf pass → d ≡ wantedOf pass axis q (s .now) → n ≤ i → clipAll (clipAlong axis) (drop i (take count bs)) (s .now .aabb) e ≡ clipAll (clipAlong axis) (take count bs) (s .now .aabb) d → got ≡ goneOf pass axis (s .now) e → t ≡ nextSweep pass q (s .first) got → t ≡ passOf pass (take count bs) q s
 made bs count most whole n i counts q pass s t got axis d e ea ed h inv eg et =
     pass-is (take count bs) q pass s t got axis d e ea ed (clip-end bs count most whole n i counts (clipAlong axis) (s .now .aabb) e _ h inv) eg et
 

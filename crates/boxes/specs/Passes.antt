@@ -45,8 +45,8 @@ abbrev pub tries : Request → Vec3 → Bool
 tries q moved = triesStep (q .delta) (q .step) (q .ground) moved
 
 -- where a move stands after a pass whose attempt came to `gone`
-unfoldable pub nextOf : ℕ → Request → Swept → Swept → Sweep
-nextOf pass q first gone =
+unfoldable pub nextSweep : ℕ → Request → Swept → Swept → Sweep
+nextSweep pass q first gone =
     choose (eqb pass 2)
     (choose (tries q (gone .moved))
     record { now = record { aabb = q .aabb; moved = gone .moved }; first = gone; over = false }
@@ -58,7 +58,7 @@ nextOf pass q first gone =
 -- one pass
 unfoldable pub passOf : ℕ → List Aabb → Request → Sweep → Sweep
 passOf pass boxes q s =
-    nextOf pass q (s .first)
+    nextSweep pass q (s .first)
     (goneOf pass (axisOf pass) (s .now) (clipAll (clipAlong (axisOf pass)) boxes (s .now .aabb) (wantedOf pass (axisOf pass) q (s .now))))
 
 -- so many passes from the pass given, unless the move is over before
@@ -67,14 +67,14 @@ passesFrom zero pass boxes q s = s
 passesFrom (suc k) pass boxes q s =
     choose (passOf pass boxes q s .over) (passOf pass boxes q s) (passesFrom k (pass + 1) boxes q (passOf pass boxes q s))
 
-abbrev pub startOf : Request → Sweep
-startOf q =
+abbrev pub firstSweep : Request → Sweep
+firstSweep q =
     record { now = record { aabb = q .aabb; moved = q .delta }; first = record { aabb = q .aabb; moved = q .delta }; over = false }
 
 abbrev pub sweepOf : List Aabb → Request → Sweep
-sweepOf boxes q = passesFrom 7 0 boxes q (startOf q)
+sweepOf boxes q = passesFrom 7 0 boxes q (firstSweep q)
 
 -- what a move comes to whose passes are over
-abbrev pub endOf : Request → Sweep → MoveResult
-endOf q s =
+abbrev pub endOfMove : Request → Sweep → MoveResult
+endOfMove q s =
     record { aabb = s .now .aabb; moved = s .now .moved; ground = stoppedFalling (q .delta .y) (s .now .moved .y) }

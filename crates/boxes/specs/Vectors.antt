@@ -3,7 +3,7 @@
 use mathlib.Core.Bool.{_&&_}
 use lib.Ieee.{Float, binary64, ofBits, add, mul, div, lt}
 use Rattle.base.specs.Choose.{choose}
-use Rattle.floats.specs.Numbers.{zero64, isFinite, answer}
+use Rattle.floats.specs.Numbers.{zero64, isFinite, answerWhere}
 use Rattle.floats.specs.Root.{hasRoot, rootOf}
 use Rattle.boxes.specs.declared.Vec3.{Vec3}
 use Rattle.boxes.specs.Boxes.{vec}
@@ -30,7 +30,7 @@ squared v = add binary64 (add binary64 (mul binary64 (v .x) (v .x)) (mul binary6
 -- v.length(): what the root of module 1 answers. That is 0 where the sum is infinite or a NaN; there the Rust's length is infinite or a NaN,
 -- and either way normalising comes to the zero vector.
 abbrev pub lengthOf : Vec3 → Float
-lengthOf v = answer (hasRoot (squared v)) (rootOf (squared v)) .value
+lengthOf v = answerWhere (hasRoot (squared v)) (rootOf (squared v)) .value
 
 -- v.normalize_or_zero(): one over the length; the zero vector where that is infinite or not above zero
 unfoldable pub normalised : Vec3 → Vec3

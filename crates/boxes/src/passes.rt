@@ -12,7 +12,7 @@ use crate::list::counted;
 ghost use mathlib.Core.Path.{_≡_};
 ghost use Rattle.boxes.specs.Lists.{listOf};
 ghost use Rattle.boxes.specs.Move.{flatSquare, longer, stoppedFalling, blockedHorizontally, clipSequence, moveOver};
-ghost use Rattle.boxes.specs.Passes.{axisOf, clipAlong, wantedOf, goneOf, tries, nextOf, startOf, sweepOf, endOf};
+ghost use Rattle.boxes.specs.Passes.{axisOf, clipAlong, wantedOf, goneOf, tries, nextSweep, firstSweep, sweepOf, endOfMove};
 
 // The axes in the order of the passes: y, x, z. 0 is x, 1 is y, 2 is z.
 const ORDER: [u32; 3] = [1, 0, 2];
@@ -134,7 +134,7 @@ fn longer_of(moved: Swept, stepped: Swept) -> Swept
 
 // Where the move stands after a pass whose attempt came to `got`.
 pub fn next(pass: u32, q: Request, first: Swept, got: Swept) -> Sweep
-    ensures { λ r. ⌜ r ≡ nextOf pass q first got ⌝ }
+    ensures { λ r. ⌜ r ≡ nextSweep pass q first got ⌝ }
 {
     if pass == 2 {
         if tries_step(q, got.moved) {
@@ -168,7 +168,7 @@ pub fn next(pass: u32, q: Request, first: Swept, got: Swept) -> Sweep
 
 // Where a move stands before its first pass.
 pub fn begun(q: Request) -> Sweep
-    ensures { λ r. ⌜ r ≡ startOf q ⌝ }
+    ensures { λ r. ⌜ r ≡ firstSweep q ⌝ }
 {
     let aabb = q.aabb;
     let delta = q.delta;
@@ -182,7 +182,7 @@ pub fn begun(q: Request) -> Sweep
 
 // What a move comes to whose passes are over. The flag is worked out after the step, from the attempt that was kept.
 pub fn ended(q: Request, s: Sweep) -> MoveResult
-    ensures { λ r. ⌜ r ≡ endOf q s ⌝ }
+    ensures { λ r. ⌜ r ≡ endOfMove q s ⌝ }
 {
     let kept = s.now;
     let aabb = kept.aabb;

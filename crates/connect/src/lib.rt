@@ -2,12 +2,12 @@
 use cover::Side;
 use window::Cell;
 use window::Pos;
-use window::Step;
+use window::CellStep;
 use window::Window;
 ghost use mathlib.Core.Path.{_≡_};
 ghost use mathlib.Core.Bool.{_&&_};
 ghost use Rattle.window.specs.Look.{lookAt, asked, some};
-ghost use Rattle.connect.specs.Connect.{wayTo, alongX, connectsAs, isFence, isThinOrWall, oppositeFace, gateDecides, gateJoins, registeredConnects, joins, sideWord, transition, transitions, straight, raises, raisedBy, post, postTransition, besideNeighbours, connectedState};
+ghost use Rattle.connect.specs.Connect.{wayTo, alongX, connectKind, isFence, isThinOrWall, oppositeFace, gateDecides, gateJoins, registeredConnects, joins, sideWord, transition, transitions, straight, raises, raisedBy, post, postTransition, besideNeighbours, connectedState};
 ghost use Rattle.connect.specs.Answers.{yesOrNo, stateAsked, connectedEntry};
 
 // Which sides join.
@@ -36,14 +36,14 @@ pub struct StateAnswer {
     pub state: u32,
 }
 
-fn way_to(side: Side) -> Step
+fn way_to(side: Side) -> CellStep
     ensures { λ r. ⌜ r ≡ wayTo side ⌝ }
 {
     match side {
-        Side::North => Step { x: 0, y: 0, z: -1 },
-        Side::East => Step { x: 1, y: 0, z: 0 },
-        Side::South => Step { x: 0, y: 0, z: 1 },
-        Side::West => Step { x: -1, y: 0, z: 0 },
+        Side::North => CellStep { x: 0, y: 0, z: -1 },
+        Side::East => CellStep { x: 1, y: 0, z: 0 },
+        Side::South => CellStep { x: 0, y: 0, z: 1 },
+        Side::West => CellStep { x: -1, y: 0, z: 0 },
     }
 }
 
@@ -59,7 +59,7 @@ fn along_x(side: Side) -> bool
 }
 
 fn connects_as(records: &[u32], state: u32) -> u32
-    ensures { λ r. ⌜ r ≡ connectsAs (now (records .entry)) state ⌝ }
+    ensures { λ r. ⌜ r ≡ connectKind (now (records .entry)) state ⌝ }
 {
     if tables::is_registered(records, state) {
         return tables::word(records, state, 4);
@@ -235,7 +235,7 @@ fn raised_by(records: &[u32], j: Joined, above: u32) -> bool
 fn post_at(records: &[u32], cells: &[u32], w: Window, p: Pos, j: Joined) -> Told
     ensures { λ r. ⌜ yesOrNo r ≡ post (lookAt (now (cells .entry)) w) (now (records .entry)) p j ⌝ }
 {
-    let above = window::look_by(cells, w, p, Step { x: 0, y: 1, z: 0 });
+    let above = window::look_by(cells, w, p, CellStep { x: 0, y: 1, z: 0 });
     match above {
         Cell::Outside => Told::Refused(5),
         Cell::Unloaded => {

@@ -13,7 +13,7 @@ pub use through::boltjuniper_move;
 pub use tick::boltjuniper_step;
 pub use tick::boltjuniper_step_checked;
 ghost use mathlib.Core.Path.{_≡_};
-ghost use Rattle.floats.specs.Numbers.{isFinite, answer};
+ghost use Rattle.floats.specs.Numbers.{isFinite, answerWhere};
 ghost use Rattle.floats.specs.Whole.{floorOf, ceilOf, cellOf};
 ghost use Rattle.floats.specs.Root.{hasRoot, rootOf};
 ghost use Rattle.tables.specs.Check.{tableRefusal};
@@ -22,7 +22,7 @@ ghost use Rattle.tables.specs.Check.{tableRefusal};
 
 #[no_mangle]
 pub extern "C" fn boltjuniper_floor(x: f64) -> f64
-    ensures { λ r. ⌜ r ≡ answer (isFinite x) (floorOf x) .value ⌝ }
+    ensures { λ r. ⌜ r ≡ answerWhere (isFinite x) (floorOf x) .value ⌝ }
 {
     let a = floats::floor(x);
     a.value
@@ -30,7 +30,7 @@ pub extern "C" fn boltjuniper_floor(x: f64) -> f64
 
 #[no_mangle]
 pub extern "C" fn boltjuniper_ceil(x: f64) -> f64
-    ensures { λ r. ⌜ r ≡ answer (isFinite x) (ceilOf x) .value ⌝ }
+    ensures { λ r. ⌜ r ≡ answerWhere (isFinite x) (ceilOf x) .value ⌝ }
 {
     let a = floats::ceil(x);
     a.value
@@ -38,7 +38,7 @@ pub extern "C" fn boltjuniper_ceil(x: f64) -> f64
 
 #[no_mangle]
 pub extern "C" fn boltjuniper_root(x: f64) -> f64
-    ensures { λ r. ⌜ r ≡ answer (hasRoot x) (rootOf x) .value ⌝ }
+    ensures { λ r. ⌜ r ≡ answerWhere (hasRoot x) (rootOf x) .value ⌝ }
 {
     let a = floats::sqrt(x);
     a.value

@@ -9,10 +9,10 @@ use mir.Val.{SFits, toZ, ofZ}
 use mir.ValLaws.{toZ-pos, toZ-ofZ}
 use borrow.Author.Tests.{lt-ltb, le-ltb}
 use Rattle.base.specs.Choose.{choose}
-use Rattle.files.specs.Files.{signedOf}
+use Rattle.files.specs.Files.{signedWord}
 
-pub low : (w : ℕ) → w < 2147483648 → toZ w32 w ≡ signedOf w
-unfolding signedOf choose
+pub low : (w : ℕ) → w < 2147483648 → toZ w32 w ≡ signedWord w
+unfolding signedWord choose
 low w h = rw (toZ-pos w32 w h, lt-ltb w 2147483648 h)
 
 minus-one : (n : ℕ) → negsuc 0 -ℤ pos n ≡ negsuc n
@@ -22,13 +22,13 @@ minus-one (suc m) = ap (λ (k : ℕ). negsuc (suc k)) (zero-add m)
 -- -1 less what is missing to 2 ^ 32 - 1
 pub record High (w : ℕ) : Type 0 where
   pub fits : SFits w32 (negsuc 0 -ℤ toZ w32 (4294967295 - w))
-  pub value : toZ w32 (ofZ w32 (negsuc 0 -ℤ toZ w32 (4294967295 - w))) ≡ signedOf w
+  pub value : toZ w32 (ofZ w32 (negsuc 0 -ℤ toZ w32 (4294967295 - w))) ≡ signedWord w
 
 less : (w : ℕ) → 2147483648 ≤ w → 4294967295 - w < 2147483648
 less w h = omega arith
 
 pub high : (w : ℕ) → 2147483648 ≤ w → High w
-unfolding signedOf choose
+unfolding signedWord choose
 high w h =
     let e : negsuc 0 -ℤ toZ w32 (4294967295 - w) ≡ negsuc (4294967295 - w) = ap (λ (z : ℤ). negsuc 0 -ℤ z) (toZ-pos w32 (4294967295 - w) (less w h)) ∙ minus-one (4294967295 - w) in
     let f : SFits w32 (negsuc (4294967295 - w)) = record { sfits = less w h } in

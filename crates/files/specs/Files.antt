@@ -29,13 +29,13 @@ flapFits file = not (eqb (bodyWord file 44) 0) || (eqb (bodyWord file 24) 0 && e
 -- ---- the window: "signed origin, sizes"
 
 -- a word as a signed number: two's complement
-unfoldable pub signedOf : ℕ → ℤ
-signedOf w = choose (ltb w 2147483648) (pos w) (negsuc (4294967295 - w))
+unfoldable pub signedWord : ℕ → ℤ
+signedWord w = choose (ltb w 2147483648) (pos w) (negsuc (4294967295 - w))
 
 unfoldable pub windowIn : List ℕ → Part → Window
 windowIn file p =
     windowOf
-    (signedOf (partWord file p 0)) (signedOf (partWord file p 1)) (signedOf (partWord file p 2))
+    (signedWord (partWord file p 0)) (signedWord (partWord file p 1)) (signedWord (partWord file p 2))
     (partWord file p 3) (partWord file p 4) (partWord file p 5)
 
 -- ---- "counts and sizes within limits": "States: 1 to 4,096. Boxes: at most 16,384", "Window sizes: 1 to 64 each"

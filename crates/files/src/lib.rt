@@ -15,7 +15,7 @@ ghost use mathlib.Core.Bool.{_&&_};
 ghost use Rattle.base.specs.Choose.{choose};
 ghost use Rattle.base.specs.Ask.{refused, found};
 ghost use Rattle.blocks.specs.Blocks.{partFits, bodyPart, recordPart, boxPart, windowPart, cellPart};
-ghost use Rattle.files.specs.Files.{bodyWord, flapFits, signedOf, windowIn, countsFit, countsOf, countsAsked, partsFit, blocksFor, blocksFit, isScene};
+ghost use Rattle.files.specs.Files.{bodyWord, flapFits, signedWord, windowIn, countsFit, countsOf, countsAsked, partsFit, blocksFor, blocksFit, isScene};
 
 // How many states, boxes and cells a scene has.
 pub struct Counts {
@@ -52,7 +52,7 @@ fn flap_fits(file: &[u8]) -> bool
 
 // A word as a signed number: two's complement.
 fn signed_of(w: u32) -> i32
-    ensures { λ r. ⌜ r ≡ signedOf w ⌝ }
+    ensures { λ r. ⌜ r ≡ signedWord w ⌝ }
 {
     if w < 2147483648 {
         return w as i32;

@@ -38,5 +38,5 @@ abbrev pub areFinite : Float → Float → Bool
 areFinite a b = choose (isFinite a) (isFinite b) false
 
 -- v where the arguments are taken; otherwise the refusal 4 and +0
-abbrev pub answer : Bool → Float → Answer
-answer taken v = choose taken record { refusal = 0; value = v } record { refusal = 4; value = zero64 }
+abbrev pub answerWhere : Bool → Float → Answer
+answerWhere taken v = choose taken record { refusal = 0; value = v } record { refusal = 4; value = zero64 }

@@ -15,7 +15,7 @@ use Rattle.cover.specs.declared.Side.{Side}
 use Rattle.cover.specs.declared.Side.the-variants.{North, East, South, West}
 use Rattle.tables.specs.declared.LiquidState.{LiquidState}
 use Rattle.window.specs.declared.Pos.{Pos}
-use Rattle.window.specs.declared.Step.{Step}
+use Rattle.window.specs.declared.CellStep.{CellStep}
 use Rattle.window.specs.Look.{Block, stepped}
 use Rattle.flow.specs.declared.Gap.{Gap}
 use Rattle.flow.specs.declared.Gap.the-variants.{By, Nothing}
@@ -24,20 +24,20 @@ use Rattle.flow.specs.Liquid.{alike, liquidHeld, blocksLiquidFlow}
 -- ---- sides: east is IVec3::X, west NEG_X, south Z, north NEG_Z
 
 -- to the cell on a side, y cells up
-abbrev pub sideStep : Side → ℤ → Step
+abbrev pub sideStep : Side → ℤ → CellStep
 sideStep North y = record { x = pos 0; y = y; z = negsuc 0 }
 sideStep East y = record { x = pos 1; y = y; z = pos 0 }
 sideStep South y = record { x = pos 0; y = y; z = pos 1 }
 sideStep West y = record { x = negsuc 0; y = y; z = pos 0 }
 
 -- neighbour, neighbour - IVec3::Y and neighbour + IVec3::Y
-unfoldable pub stepBeside : Side → Step
+unfoldable pub stepBeside : Side → CellStep
 stepBeside side = sideStep side (pos 0)
 
-unfoldable pub stepBelow : Side → Step
+unfoldable pub stepBelow : Side → CellStep
 stepBelow side = sideStep side (negsuc 0)
 
-unfoldable pub stepAbove : Side → Step
+unfoldable pub stepAbove : Side → CellStep
 stepAbove side = sideStep side (pos 1)
 
 -- side.as_dvec3()

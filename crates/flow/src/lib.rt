@@ -6,7 +6,7 @@ use tables::LiquidKind;
 use tables::LiquidState;
 use window::Cell;
 use window::Pos;
-use window::Step;
+use window::CellStep;
 use window::Window;
 ghost use mathlib.Core.Path.{_≡_};
 ghost use Rattle.window.specs.Look.{lookAt, asked, stepped};
@@ -113,7 +113,7 @@ pub fn liquid_at(records: &[u32], cells: &[u32], w: Window, p: Pos) -> AskedLiqu
 }
 
 // Whether the cell a step away from p stops a flow. The Rust panics at an unregistered state.
-pub fn blocks_liquid_flow(records: &[u32], cells: &[u32], w: Window, p: Pos, d: Step) -> AskedBool
+pub fn blocks_liquid_flow(records: &[u32], cells: &[u32], w: Window, p: Pos, d: CellStep) -> AskedBool
     ensures { λ r. ⌜ boolAsked r ≡ blocksLiquidFlow (lookAt (now (cells .entry)) w) (now (records .entry)) (stepped p d) ⌝ }
 {
     let cell = window::look_by(cells, w, p, d);

@@ -17,7 +17,7 @@ use boxes::vectors::zero;
 use cover::Side;
 use tables::LiquidState;
 use window::Pos;
-use window::Step;
+use window::CellStep;
 use window::Window;
 ghost use mathlib.Core.Path.{_≡_};
 ghost use mathlib.Core.Bool.{_&&_, not};
@@ -26,36 +26,36 @@ ghost use Rattle.window.specs.Look.{lookAt};
 ghost use Rattle.flow.specs.Flow.{stepBeside, stepBelow, stepAbove, unitTo, effectiveDepth, differenceTo, differenceBelow, difference, flowedBy, walledBy, sideOf, normalisedFlow, liquidFlow};
 ghost use Rattle.flow.specs.Answers.{gapAsked, boolAsked, vecAsked};
 
-fn step_beside(side: Side) -> Step
+fn step_beside(side: Side) -> CellStep
     ensures { λ r. ⌜ r ≡ stepBeside side ⌝ }
 {
     match side {
-        Side::North => Step { x: 0, y: 0, z: -1 },
-        Side::East => Step { x: 1, y: 0, z: 0 },
-        Side::South => Step { x: 0, y: 0, z: 1 },
-        Side::West => Step { x: -1, y: 0, z: 0 },
+        Side::North => CellStep { x: 0, y: 0, z: -1 },
+        Side::East => CellStep { x: 1, y: 0, z: 0 },
+        Side::South => CellStep { x: 0, y: 0, z: 1 },
+        Side::West => CellStep { x: -1, y: 0, z: 0 },
     }
 }
 
-fn step_below(side: Side) -> Step
+fn step_below(side: Side) -> CellStep
     ensures { λ r. ⌜ r ≡ stepBelow side ⌝ }
 {
     match side {
-        Side::North => Step { x: 0, y: -1, z: -1 },
-        Side::East => Step { x: 1, y: -1, z: 0 },
-        Side::South => Step { x: 0, y: -1, z: 1 },
-        Side::West => Step { x: -1, y: -1, z: 0 },
+        Side::North => CellStep { x: 0, y: -1, z: -1 },
+        Side::East => CellStep { x: 1, y: -1, z: 0 },
+        Side::South => CellStep { x: 0, y: -1, z: 1 },
+        Side::West => CellStep { x: -1, y: -1, z: 0 },
     }
 }
 
-fn step_above(side: Side) -> Step
+fn step_above(side: Side) -> CellStep
     ensures { λ r. ⌜ r ≡ stepAbove side ⌝ }
 {
     match side {
-        Side::North => Step { x: 0, y: 1, z: -1 },
-        Side::East => Step { x: 1, y: 1, z: 0 },
-        Side::South => Step { x: 0, y: 1, z: 1 },
-        Side::West => Step { x: -1, y: 1, z: 0 },
+        Side::North => CellStep { x: 0, y: 1, z: -1 },
+        Side::East => CellStep { x: 1, y: 1, z: 0 },
+        Side::South => CellStep { x: 0, y: 1, z: 1 },
+        Side::West => CellStep { x: -1, y: 1, z: 0 },
     }
 }
 

@@ -66,9 +66,9 @@ unfolding C.choose lentRefusal X.moveEntry
 taken cells s = rw tables-fit
 
 pub sliding-through : FairIn S.slidingCells F.p1 false
-unfolding C.choose N.sizeOf O.listed A.turning Y.every H.floorSize H.floorInt H.cellOf M.clipAll M.clipSequence M.steppedUp M.moveOver B.isRegistered B.boxesAt W.inside W.indexOf W.sizesFit W.coordinateFits W.originFits W.windowFits W.windowRefusal U.lookAt R.spanOf R.onFrom Q.line Q.layer Q.walk J.connectsAs J.connectedState P.connectedShape P.shapeOf P.cellShape P.offerAll P.visit P.collectUpTo Z.settledBoxes X.moveAabb G.onGrid G.isProper G.isFree D.shapeOnGrid D.everyCell D.windowOnGrid D.keepsStep D.keepsStepIn T.records T.shapes S.sampleWindow S.slidingCells I.ofInt I.ofBits I.round I.add I.sub I.mul I.neg I.lt I.le I.eq I.ne
+unfolding C.choose N.sizeOf O.listed A.turning Y.every H.floorSize H.floorInt H.cellOf M.clipAll M.clipSequence M.steppedUp M.moveOver B.isRegistered B.boxesAt W.inside W.indexOf W.sizesFit W.coordinateFits W.originFits W.windowFits W.windowRefusal U.lookAt R.spanOf R.onFrom Q.line Q.layer Q.walk J.connectKind J.connectedState P.connectedShape P.shapeOf P.cellShape P.offerAll P.visit P.collectUpTo Z.settledBoxes X.moveAabb G.onGrid G.isProper G.isFree D.shapeOnGrid D.everyCell D.windowOnGrid D.keepsStep D.keepsStepIn T.records T.shapes S.sampleWindow S.slidingCells I.ofInt I.ofBits I.round I.add I.sub I.mul I.neg I.lt I.le I.eq I.ne
 sliding-through = record { onGrid = tt; accepted = ap (λ (r : MoveAnswer). r .refusal) (taken S.slidingCells F.p1); kept = refl }
 
 pub climbing-through : FairIn S.climbingCells F.p4 true
-unfolding C.choose N.sizeOf O.listed A.turning Y.every H.floorSize H.floorInt H.cellOf M.clipAll M.clipSequence M.steppedUp M.moveOver B.isRegistered B.boxesAt W.inside W.indexOf W.sizesFit W.coordinateFits W.originFits W.windowFits W.windowRefusal U.lookAt R.spanOf R.onFrom Q.line Q.layer Q.walk J.connectsAs J.connectedState P.connectedShape P.shapeOf P.cellShape P.offerAll P.visit P.collectUpTo Z.settledBoxes X.moveAabb G.onGrid G.isProper G.isFree D.shapeOnGrid D.everyCell D.windowOnGrid D.keepsStep D.keepsStepIn T.records T.shapes S.sampleWindow S.climbingCells I.ofInt I.ofBits I.round I.add I.sub I.mul I.neg I.lt I.le I.eq I.ne
+unfolding C.choose N.sizeOf O.listed A.turning Y.every H.floorSize H.floorInt H.cellOf M.clipAll M.clipSequence M.steppedUp M.moveOver B.isRegistered B.boxesAt W.inside W.indexOf W.sizesFit W.coordinateFits W.originFits W.windowFits W.windowRefusal U.lookAt R.spanOf R.onFrom Q.line Q.layer Q.walk J.connectKind J.connectedState P.connectedShape P.shapeOf P.cellShape P.offerAll P.visit P.collectUpTo Z.settledBoxes X.moveAabb G.onGrid G.isProper G.isFree D.shapeOnGrid D.everyCell D.windowOnGrid D.keepsStep D.keepsStepIn T.records T.shapes S.sampleWindow S.climbingCells I.ofInt I.ofBits I.round I.add I.sub I.mul I.neg I.lt I.le I.eq I.ne
 climbing-through = record { onGrid = tt; accepted = ap (λ (r : MoveAnswer). r .refusal) (taken S.climbingCells F.p4); kept = refl }

@@ -30,7 +30,7 @@ use Rattle.lent.specs.Lent.{unless, lentRefusal}
 use Rattle.ranges.specs.declared.Range.{Range}
 use Rattle.ranges.specs.Ranges.{placeAt}
 use Rattle.moves.specs.Collect.{rangeOf, collectBlockBoxes}
-use Rattle.moves.specs.Settled.{settledBoxes, overlapping, joined, inOrder}
+use Rattle.moves.specs.Settled.{settledBoxes, overlapping, appended, inOrder}
 use Rattle.moves.specs.Answers.{sweptArea, moveAabb, moveAnswer, moveEntry}
 use Rattle.moves.proofs.Order.{keptOf, collected-is, is-collected}
 use Rattle.moves.proofs.Refuses.{FiveOrSix, collect-refuses}
@@ -51,19 +51,19 @@ record OneOf {A I : Type 0} (a : A) (g : I → List A) : Type 0 where
   at : I
   is : List·Memᴰ a (g at)
 
-in-one : {A : Type 0} (a : A) (g : ℕ → List A) (k i : ℕ) → List·Memᴰ a (joined g k i) → OneOf a g
-unfolding joined
+in-one : {A : Type 0} (a : A) (g : ℕ → List A) (k i : ℕ) → List·Memᴰ a (appended g k i) → OneOf a g
+unfolding appended
 in-one a g (suc k) i m = go (List·Memᴰ·append-cases (g i) m) (λ n. in-one a g k (i + 1) n)
   where
-    go : List·Memᴰ a (g i) ⊎ List·Memᴰ a (joined g k (i + 1)) → (List·Memᴰ a (joined g k (i + 1)) → OneOf a g) → OneOf a g
+    go : List·Memᴰ a (g i) ⊎ List·Memᴰ a (appended g k (i + 1)) → (List·Memᴰ a (appended g k (i + 1)) → OneOf a g) → OneOf a g
     go (inl n) rest = record { at = i; is = n }
     go (inr n) rest = rest n
 
 in-order : {A : Type 0} (a : A) (g : Pos → List A) (r : Range) → List·Memᴰ a (inOrder g r) → OneOf a g
 unfolding inOrder
 in-order a g r m =
-    let y = in-one a (λ y. joined (λ x. joined (λ z. g (placeAt r x y z)) (r .z .count) 0) (r .x .count) 0) (r .y .count) 0 m in
-    let x = in-one a (λ x. joined (λ z. g (placeAt r x (y .at) z)) (r .z .count) 0) (r .x .count) 0 (y .is) in
+    let y = in-one a (λ y. appended (λ x. appended (λ z. g (placeAt r x y z)) (r .z .count) 0) (r .x .count) 0) (r .y .count) 0 m in
+    let x = in-one a (λ x. appended (λ z. g (placeAt r x (y .at) z)) (r .z .count) 0) (r .x .count) 0 (y .is) in
     let z = in-one a (λ z. g (placeAt r (x .at) (y .at) z)) (r .z .count) 0 (x .is) in
     record { at = placeAt r (x .at) (y .at) (z .at); is = z .is }
 

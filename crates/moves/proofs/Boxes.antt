@@ -18,7 +18,7 @@ use Rattle.tables.specs.declared.Head.{Head}
 use Rattle.tables.specs.Tables.{wordAt, isRegistered, headAt, boxesAt}
 use Rattle.window.specs.declared.Pos.{Pos}
 use Rattle.window.specs.Look.{Block, some}
-use Rattle.connect.specs.Connect.{connectsAs, connectedState}
+use Rattle.connect.specs.Connect.{connectKind, connectedState}
 use Rattle.moves.specs.declared.Shape.{Shape}
 use Rattle.moves.specs.Collect.{CellShape, cube, boxes, aabbsOf, connectedShape, shapeOf}
 use Rattle.moves.specs.Parts.{shapeIn, countOf, nthAabb}
@@ -31,7 +31,7 @@ head-registered records id h e = sym (ap (λ (x : Head). x .registered) e)
 -- and that connects as nothing has its own boxes
 pub plain-shape : (look : Pos → Ask Block) (records : List ℕ) (p : Pos) (id : ℕ) (h : Head) → h ≡ headAt records id → h .registered ≡ true → h .kind ≡ 0
     → shapeOf look records p (some id) ≡ found (boxes (h .first) (h .count))
-unfolding shapeOf connectedShape connectedState connectsAs choose
+unfolding shapeOf connectedShape connectedState connectKind choose
 plain-shape look records p id h e r k =
     let t : isRegistered records id ≡ true = head-registered records id h e ∙ r in
     let w : wordAt records id 4 ≡ 0 = sym (ap (λ (x : Head). x .kind) e) ∙ k in

@@ -19,7 +19,7 @@ use Rattle.boxes.specs.declared.Request.{Request}
 use Rattle.boxes.specs.declared.Sweep.{Sweep}
 use Rattle.boxes.specs.declared.MoveResult.{MoveResult}
 use Rattle.boxes.specs.Boxes.{overlap}
-use Rattle.boxes.specs.Passes.{sweepOf, endOf}
+use Rattle.boxes.specs.Passes.{sweepOf, endOfMove}
 use Rattle.boxes.proofs.Shape.{moves}
 use Rattle.boxes.specs.Lists.{room, listOf, emptyList, noBox, held}
 use Rattle.window.specs.declared.Pos.{Pos}
@@ -215,7 +215,7 @@ module _ (cells : List ℕ) (w : Window) (records : List ℕ) (shapes : List Flo
   abbrev whole-move : Ask MoveResult
   whole-move = moveAabb (lookAt cells w) records shapes (q .aabb) (q .delta) (q .step) (q .ground)
 
-  pub moved : (r : Range) → r ≡ rangeOf area → (bs : List Aabb) → found (next bs) ≡ all (push room) (lookAt cells w) records shapes area r [] → (s : Sweep) → s ≡ sweepOf bs q → (m : MoveResult) → m ≡ endOf q s → found m ≡ whole-move
+  pub moved : (r : Range) → r ≡ rangeOf area → (bs : List Aabb) → found (next bs) ≡ all (push room) (lookAt cells w) records shapes area r [] → (s : Sweep) → s ≡ sweepOf bs q → (m : MoveResult) → m ≡ endOfMove q s → found m ≡ whole-move
   unfolding moveAabb
   moved r er bs h s es m em = rw (← e, was-collected room (lookAt cells w) records shapes area r er bs h, em, moves bs q s es)
 

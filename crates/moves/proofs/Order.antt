@@ -24,7 +24,7 @@ use Rattle.ranges.specs.declared.Range.{Range}
 use Rattle.ranges.specs.Ranges.{placeAt}
 use Rattle.ranges.specs.Walk.{line, layer, walk}
 use Rattle.moves.specs.Collect.{CellShape, aabbsOf, cellShape, offer, offerAll, visit, push, pushed, rangeOf, collectUpTo, collectBlockBoxes}
-use Rattle.moves.specs.Settled.{settled, settledBoxes, overlapping, joined, inOrder}
+use Rattle.moves.specs.Settled.{settled, settledBoxes, overlapping, appended, inOrder}
 
 no : {A : Type 0} → _≡_ {A = ℕ} 0 1 → A
 no e = absurd (omega arith)
@@ -43,12 +43,12 @@ passed (found (done r)) k b e = no cc
 -- ---- lists that grow by what each turn adds
 module _ {A R : Type 0} where
   grows : (f : ℕ → List A → Ask (Turn (List A) R)) (g : ℕ → List A) → ((i : ℕ) (s t : List A) → f i s ≡ found (next t) → t ≡ s ++ g i)
-      → (k i : ℕ) (s t : List A) → turning f k i s ≡ found (next t) → t ≡ s ++ joined g k i
-  unfolding turning joined
+      → (k i : ℕ) (s t : List A) → turning f k i s ≡ found (next t) → t ≡ s ++ appended g k i
+  unfolding turning appended
   grows f g h zero i s t e = let q : t ≡ s = cc in q ∙ sym (append-nil s)
   grows f g h (suc k) i s t e =
       let p = passed (f i s) (turning f k (i + 1)) t e in
-      grows f g h k (i + 1) (p .at) t (p .then) ∙ ap (λ (l : List A). l ++ joined g k (i + 1)) (h i s (p .at) (p .first)) ∙ append-assoc s (g i) (joined g k (i + 1))
+      grows f g h k (i + 1) (p .at) t (p .then) ∙ ap (λ (l : List A). l ++ appended g k (i + 1)) (h i s (p .at) (p .first)) ∙ append-assoc s (g i) (appended g k (i + 1))
 
   walk-grows : (f : Pos → List A → Ask (Turn (List A) R)) (g : Pos → List A) (r : Range) → ((p : Pos) (s t : List A) → f p s ≡ found (next t) → t ≡ s ++ g p)
       → (s t : List A) → walk f r s ≡ found (next t) → t ≡ s ++ inOrder g r
@@ -97,13 +97,13 @@ unfolding walk layer line
 walks-on b f r h = loops-on b (layer f r) (λ y. loops-on b (line f r y) (λ x. loops-on b _ (λ z. h (placeAt r x y z)) (r .z .count) 0) (r .x .count) 0) (r .y .count) 0
 
 -- ---- what is in one of the lists is in all of them together
-in-joined-at : {A : Type 0} (a : A) (g : ℕ → List A) (k i j : ℕ) → j < k → List·Memᴰ a (g (i + j)) → List·Memᴰ a (joined g k i)
-unfolding joined
+in-joined-at : {A : Type 0} (a : A) (g : ℕ → List A) (k i j : ℕ) → j < k → List·Memᴰ a (g (i + j)) → List·Memᴰ a (appended g k i)
+unfolding appended
 in-joined-at a g zero i j h m = absurd (omega arith)
-in-joined-at a g (suc k) i zero h m = let z : i + 0 ≡ i = omega arith in Memᴰ·append-left (joined g k (i + 1)) (rw z at m)
+in-joined-at a g (suc k) i zero h m = let z : i + 0 ≡ i = omega arith in Memᴰ·append-left (appended g k (i + 1)) (rw z at m)
 in-joined-at a g (suc k) i (suc j) h m = let z : i + suc j ≡ i + 1 + j = omega arith in Memᴰ·append-right (g i) (in-joined-at a g k (i + 1) j (omega arith) (rw z at m))
 
-in-joined : {A : Type 0} (a : A) (g : ℕ → List A) (k j : ℕ) → j < k → List·Memᴰ a (g j) → List·Memᴰ a (joined g k 0)
+in-joined : {A : Type 0} (a : A) (g : ℕ → List A) (k j : ℕ) → j < k → List·Memᴰ a (g j) → List·Memᴰ a (appended g k 0)
 in-joined a g k j h m = let z : j ≡ 0 + j = omega arith in in-joined-at a g k 0 j h (rw z at m)
 
 in-overlapping : (area b : Aabb) (bs : List Aabb) → List·Memᴰ b bs → overlap b area ≡ true → List·Memᴰ b (overlapping area bs)

@@ -22,7 +22,7 @@ use Rattle.window.specs.Look.{Block, none, some, lookAt}
 use Rattle.ranges.specs.declared.Range.{Range}
 use Rattle.ranges.specs.Walk.{line, layer, walk}
 use Rattle.connect.specs.declared.Joined.{Joined}
-use Rattle.connect.specs.Connect.{connectsAs, joins, post, besideNeighbours, connectedState}
+use Rattle.connect.specs.Connect.{connectKind, joins, post, besideNeighbours, connectedState}
 use Rattle.moves.specs.Answers.{moveAabb}
 use Rattle.moves.specs.Collect.{connectedShape, shapeOf, cellShape, offer, offerAll, visit, push, hit, collectUpTo, collectBlockBoxes, collidesWithBlocks}
 
@@ -106,7 +106,7 @@ module _ (look : Pos → Ask Block) (h : (p : Pos) → Refuses Five (look p)) (r
 
   pub connected-refuses : (p : Pos) (state : ℕ) → Refuses Five (connectedState look records p state)
   unfolding connectedState
-  connected-refuses p state = either (eqb (connectsAs records state) 0) (found state) _ (finds state) (beside-refuses p (connectsAs records state) state)
+  connected-refuses p state = either (eqb (connectKind records state) 0) (found state) _ (finds state) (beside-refuses p (connectKind records state) state)
 
   block-refuses : (p : Pos) (b : Block) → Refuses Five (shapeOf look records p b)
   unfolding shapeOf connectedShape

@@ -19,7 +19,7 @@ use Rattle.bodies.specs.declared.Body.{Body}
 use Rattle.bodies.specs.declared.Rules.{Rules}
 use Rattle.bodies.specs.Body.{isLiving, isFallingBlock}
 use Rattle.window.specs.declared.Pos.{Pos}
-use Rattle.window.specs.declared.Step.{Step}
+use Rattle.window.specs.declared.CellStep.{CellStep}
 use Rattle.window.specs.Look.{Block, none, some, stepped}
 use Rattle.ranges.specs.Cells.{cellHolding}
 use Rattle.drags.specs.declared.Support.{Support}
@@ -35,7 +35,7 @@ supportAsked (asked.Refused n) = refused n
 
 -- ---- supporting_friction
 
-abbrev pub downwards : Step
+abbrev pub downwards : CellStep
 downwards = record { x = pos 0; y = negsuc 0; z = pos 0 }
 
 -- the friction of a registered state that is not the air state; another one without boxes has its own friction

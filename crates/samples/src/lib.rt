@@ -10,7 +10,7 @@ use ranges::cell_holding;
 use tables::LiquidKind;
 use window::Cell;
 use window::Pos;
-use window::Step;
+use window::CellStep;
 use window::Window;
 ghost use mathlib.Core.Path.{_≡_};
 ghost use Rattle.window.specs.Look.{lookAt, asked};
@@ -56,7 +56,7 @@ fn supporting_friction(
     ensures { λ r. ⌜ supportAsked r ≡ supportingFriction (lookAt (now (cells .entry)) w) (now (records .entry)) rules feet ⌝ }
 {
     let p = cell_holding(feet);
-    let below = window::look_by(cells, w, p, Step { x: 0, y: -1, z: 0 });
+    let below = window::look_by(cells, w, p, CellStep { x: 0, y: -1, z: 0 });
     sampled(records, rules.air, below)
 }
 

@@ -22,12 +22,12 @@ use Rattle.files.specs.Files.{bodyWord, windowIn, countsOf, isScene}
 -- ---- "Body payload, f64 low word first"
 
 -- two words as one number, the low word first
-abbrev pub joined : ℕ → ℕ → ℕ
-joined low high = low + high * 4294967296
+abbrev pub wideOf : ℕ → ℕ → ℕ
+wideOf low high = low + high * 4294967296
 
 -- number k of the body's f64
 unfoldable pub bodyFloat : List ℕ → ℕ → Float
-bodyFloat file k = ofBits binary64 (joined (bodyWord file (k * 2)) (bodyWord file (k * 2 + 1)))
+bodyFloat file k = ofBits binary64 (wideOf (bodyWord file (k * 2)) (bodyWord file (k * 2 + 1)))
 
 -- word k of those behind the numbers and the age
 abbrev pub lateWord : List ℕ → ℕ → ℕ
@@ -44,7 +44,7 @@ rulesIn file = rulesFrom (bodyFloat file) (lateWord file)
 
 -- "age (low, high)"
 unfoldable pub ageIn : List ℕ → ℕ
-ageIn file = joined (bodyWord file 38) (bodyWord file 39)
+ageIn file = wideOf (bodyWord file 38) (bodyWord file 39)
 
 -- ---- a scene's tables and cells
 

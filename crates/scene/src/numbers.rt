@@ -2,11 +2,11 @@
 use files::body_word;
 ghost use mathlib.Core.Path.{_≡_};
 ghost use Rattle.base.specs.Loop.{listed};
-ghost use Rattle.scene.specs.Scene.{joined, bodyFloat, lateWord, ageIn};
+ghost use Rattle.scene.specs.Scene.{wideOf, bodyFloat, lateWord, ageIn};
 
 // Two words as one number, the low word first.
 fn join(low: u32, high: u32) -> u64
-    ensures { λ r. ⌜ r ≡ joined low high ⌝ }
+    ensures { λ r. ⌜ r ≡ wideOf low high ⌝ }
 {
     low as u64 + high as u64 * 4294967296
 }

@@ -10,7 +10,7 @@ use lib.Ieee as I
 use lib.Ieee.{Float}
 use lib.Ieee.Fits.{and-i, and-l, and-r}
 use Rattle.base.specs.Choose.{choose}
-use Rattle.base.specs.Every.{every, some}
+use Rattle.base.specs.Every.{every, any}
 use Rattle.base.proofs.Tests.{every-same}
 use Rattle.floats.specs.Numbers as N
 use Rattle.cover.specs.declared.Side.the-variants.{North, East, South, West}
@@ -53,7 +53,7 @@ searched l = choose (coversBySearch l North) 1 0 + choose (coversBySearch l East
 abbrev recordSearched : List ℕ → List Float → ℕ → Bool
 recordSearched records shapes state =
     K.wordsFit records state
-    && K.partFits records shapes state
+    && K.stateBoxesFit records shapes state
     && K.linksFit records state
     && eqb (wordAt records state 19) (searched (stateBoxes records shapes state))
     && K.registeredOrZero records state
@@ -64,13 +64,13 @@ record-searched records shapes state t =
     rw (full-search (stateBoxes records shapes state) (fit-part shapes (wordAt records state 7) (wordAt records state 8) t))
 
 pub tables-searched : (records : List ℕ) (shapes : List Float) → T (allFit shapes)
-    → tablesFit records shapes ≡ (K.countsFit records shapes && every (K.stateCount records) (recordSearched records shapes) && every (boxCount shapes) (K.boxFits shapes))
+    → tablesFit records shapes ≡ (K.tableCountsFit records shapes && every (K.stateCount records) (recordSearched records shapes) && every (boxCount shapes) (K.boxFits shapes))
 unfolding tablesFit
 tables-searched records shapes t =
     rw (every-same (K.recordFits records shapes) (recordSearched records shapes) (λ i. record-searched records shapes i t) (K.stateCount records))
 
 pub tables-fit : tablesFit P.records P.shapes ≡ true
-unfolding choose every some N.sizeOf allFit I.fits O.onFace O.uPlace G.spans G.hasPoint G.isInner G.gapAt G.gapPast G.anyGap G.gapOnLine G.gapOnFace G.coversBySearch B.isRegistered B.frictionAt B.boxesAt K.countsFit K.wordsFit K.partFits K.allZero K.leadsOn K.allLeadOn K.postsStay K.linksFit K.registeredOrZero K.sideFits K.boxFits P.off P.on P.fence P.wall P.rows P.records P.shapes I.isNan I.ofBits I.lt I.le I.eq
+unfolding choose every any N.sizeOf allFit I.fits O.onFace O.uPlace G.spans G.hasPoint G.isInner G.gapAt G.gapPast G.anyGap G.gapOnLine G.gapOnFace G.coversBySearch B.isRegistered B.frictionAt B.boxesAt K.tableCountsFit K.wordsFit K.stateBoxesFit K.allZero K.leadsOn K.allLeadOn K.postsStay K.linksFit K.registeredOrZero K.sideFits K.boxFits P.off P.on P.fence P.wall P.rows P.records P.shapes I.isNan I.ofBits I.lt I.le I.eq
 tables-fit = tables-searched P.records P.shapes tt ∙ refl
 
 pub tables-pass : tableRefusal P.records P.shapes ≡ 0

@@ -16,7 +16,7 @@ use Rattle.base.specs.Choose.{choose}
 use Rattle.base.proofs.Every.{both}
 use Rattle.floats.specs.Numbers.{isWithin, sizeOf}
 use Rattle.cover.specs.Cover.{boxCount}
-use Rattle.tables.specs.Check.{stateCount, countsFit, sixteen, four}
+use Rattle.tables.specs.Check.{stateCount, tableCountsFit, sixteen, four}
 
 -- ---- between -limit and limit
 some-above : (a b : ℕ) → 0 < a → ltb 0 (a + b) ≡ true
@@ -56,8 +56,8 @@ unfolding ofBits
 sixteen-bits = refl
 
 -- ---- the counts
-pub few-states : (records : List ℕ) (shapes : List Float) → countsFit records shapes ≡ true → stateCount records ≤ 4096
-unfolding countsFit
+pub few-states : (records : List ℕ) (shapes : List Float) → tableCountsFit records shapes ≡ true → stateCount records ≤ 4096
+unfolding tableCountsFit
 few-states records shapes h =
     let a : Bool = eqb (length records % 20) 0 in
     let b : Bool = eqb (length shapes % 6) 0 in

@@ -11,7 +11,7 @@ use lib.Ieee.{Float}
 use borrow.Author.Tests.{le-leb, lt-leb}
 use Rattle.base.specs.Choose.{choose}
 use Rattle.floats.specs.Numbers.{zero64}
-use Rattle.tables.specs.Tables.{wordAt, headOf, headAt, boxesAt, boxOf, boxAt}
+use Rattle.tables.specs.Tables.{wordAt, headOf, headAt, boxesAt, shapeBoxOf, boxAt}
 
 -- within the list the default is not looked at
 pub getD-any : {A : Type 0} (l : List A) (i : ℕ) (d e : A) → i < length l → getD l i d ≡ getD l i e
@@ -68,7 +68,7 @@ whole-head l i s d e h =
 
 -- ---- a box whose last number is there, and so all of them
 pub whole-box : (l : List Float) (i k : ℕ) (d : Float) → i ≡ k → i * 6 + 5 < length l
-    → boxOf (getD l (i * 6) d) (getD l (i * 6 + 1) d) (getD l (i * 6 + 2) d) (getD l (i * 6 + 3) d) (getD l (i * 6 + 4) d) (getD l (i * 6 + 5) d) ≡ boxAt l k
+    → shapeBoxOf (getD l (i * 6) d) (getD l (i * 6 + 1) d) (getD l (i * 6 + 2) d) (getD l (i * 6 + 3) d) (getD l (i * 6 + 4) d) (getD l (i * 6 + 5) d) ≡ boxAt l k
 whole-box l i k d e h =
     let n0 = getD-any l (i * 6) d zero64 (omega arith) in
     let n1 = getD-any l (i * 6 + 1) d zero64 (omega arith) in

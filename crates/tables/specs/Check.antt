@@ -9,7 +9,7 @@ use lib.Ieee.{Float, fin, le}
 use Rattle.base.specs.Choose.{choose}
 use Rattle.base.specs.Every.{every}
 use Rattle.floats.specs.Numbers.{isWithin}
-use Rattle.cover.specs.Cover.{boxCount, numberAt, fullFaces}
+use Rattle.cover.specs.Cover.{boxCount, boxNumber, fullFaces}
 use Rattle.tables.specs.Tables.{wordAt, isRegistered, frictionAt, stateBoxes}
 
 -- ---- counts: "Records and boxes come whole." "States: 1 to 4,096. Boxes: at most 16,384"
@@ -17,8 +17,8 @@ use Rattle.tables.specs.Tables.{wordAt, isRegistered, frictionAt, stateB
 abbrev pub stateCount : List ℕ → ℕ
 stateCount records = length records / 20
 
-unfoldable pub countsFit : List ℕ → List Float → Bool
-countsFit records shapes =
+unfoldable pub tableCountsFit : List ℕ → List Float → Bool
+tableCountsFit records shapes =
     eqb (length records % 20) 0
     && eqb (length shapes % 6) 0
     && leb 1 (stateCount records)
@@ -53,8 +53,8 @@ wordsFit records state =
     && leb (wordAt records state 6) 5
 
 -- words 7 and 8: boxes at most "16 for one state"; "word 7 plus word 8 is at most the number of boxes"
-unfoldable pub partFits : List ℕ → List Float → ℕ → Bool
-partFits records shapes state = leb (wordAt records state 8) 16 && leb (wordAt records state 7 + wordAt records state 8) (boxCount shapes)
+unfoldable pub stateBoxesFit : List ℕ → List Float → ℕ → Bool
+stateBoxesFit records shapes state = leb (wordAt records state 8) 16 && leb (wordAt records state 7 + wordAt records state 8) (boxCount shapes)
 
 -- so many words of a record are zero, from the one named on
 unfoldable pub allZero : List ℕ → ℕ → ℕ → ℕ → Bool
@@ -90,7 +90,7 @@ registeredOrZero records state = isRegistered records state || allZero records s
 unfoldable pub recordFits : List ℕ → List Float → ℕ → Bool
 recordFits records shapes state =
     wordsFit records state
-    && partFits records shapes state
+    && stateBoxesFit records shapes state
     && linksFit records state
     && facesFit records shapes state
     && registeredOrZero records state
@@ -106,15 +106,15 @@ sideFits min max = isWithin min four && isWithin max four && le min max
 
 unfoldable pub boxFits : List Float → ℕ → Bool
 boxFits shapes k =
-    sideFits (numberAt shapes k 0) (numberAt shapes k 3)
-    && sideFits (numberAt shapes k 1) (numberAt shapes k 4)
-    && sideFits (numberAt shapes k 2) (numberAt shapes k 5)
+    sideFits (boxNumber shapes k 0) (boxNumber shapes k 3)
+    && sideFits (boxNumber shapes k 1) (boxNumber shapes k 4)
+    && sideFits (boxNumber shapes k 2) (boxNumber shapes k 5)
 
 -- ---- the check
 
 unfoldable pub tablesFit : List ℕ → List Float → Bool
 tablesFit records shapes =
-    countsFit records shapes
+    tableCountsFit records shapes
     && every (stateCount records) (recordFits records shapes)
     && every (boxCount shapes) (boxFits shapes)
 

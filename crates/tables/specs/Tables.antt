@@ -69,8 +69,8 @@ stateBoxes records shapes state = boxesAt shapes (wordAt records state 7) (wordA
 abbrev pub floatAt : List Float → ℕ → Float
 floatAt shape i = getD shape i zero64
 
-abbrev pub boxOf : Float → Float → Float → Float → Float → Float → ShapeBox
-boxOf x0 y0 z0 x1 y1 z1 = record { x0 = x0; y0 = y0; z0 = z0; x1 = x1; y1 = y1; z1 = z1 }
+abbrev pub shapeBoxOf : Float → Float → Float → Float → Float → Float → ShapeBox
+shapeBoxOf x0 y0 z0 x1 y1 z1 = record { x0 = x0; y0 = y0; z0 = z0; x1 = x1; y1 = y1; z1 = z1 }
 
 -- box k of a shape
 abbrev pub boxAt : List Float → ℕ → ShapeBox

@@ -9,10 +9,10 @@ ghost use Prim.Native.Nat.{_<_};
 ghost use Rattle.base.specs.Every.{every};
 ghost use Rattle.floats.specs.Numbers.{isWithin};
 ghost use Rattle.cover.specs.Cover.{boxCount};
-ghost use Rattle.tables.specs.Check.{countsFit, mostDepth, wordsFit, partFits, allZero, leadsOn, allLeadOn, postsStay, linksFit, facesFit, registeredOrZero, recordFits, four, sideFits, boxFits, tablesFit};
+ghost use Rattle.tables.specs.Check.{tableCountsFit, mostDepth, wordsFit, stateBoxesFit, allZero, leadsOn, allLeadOn, postsStay, linksFit, facesFit, registeredOrZero, recordFits, four, sideFits, boxFits, tablesFit};
 
 fn counts_fit(records: &[u32], shapes: &[f32]) -> bool
-    ensures { λ r. ⌜ r ≡ countsFit (now (records .entry)) (now (shapes .entry)) ⌝ }
+    ensures { λ r. ⌜ r ≡ tableCountsFit (now (records .entry)) (now (shapes .entry)) ⌝ }
 {
     if records.len() % 20 == 0 {
         if shapes.len() % 6 == 0 {
@@ -56,7 +56,7 @@ fn words_fit(records: &[u32], state: u32) -> bool
 
 // Words 7 and 8.
 fn part_fits(records: &[u32], shapes: &[f32], state: u32) -> bool
-    ensures { λ r. ⌜ r ≡ partFits (now (records .entry)) (now (shapes .entry)) state ⌝ }
+    ensures { λ r. ⌜ r ≡ stateBoxesFit (now (records .entry)) (now (shapes .entry)) state ⌝ }
 {
     let first = wide(word(records, state, 7));
     let count = wide(word(records, state, 8));

@@ -2,7 +2,7 @@
 ghost use mathlib.Core.Path.{_≡_};
 ghost use lib.ListN.{getD};
 ghost use lib.Ieee.{ofBits, binary32};
-ghost use Rattle.tables.specs.Tables.{wordAt, isRegistered, headOf, headAt, blocksMotion, frictionAt, kindOf, liquidOf, liquidAt, boxesAt, stateBoxes, floatAt, boxOf, boxAt};
+ghost use Rattle.tables.specs.Tables.{wordAt, isRegistered, headOf, headAt, blocksMotion, frictionAt, kindOf, liquidOf, liquidAt, boxesAt, stateBoxes, floatAt, shapeBoxOf, boxAt};
 ghost use Rattle.tables.specs.Check.{tableRefusal};
 
 mod check;
@@ -194,7 +194,7 @@ pub fn float_at(shape: &[f32], i: usize) -> f64
 
 // A box of these numbers. Where each min is at or below its max no number is a NaN, and a plain cast serves.
 fn box_of(x0: f32, y0: f32, z0: f32, x1: f32, y1: f32, z1: f32) -> ShapeBox
-    ensures { λ r. ⌜ r ≡ boxOf x0 y0 z0 x1 y1 z1 ⌝ }
+    ensures { λ r. ⌜ r ≡ shapeBoxOf x0 y0 z0 x1 y1 z1 ⌝ }
 {
     if x0 <= x1 {
         if y0 <= y1 {

@@ -14,7 +14,7 @@ use Rattle.tables.specs.declared.LiquidKind.{LiquidKind}
 use Rattle.tables.specs.declared.LiquidKind.the-variants.{None, Water, Lava}
 use Rattle.bodies.specs.declared.MotionNumbers.{MotionNumbers}
 use Rattle.text.specs.Cursor.{behind, Put}
-use Rattle.text.specs.Text.{hexOf, joinedText, vecText, feetLine, velocityLine, groundLine, liquidLine, linesOf, refusedText, textOf, room, written, writtenCount}
+use Rattle.text.specs.Text.{hexOf, joinedText, vecText, feetLine, velocityLine, groundLine, liquidLine, linesOf, refusedText, textOf, textRoom, written, writtenCount}
 use Rattle.text.proofs.Cursor.{stored-length}
 
 -- ---- each line
@@ -52,7 +52,7 @@ unfolding joinedText
 no-piece = refl
 
 module _ (motion : MotionNumbers) (kind : LiquidKind) where
-  lines-most : length (linesOf motion kind) ≤ room
+  lines-most : length (linesOf motion kind) ≤ textRoom
   unfolding linesOf
   lines-most =
       let e = feet-length (motion .feet) in
@@ -63,11 +63,11 @@ module _ (motion : MotionNumbers) (kind : LiquidKind) where
       simp pieces-length (omega arith)
 
   module _ (refusal : ℕ) where
-    text-most : length (textOf refusal motion kind) ≤ room
+    text-most : length (textOf refusal motion kind) ≤ textRoom
     unfolding textOf choose
     text-most = go (eqb refusal 0) lines-most (refused-length refusal)
       where
-        go : (t : Bool) → length (linesOf motion kind) ≤ room → length (refusedText refusal) ≡ 10 → length (choose t (linesOf motion kind) (refusedText refusal)) ≤ room
+        go : (t : Bool) → length (linesOf motion kind) ≤ textRoom → length (refusedText refusal) ≡ 10 → length (choose t (linesOf motion kind) (refusedText refusal)) ≤ textRoom
         go true h e = h
         go false h e = omega arith
 
@@ -75,26 +75,26 @@ module _ (motion : MotionNumbers) (kind : LiquidKind) where
 
 module _ (refusal : ℕ) (motion : MotionNumbers) (kind : LiquidKind) (out : List ℕ) where
   -- one that has room
-  pub all-written : {after : List ℕ} {r : ℕ} → room ≤ length out → Put out 0 (textOf refusal motion kind) after r
+  pub all-written : {after : List ℕ} {r : ℕ} → textRoom ≤ length out → Put out 0 (textOf refusal motion kind) after r
       → (after ≡ written out (textOf refusal motion kind)) × (r ≡ writtenCount out (textOf refusal motion kind))
   unfolding written writtenCount choose
   all-written h p =
       let m = text-most motion kind refusal in
       let e : behind (length out) 0 (length (textOf refusal motion kind)) ≡ length (textOf refusal motion kind) = omega arith in
-      rw (le-ltb (length out) room h) (p .buffer, p .cursor ∙ e)
+      rw (le-ltb (length out) textRoom h) (p .buffer, p .cursor ∙ e)
 
   pub written-most : writtenCount out (textOf refusal motion kind) ≤ 160
   unfolding writtenCount choose
-  written-most = go (ltb (length out) room) (text-most motion kind refusal)
+  written-most = go (ltb (length out) textRoom) (text-most motion kind refusal)
     where
-      go : (b : Bool) → length (textOf refusal motion kind) ≤ room → choose b 0 (length (textOf refusal motion kind)) ≤ 160
+      go : (b : Bool) → length (textOf refusal motion kind) ≤ textRoom → choose b 0 (length (textOf refusal motion kind)) ≤ 160
       go true h = omega arith
       go false h = h
 
 -- the buffer keeps its length
 pub written-length : (out text : List ℕ) → length (written out text) ≡ length out
 unfolding written choose
-written-length out text = go (ltb (length out) room)
+written-length out text = go (ltb (length out) textRoom)
   where
     go : (b : Bool) → length (choose b out (stored out 0 text)) ≡ length out
     go true = refl

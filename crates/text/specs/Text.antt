@@ -73,12 +73,12 @@ textOf refusal motion kind = choose (eqb refusal 0) (linesOf motion kind) (refus
 
 -- ---- in a lent buffer: nothing is written to one that is too short for every answer, and what lies behind the text is kept
 
-abbrev pub room : ℕ
-room = 160
+abbrev pub textRoom : ℕ
+textRoom = 160
 
 unfoldable pub written : List ℕ → List ℕ → List ℕ
-written out text = choose (ltb (length out) room) out (stored out 0 text)
+written out text = choose (ltb (length out) textRoom) out (stored out 0 text)
 
 -- how many bytes the answer has
 unfoldable pub writtenCount : List ℕ → List ℕ → ℕ
-writtenCount out text = choose (ltb (length out) room) 0 (length text)
+writtenCount out text = choose (ltb (length out) textRoom) 0 (length text)

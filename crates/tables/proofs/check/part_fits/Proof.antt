@@ -1,7 +1,7 @@
 -- `tables::check::part_fits` meets its contract. Assumes nothing.
 use borrow.Author.Tests.{le-leb, lt-leb}
 use borrow.Author.Needs.{needs}
-use Rattle.tables.specs.Check.{partFits}
+use Rattle.tables.specs.Check.{stateBoxesFit}
 use Rattle.tables.proofs.check.part_fits.Statement.{statement}
 use Rattle.tables.proofs.check.part_fits.Tie as tie
 
@@ -21,11 +21,11 @@ add-result : tie.Need-add-result
 add-result c = search needs
 
 returns : tie.Need-returns
-unfolding partFits
+unfolding stateBoxesFit
 returns c = rw (← c .before .before .before .before .word .ensures, ← c .before .before .before .wide .ensures, ← c .before .before .word2 .ensures, ← c .before .wide2 .ensures, le-leb _ _ (c .if1 .taken))
 
 returns-2 : tie.Need-returns-2
-unfolding partFits
+unfolding stateBoxesFit
 returns-2 c = rw (← c .before .before .before .before .word .ensures, ← c .before .before .before .wide .ensures, ← c .before .before .word2 .ensures, ← c .before .wide2 .ensures, lt-leb _ _ (c .if1 .left))
 
 pub part-fits-spec : {M : Type 1} → statement M
