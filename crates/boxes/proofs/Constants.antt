@@ -3,7 +3,7 @@ use mathlib.Core.Bool.{false}
 use mathlib.Core.Path.{_≡_, refl}
 use lib.Ieee.{binary64, ofBits, round}
 use Rattle.boxes.specs.Boxes.{two64}
-use Rattle.boxes.specs.Vectors.{one64}
+use Rattle.floats.specs.Numbers.{one64}
 
 pub one-decimal : one64 ≡ round binary64 false 1 1
 unfolding ofBits round

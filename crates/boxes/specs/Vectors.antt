@@ -1,16 +1,12 @@
 -- Vectors as glam has them: products with a number, and normalising. A product of zero is a product like any other, so that
 -- the sign of a zero is the Rust's.
 use mathlib.Core.Bool.{_&&_}
-use lib.Ieee.{Float, binary64, ofBits, add, mul, div, lt}
+use lib.Ieee.{Float, binary64, add, mul, div, lt}
 use Rattle.base.specs.Choose.{choose}
-use Rattle.floats.specs.Numbers.{zero64, isFinite, answerWhere}
+use Rattle.floats.specs.Numbers.{zero64, isFinite, answerWhere, one64}
 use Rattle.floats.specs.Root.{hasRoot, rootOf}
 use Rattle.boxes.specs.declared.Vec3.{Vec3}
 use Rattle.boxes.specs.Boxes.{vec}
-
--- 1.0
-abbrev pub one64 : Float
-one64 = ofBits binary64 4607182418800017408
 
 -- DVec3::ZERO and DVec3::Y
 abbrev pub zeroVec : Vec3

@@ -6,12 +6,12 @@ use Prim.Native.Nat.{ℕ, _%_}
 use lib.Dec.{eqb}
 use lib.Ieee.{Float, binary64, add, sub, mul, lt, le, ne}
 use Rattle.base.specs.Choose.{choose}
-use Rattle.floats.specs.Numbers.{zero64, sizeOf}
+use Rattle.floats.specs.Numbers.{zero64, sizeOf, one64}
 use Rattle.boxes.specs.declared.Vec3.{Vec3}
 use Rattle.boxes.specs.Boxes.{vec}
 use Rattle.tables.specs.declared.LiquidKind.{LiquidKind}
 use Rattle.tables.specs.declared.LiquidKind.the-variants.{None, Water, Lava}
-use Rattle.boxes.specs.Vectors.{one64, squared}
+use Rattle.boxes.specs.Vectors.{squared}
 use Rattle.bodies.specs.declared.Stage.{Stage}
 use Rattle.bodies.specs.declared.Stage.the-variants.{BeforeMove, AfterMove, AfterDrag}
 use Rattle.bodies.specs.declared.Flap.{Flap}

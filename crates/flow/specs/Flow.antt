@@ -7,10 +7,10 @@ use lib.IntN.{ℤ, pos, negsuc, _-ℤ_}
 use lib.Ieee.{Float, binary64, ofInt, ofBits, neg}
 use Rattle.base.specs.Choose.{choose}
 use Rattle.base.specs.Ask.{Ask, found, _>>=_, asking}
-use Rattle.floats.specs.Numbers.{zero64}
+use Rattle.floats.specs.Numbers.{zero64, one64}
 use Rattle.boxes.specs.declared.Vec3.{Vec3}
 use Rattle.boxes.specs.Boxes.{vec, plus, minus}
-use Rattle.boxes.specs.Vectors.{one64, zeroVec, unitY, scaled, normalised}
+use Rattle.boxes.specs.Vectors.{zeroVec, unitY, scaled, normalised}
 use Rattle.cover.specs.declared.Side.{Side}
 use Rattle.cover.specs.declared.Side.the-variants.{North, East, South, West}
 use Rattle.tables.specs.declared.LiquidState.{LiquidState}

@@ -18,7 +18,7 @@ use Rattle.base.proofs.Every.{both, every-at}
 use Rattle.base.proofs.Tests.{T-true}
 use Rattle.base.proofs.Differences.{subℕ-add}
 use Rattle.base.proofs.Members.{in-listed}
-use Rattle.floats.specs.Numbers.{zero64}
+use Rattle.floats.specs.Numbers.{zero64, one64}
 use Rattle.boxes.specs.declared.Aabb.{Aabb}
 use Rattle.boxes.specs.Boxes.{offsetBy}
 use Rattle.cover.specs.Cover.{boxCount}
@@ -29,7 +29,7 @@ use Rattle.window.specs.Window.{within, inside, sizeFits, sizesFit, coordinateF
 use Rattle.window.specs.Look.{Block, lookAt}
 use Rattle.window.proofs.Offsets.{within-by}
 use Rattle.window.proofs.Cells.{is-inside, found-inside}
-use Rattle.moves.specs.Collect.{CellShape, cube, boxes, originOf, one64, cubeAt, toAabb, aabbsOf, shapeAabbs, shapeOf, cellShape}
+use Rattle.moves.specs.Collect.{CellShape, cube, boxes, originOf, cubeAt, toAabb, aabbsOf, shapeAabbs, shapeOf, cellShape}
 use Rattle.moves.specs.Settled.{settled, settledBoxes}
 use Rattle.grid.specs.Grid.{onGrid, isProper}
 use Rattle.grid.specs.Demand.{cellAndHalf, isInCell, shapeOnGrid, settledOnGrid, cellFrom, everyCell, shapesOnGrid}

@@ -15,7 +15,7 @@ use lib.Ieee.{Float, fin, binary64, ofBits, add, sub, lt, le, eq}
 use Rattle.base.specs.Choose.{choose}
 use Rattle.base.specs.Ask.{Ask, refused, found}
 use Rattle.base.specs.Every.{every}
-use Rattle.floats.specs.Numbers.{zero64}
+use Rattle.floats.specs.Numbers.{zero64, one64}
 use Rattle.boxes.specs.declared.Vec3.{Vec3}
 use Rattle.boxes.specs.declared.Aabb.{Aabb}
 use Rattle.boxes.specs.declared.Swept.{Swept}
@@ -30,7 +30,7 @@ use Rattle.tables.specs.Tables.{boxesAt, boxAt}
 use Rattle.window.specs.declared.Pos.{Pos}
 use Rattle.window.specs.declared.Window.{Window}
 use Rattle.window.specs.Look.{lookAt}
-use Rattle.moves.specs.Collect.{CellShape, cube, boxes as ofState, one64, toAabb, cellShape, collectBlockBoxes}
+use Rattle.moves.specs.Collect.{CellShape, cube, boxes as ofState, toAabb, cellShape, collectBlockBoxes}
 use Rattle.moves.specs.Settled.{settledBoxes}
 use Rattle.moves.specs.Answers.{sweptArea, moveEntry}
 use Rattle.grid.specs.Grid.{onGrid, vecOnGrid, isProper, areProper, isFree}

@@ -9,7 +9,7 @@ use Rattle.base.specs.Choose.{choose}
 use Rattle.base.specs.Ask.{Ask, found, _>>=_}
 use Rattle.boxes.specs.declared.Vec3.{Vec3}
 use Rattle.boxes.specs.Boxes.{plus}
-use Rattle.boxes.specs.Vectors.{one64, unitY, scaled}
+use Rattle.boxes.specs.Vectors.{unitY, scaled}
 use Rattle.tables.specs.declared.LiquidKind.{LiquidKind}
 use Rattle.tables.specs.declared.LiquidKind.the-variants.{None, Water, Lava}
 use Rattle.tables.specs.declared.LiquidState.{LiquidState}
@@ -18,6 +18,7 @@ use Rattle.window.specs.Look.{Block}
 use Rattle.ranges.specs.Cells.{cellHolding, cellUnder}
 use Rattle.flow.specs.Liquid.{isWater, isLava, isFalling, liquidHeld}
 use Rattle.liquids.specs.Current.{samePos, liquidKnown}
+use Rattle.floats.specs.Numbers.{one64}
 
 -- position + DVec3::Y * d
 unfoldable pub movedUp : Vec3 → Float → Vec3

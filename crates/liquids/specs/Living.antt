@@ -9,7 +9,6 @@ use Rattle.base.specs.Ask.{Ask, found, _>>=_, Turn, next, done, resume}
 use Rattle.boxes.specs.declared.Vec3.{Vec3}
 use Rattle.boxes.specs.declared.Aabb.{Aabb}
 use Rattle.boxes.specs.Boxes.{vec, plus, minus, box}
-use Rattle.boxes.specs.Vectors.{one64}
 use Rattle.tables.specs.declared.LiquidKind.{LiquidKind}
 use Rattle.tables.specs.declared.LiquidKind.the-variants.{None, Water, Lava}
 use Rattle.tables.specs.declared.LiquidState.{LiquidState}
@@ -20,6 +19,7 @@ use Rattle.ranges.specs.Ranges.{cellsBetween}
 use Rattle.ranges.specs.Walk.{walk}
 use Rattle.flow.specs.Liquid.{isLiquid, liquidHeld}
 use Rattle.liquids.specs.Flotation.{surfaceAt}
+use Rattle.floats.specs.Numbers.{one64}
 
 -- 0.001, and DVec3::splat of it
 abbrev pub thousandth : Float

@@ -5,7 +5,7 @@ use mathlib.Core.List.{List, [], _∷_, _++_}
 use Prim.Native.Nat.{ℕ}
 use lib.Dec.{ltb}
 use lib.ListN.{length}
-use lib.Ieee.{Float, binary64, ofInt, ofBits}
+use lib.Ieee.{Float, binary64, ofInt}
 use Rattle.base.specs.Choose.{choose}
 use Rattle.base.specs.Loop.{listed}
 use Rattle.base.specs.Ask.{Ask, refused, found, _>>=_, Turn, next, done, onward}
@@ -22,15 +22,13 @@ use Rattle.ranges.specs.declared.Range.{Range}
 use Rattle.ranges.specs.Ranges.{cellsBetween, layersBetween}
 use Rattle.ranges.specs.Walk.{walk}
 use Rattle.connect.specs.Connect.{connectedState}
+use Rattle.floats.specs.Numbers.{one64}
 
 -- ---- the boxes of a cell
 
 -- pos.as_dvec3()
 abbrev pub originOf : Pos → Vec3
 originOf p = vec (ofInt binary64 (p .x)) (ofInt binary64 (p .y)) (ofInt binary64 (p .z))
-
-abbrev pub one64 : Float
-one64 = ofBits binary64 4607182418800017408
 
 -- Aabb::new(origin, origin + DVec3::ONE)
 abbrev pub cubeAt : Pos → Aabb
