@@ -17,7 +17,7 @@ use Rattle.boxes.specs.Lists.{room, listOf}
 use Rattle.boxes.specs.Limits.{isBox, isDelta, isStep, areBoxes}
 use Rattle.boxes.specs.Move.{moveOver}
 use Rattle.boxes.specs.Entry.{refusalOf, moveOverList}
-use Rattle.lent_boxes.specs.Boxes.{vecAt, aabbAt, boxesOf, countOf, lentFit, numbersOf, writtenBy}
+use Rattle.lent_boxes.specs.Boxes.{vecAt, aabbAt, boxesOf, lentCount, lentFit, numbersOf, writtenBy}
 use Rattle.lent_boxes.specs.Moves.{requestOf, moverRefusal, listRefusal, movedOver, moveListOf}
 
 module _ (boxes mover : List Float) (step : Float) (ground : ℕ) (out : List Float) (n : ℕ) where
@@ -46,11 +46,11 @@ tests true false d true n = refl
 tests true false d false n = refl
 
 module _ (boxes mover : List Float) (step : Float) (ground places : ℕ) (nine : length mover ≡ 9) (sixes : length boxes % 6 ≡ 0) (flag : ground < 2) (wide : 10 ≤ places) where
-  same-refusal : refusalOf (aabbAt mover 0) (vecAt mover 6) step (areBoxes (boxesOf boxes)) (countOf boxes) ≡ listRefusal boxes mover step ground places
+  same-refusal : refusalOf (aabbAt mover 0) (vecAt mover 6) step (areBoxes (boxesOf boxes)) (lentCount boxes) ≡ listRefusal boxes mover step ground places
   unfolding listRefusal moverRefusal lentFit choose
-  same-refusal = rw (eq-eqb _ _ nine, eq-eqb _ _ sixes, lt-ltb _ _ flag, le-ltb _ _ wide) (tests (isStep step) (isBox (aabbAt mover 0)) (isDelta (vecAt mover 6)) (areBoxes (boxesOf boxes)) (choose (ltb room (countOf boxes)) 6 0))
+  same-refusal = rw (eq-eqb _ _ nine, eq-eqb _ _ sixes, lt-ltb _ _ flag, le-ltb _ _ wide) (tests (isStep step) (isBox (aabbAt mover 0)) (isDelta (vecAt mover 6)) (areBoxes (boxesOf boxes)) (choose (ltb room (lentCount boxes)) 6 0))
 
-  pub as-a-list : (l : BoxList) → listOf l ≡ boxesOf boxes → l .count ≡ countOf boxes
+  pub as-a-list : (l : BoxList) → listOf l ≡ boxesOf boxes → l .count ≡ lentCount boxes
       → moveOverList l (aabbAt mover 0) (vecAt mover 6) step (eqb ground 1) ≡ moveListOf boxes mover step ground places
   unfolding moveOverList moveListOf
   as-a-list l el en = rw (el, en) (ap (λ (n : ℕ). movedOver boxes mover step ground n) same-refusal)

@@ -30,11 +30,11 @@ abbrev pub boxOf : List Float → ℕ → Aabb
 boxOf numbers k = aabbAt numbers (k * 6)
 
 -- how many whole boxes there are
-abbrev pub countOf : List Float → ℕ
-countOf numbers = length numbers / 6
+abbrev pub lentCount : List Float → ℕ
+lentCount numbers = length numbers / 6
 
 abbrev pub boxesOf : List Float → List Aabb
-boxesOf numbers = listed (boxOf numbers) (countOf numbers) 0
+boxesOf numbers = listed (boxOf numbers) (lentCount numbers) 0
 
 -- six numbers to a box and none left over, and every one within the limits of a box
 unfoldable pub lentFit : List Float → Bool

@@ -13,7 +13,7 @@ use Rattle.boxes.specs.Lists.{room}
 use Rattle.boxes.specs.Limits.{isBox, isDelta, isStep}
 use Rattle.boxes.specs.Move.{moveOver}
 use Rattle.boxes.specs.Entry.{answerOf}
-use Rattle.lent_boxes.specs.Boxes.{vecAt, aabbAt, countOf, boxesOf, lentFit}
+use Rattle.lent_boxes.specs.Boxes.{vecAt, aabbAt, lentCount, boxesOf, lentFit}
 
 abbrev pub requestOf : List Float → Float → ℕ → Request
 requestOf mover step ground = record { aabb = aabbAt mover 0; delta = vecAt mover 6; step = step; ground = eqb ground 1 }
@@ -32,7 +32,7 @@ listRefusal boxes mover step ground places =
     let early : ℕ = moverRefusal mover step ground (lentFit boxes) in
     choose (not (eqb early 0)) early
     (choose (ltb places 10) 11
-    (choose (ltb room (countOf boxes)) 6
+    (choose (ltb room (lentCount boxes)) 6
     0))
 
 abbrev pub movedOver : List Float → List Float → Float → ℕ → ℕ → MoveAnswer
@@ -45,4 +45,4 @@ moveListOf boxes mover step ground places = movedOver boxes mover step ground (l
 
 -- for any numbers, to be timed beside the original, which refuses nothing: 6 alone
 unfoldable pub moveAnyOf : List Float → List Float → Float → ℕ → MoveAnswer
-moveAnyOf boxes mover step ground = movedOver boxes mover step ground (choose (ltb room (countOf boxes)) 6 0)
+moveAnyOf boxes mover step ground = movedOver boxes mover step ground (choose (ltb room (lentCount boxes)) 6 0)
