@@ -1,0 +1,64 @@
+// What a step comes to, written into lent numbers.
+use step::StepAnswer;
+use tables::LiquidKind;
+ghost use mathlib.Core.Path.{_≡_};
+ghost use lib.IntN.{pos};
+ghost use lib.Ieee.{binary64, ofInt};
+ghost use lib.ListN.{length};
+ghost use Rattle.tables.specs.Tables.{kindNumber};
+ghost use Rattle.lent_steps.specs.Steps.{comesFirst, stepRefusal, stepWritten};
+
+fn kind_number(kind: LiquidKind) -> u32
+    ensures { λ r. ⌜ r ≡ kindNumber kind ⌝ }
+{
+    match kind {
+        LiquidKind::None => 0,
+        LiquidKind::Water => 1,
+        LiquidKind::Lava => 2,
+    }
+}
+
+fn float_of(n: u32) -> f64
+    ensures { λ r. ⌜ r ≡ ofInt binary64 (pos n) ⌝ }
+{
+    n as f64
+}
+
+// 8, and 1 to 4.
+fn comes_first(refusal: u32) -> bool
+    ensures { λ r. ⌜ r ≡ comesFirst refusal ⌝ }
+{
+    if refusal == 8 {
+        return true;
+    }
+    if 1 <= refusal {
+        return refusal <= 4;
+    }
+    false
+}
+
+// Feet, velocity, ground and liquid: eight numbers. It returns 0; or a refusal, and writes nothing. 11 is for less room than eight numbers.
+pub fn step_into(out: &mut [f64], a: StepAnswer) -> u32
+    ensures { λ r. ⌜ r ≡ stepRefusal (length (now (out .entry))) a ⌝ }
+    ensures { λ _. ⌜ now (out .exit) ≡ stepWritten (now (out .entry)) a ⌝ }
+{
+    if comes_first(a.refusal) {
+        return a.refusal;
+    }
+    if out.len() < 8 {
+        return 11;
+    }
+    if a.refusal != 0 {
+        return a.refusal;
+    }
+    let liquid = a.liquid;
+    out[0] = a.motion.feet.x;
+    out[1] = a.motion.feet.y;
+    out[2] = a.motion.feet.z;
+    out[3] = a.motion.velocity.x;
+    out[4] = a.motion.velocity.y;
+    out[5] = a.motion.velocity.z;
+    out[6] = float_of(a.motion.ground);
+    out[7] = float_of(kind_number(liquid));
+    0
+}

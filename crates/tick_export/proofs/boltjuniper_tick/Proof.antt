@@ -1,0 +1,20 @@
+-- `tick_export::boltjuniper_tick` meets its contract. Assumes nothing.
+use borrow.Author.Needs.{needs}
+use Rattle.tick_export.proofs.boltjuniper_tick.Statement.{statement}
+use Rattle.tick_export.proofs.boltjuniper_tick.Tie as tie
+
+tick-of-requires : tie.Need-tick-of-requires
+tick-of-requires c κs = search needs
+
+step-into-requires : tie.Need-step-into-requires
+step-into-requires c κs = search needs
+
+same-length : tie.Need-same-length
+same-length c = search needs
+
+returns : tie.Need-returns
+returns c = rw (← c .before .before .before .before .tick-of .ensures) (c .before .before .step-into .ensures)
+
+pub boltjuniper-tick-spec : {M : Type 1} → statement M
+boltjuniper-tick-spec =
+    tie.close (tie.spec tick-of-requires step-into-requires same-length returns)
