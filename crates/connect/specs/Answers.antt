@@ -8,18 +8,18 @@ use Rattle.window.specs.declared.Pos.{Pos}
 use Rattle.window.specs.declared.Window.{Window}
 use Rattle.window.specs.Look.{lookAt}
 use Rattle.lent.specs.Lent.{sound}
-use Rattle.connect.specs.declared.Told.{Told}
-use Rattle.connect.specs.declared.Told.the-variants.{Is, Refused as ToldRefused}
-use Rattle.connect.specs.declared.Connected.{Connected}
-use Rattle.connect.specs.declared.Connected.the-variants.{State, Refused}
+use Rattle.connect.specs.declared.AskedBool.{AskedBool}
+use Rattle.connect.specs.declared.AskedBool.the-variants.{Is, Refused as BoolRefused}
+use Rattle.connect.specs.declared.AskedState.{AskedState}
+use Rattle.connect.specs.declared.AskedState.the-variants.{State, Refused}
 use Rattle.connect.specs.declared.StateAnswer.{StateAnswer}
 use Rattle.connect.specs.Connect.{connectedState}
 
-abbrev pub yesOrNo : Told → Ask Bool
-yesOrNo (Is b) = found b
-yesOrNo (ToldRefused n) = refused n
+abbrev pub boolAsked : AskedBool → Ask Bool
+boolAsked (Is b) = found b
+boolAsked (BoolRefused n) = refused n
 
-abbrev pub stateAsked : Connected → Ask ℕ
+abbrev pub stateAsked : AskedState → Ask ℕ
 stateAsked (State s) = found s
 stateAsked (Refused n) = refused n
 

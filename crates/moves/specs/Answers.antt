@@ -18,10 +18,10 @@ use Rattle.window.specs.declared.Pos.{Pos}
 use Rattle.window.specs.declared.Window.{Window}
 use Rattle.window.specs.Look.{Block, lookAt}
 use Rattle.lent.specs.Lent.{unless, sound}
-use Rattle.moves.specs.declared.Collision.{Collision}
-use Rattle.moves.specs.declared.Collision.the-variants.{Is, Refused}
-use Rattle.moves.specs.declared.Moved.{Moved}
-use Rattle.moves.specs.declared.Moved.the-variants.{To, Refused as MoveRefused}
+use Rattle.moves.specs.declared.AskedHit.{AskedHit}
+use Rattle.moves.specs.declared.AskedHit.the-variants.{Is, Refused}
+use Rattle.moves.specs.declared.AskedMove.{AskedMove}
+use Rattle.moves.specs.declared.AskedMove.the-variants.{To, Refused as MoveRefused}
 use Rattle.moves.specs.declared.HitAnswer.{HitAnswer}
 use Rattle.moves.specs.Collect.{collectBlockBoxes, collidesWithBlocks}
 
@@ -30,7 +30,7 @@ abbrev pub heldAsked : Ask (List Aabb) → Held
 heldAsked (refused n) = held n []
 heldAsked (found bs) = held 0 bs
 
-abbrev pub hitAsked : Collision → Ask Bool
+abbrev pub hitAsked : AskedHit → Ask Bool
 hitAsked (Is b) = found b
 hitAsked (Refused n) = refused n
 
@@ -44,7 +44,7 @@ moveAabb look records shapes aabb delta stepHeight wasOnGround = do
   boxes ← collectBlockBoxes look records shapes (sweptArea aabb delta stepHeight)
   found (moveOver boxes aabb delta stepHeight wasOnGround)
 
-abbrev pub movedAsked : Moved → Ask MoveResult
+abbrev pub movedAsked : AskedMove → Ask MoveResult
 movedAsked (To m) = found m
 movedAsked (MoveRefused n) = refused n
 

@@ -8,7 +8,7 @@ use boxes::Collected;
 use boxes::MoveAnswer;
 use boxes::MoveResult;
 use boxes::Vec3;
-use connect::Connected;
+use connect::AskedState;
 use ranges::At;
 use ranges::Range;
 use window::Cell;
@@ -39,13 +39,13 @@ enum AskedShape {
     Refused(u32),
 }
 
-pub enum Collision {
+pub enum AskedHit {
     Is(bool),
     Refused(u32),
 }
 
 // A move, or the number of a refusal.
-pub enum Moved {
+pub enum AskedMove {
     To(MoveResult),
     Refused(u32),
 }
@@ -83,8 +83,8 @@ fn part_of(records: &[u32], cells: &[u32], w: Window, p: Pos, id: u32) -> AskedS
 {
     let state = connect::connected_state(records, cells, w, p, id);
     match state {
-        Connected::Refused(n) => AskedShape::Refused(n),
-        Connected::State(s) => {
+        AskedState::Refused(n) => AskedShape::Refused(n),
+        AskedState::State(s) => {
             let first = tables::word(records, s, 7);
             let count = tables::word(records, s, 8);
             AskedShape::Is(Shape {
@@ -223,18 +223,18 @@ pub fn collect(records: &[u32], shapes: &[f32], cells: &[u32], w: Window, area: 
 
 // Whether a block box strictly overlaps the area. It stops at its first hit: no cell after that is asked for. It refuses 5 alone.
 // A collection with room for no box does the same, and its 6 is the hit.
-pub fn collides(records: &[u32], shapes: &[f32], cells: &[u32], w: Window, area: Aabb) -> Collision
+pub fn collides(records: &[u32], shapes: &[f32], cells: &[u32], w: Window, area: Aabb) -> AskedHit
     ensures { λ r. ⌜ hitAsked r ≡ collidesWithBlocks (lookAt (now (cells .entry)) w) (now (records .entry)) (now (shapes .entry)) area ⌝ }
 {
     let none = collect_up_to(0, records, shapes, cells, w, area);
     let refusal = none.refusal;
     if refusal == 0 {
-        return Collision::Is(false);
+        return AskedHit::Is(false);
     }
     if refusal == 6 {
-        return Collision::Is(true);
+        return AskedHit::Is(true);
     }
-    Collision::Refused(refusal)
+    AskedHit::Refused(refusal)
 }
 
 // For hosts: collection, with tables, window and area checked before any cell is asked for.
@@ -262,8 +262,8 @@ pub fn collides_with_blocks(records: &[u32], shapes: &[f32], cells: &[u32], w: W
     if boxes::is_box(area) {
         let told = collides(records, shapes, cells, w, area);
         return match told {
-            Collision::Refused(n) => HitAnswer { refusal: n, hit: false },
-            Collision::Is(b) => HitAnswer { refusal: 0, hit: b },
+            AskedHit::Refused(n) => HitAnswer { refusal: n, hit: false },
+            AskedHit::Is(b) => HitAnswer { refusal: 0, hit: b },
         };
     }
     HitAnswer { refusal: 4, hit: false }
@@ -304,8 +304,8 @@ pub fn move_aabb(records: &[u32], shapes: &[f32], cells: &[u32], w: Window, aabb
         if is_fit(aabb, delta) {
             let told = move_through(records, shapes, cells, w, aabb, delta, step, ground);
             return match told {
-                Moved::Refused(n) => refused_move(n, aabb),
-                Moved::To(m) => MoveAnswer {
+                AskedMove::Refused(n) => refused_move(n, aabb),
+                AskedMove::To(m) => MoveAnswer {
                     refusal: 0,
                     result: m,
                 },

@@ -1,6 +1,6 @@
 // The move of a box through the blocks of a window.
 use crate::AskedShape;
-use crate::Moved;
+use crate::AskedMove;
 use crate::count_of;
 use crate::nth_aabb;
 use crate::part_at;
@@ -23,7 +23,7 @@ fn swept_area(q: Request) -> Aabb
 }
 
 // Collection and passes stand in one function, so that the list is read where it was built: handed on by value, it would be copied.
-fn swept_through(records: &[u32], shapes: &[f32], cells: &[u32], w: Window, q: Request) -> Moved
+fn swept_through(records: &[u32], shapes: &[f32], cells: &[u32], w: Window, q: Request) -> AskedMove
     ensures { λ r. ⌜ movedAsked r ≡ moveAabb (lookAt (now (cells .entry)) w) (now (records .entry)) (now (shapes .entry)) (q .aabb) (q .delta) (q .step) (q .ground) ⌝ }
 {
     let area = swept_area(q);
@@ -34,7 +34,7 @@ fn swept_through(records: &[u32], shapes: &[f32], cells: &[u32], w: Window, q: R
             for z in 0..r.z.count {
                 let p = ranges::place(r, At { x, y, z });
                 let part = match part_at(records, cells, w, p) {
-                    AskedShape::Refused(n) => return Moved::Refused(n),
+                    AskedShape::Refused(n) => return AskedMove::Refused(n),
                     AskedShape::Is(s) => s,
                 };
                 let shape = tables::boxes_at(shapes, part.first, part.count);
@@ -44,7 +44,7 @@ fn swept_through(records: &[u32], shapes: &[f32], cells: &[u32], w: Window, q: R
                     if b.intersects(area) {
                         let i = list.count;
                         if i >= 128 {
-                            return Moved::Refused(6);
+                            return AskedMove::Refused(6);
                         }
                         list.boxes[i] = b;
                         list.count = i + 1;
@@ -66,14 +66,14 @@ fn swept_through(records: &[u32], shapes: &[f32], cells: &[u32], w: Window, q: R
         let first = s.first;
         s = boxes::next(pass, q, first, boxes::gone(pass, axis, now, d));
         if s.over {
-            return Moved::To(boxes::ended(q, s));
+            return AskedMove::To(boxes::ended(q, s));
         }
     }
-    Moved::To(boxes::ended(q, s))
+    AskedMove::To(boxes::ended(q, s))
 }
 
 // The move: step is the step height, ground whether the body was on the ground. It refuses 5 and 6 alone.
-pub fn move_through(records: &[u32], shapes: &[f32], cells: &[u32], w: Window, aabb: Aabb, delta: Vec3, step: f64, ground: bool) -> Moved
+pub fn move_through(records: &[u32], shapes: &[f32], cells: &[u32], w: Window, aabb: Aabb, delta: Vec3, step: f64, ground: bool) -> AskedMove
     ensures { λ r. ⌜ movedAsked r ≡ moveAabb (lookAt (now (cells .entry)) w) (now (records .entry)) (now (shapes .entry)) aabb delta step ground ⌝ }
 {
     let q = Request {

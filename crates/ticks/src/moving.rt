@@ -16,7 +16,7 @@ use liquids::AskedCurrent;
 use flow::AskedLiquid;
 use liquids::AskedKind;
 use ranges::cell_holding;
-use moves::Moved;
+use moves::AskedMove;
 use samples::AskedSupport;
 use tables::LiquidKind;
 use window::Window;
@@ -69,8 +69,8 @@ fn move_on(
     let velocity = drags::pulled(body, flotation, v);
     let told = moves::move_through(records, shapes, cells, w, aabb, velocity, body.step, ground);
     match told {
-        Moved::Refused(n) => AskedTick::Refused(n),
-        Moved::To(m) => {
+        AskedMove::Refused(n) => AskedTick::Refused(n),
+        AskedMove::To(m) => {
             let kept = drags::kept_after(m.moved, velocity);
             let reached = m.aabb.feet();
             after_move(

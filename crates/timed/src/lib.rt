@@ -1,7 +1,7 @@
 // What bench/ times of collection: the move through a window as a step makes it, of which one number is handed back.
 use boxes::Aabb;
 use boxes::Vec3;
-use moves::Moved;
+use moves::AskedMove;
 use window::Pos;
 use window::Sizes;
 use window::Window;
@@ -63,8 +63,8 @@ pub extern "C" fn boltjuniper_way(
     let d = Vec3 { x: dx, y: dy, z: dz };
     let told = moves::move_through(records, shapes, cells, w, a, d, step, ground != 0);
     match told {
-        Moved::Refused(_) => 0.0,
-        Moved::To(m) => {
+        AskedMove::Refused(_) => 0.0,
+        AskedMove::To(m) => {
             let way = m.moved;
             along(way, k)
         }
