@@ -21,13 +21,15 @@ SENTENCES = {
     1: "The tables of blocks break a rule: a count, a limit, a state that leads to another family, a face mask that does not fit its shape.",
     2: "The window breaks a limit, or its cell count is not the product of its sizes.",
     3: "A number of the body or of the rules is not finite or beyond its limit, an enum number is unknown, a yes or no is above 1, or the air state "
-       "has no registered record.",
-    4: "A position or velocity (in direct calls also a box or a delta) is not finite or beyond its limit.",
+       "has no registered record. In a direct call also: not 19 numbers and 6 words.",
+    4: "A position or velocity (in direct calls also a box or a delta) is not finite or beyond its limit. In a direct call also: not nine "
+       "numbers to a mover, or boxes that are not six numbers each.",
     5: "The rules ask for a cell that the window does not hold.",
     6: "More than 128 boxes lie in the way.",
     7: "The flow test meets a state that is not registered. The original program would have ended there.",
     8: "The file is no scene: a mark, number, check, kind, count or unused word is wrong, or blocks are missing or left over.",
     9: "The computed motion is not finite.",
+    11: "In a direct call: the memory lent for the answer is too short.",
 }
 
 
