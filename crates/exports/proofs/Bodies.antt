@@ -14,7 +14,7 @@ use Rattle.window.specs.declared.Window.{Window}
 use Rattle.step.specs.declared.StepAnswer.{StepAnswer}
 use Rattle.step.specs.Answers.{stepAnswer, stepEntry, checkedEntry}
 use Rattle.exports.specs.Room.{shortOf}
-use Rattle.exports.specs.Ticks.{motionAt, bodyAt, rulesAt, bodyRefusal, wholeBody, tickAt, steppedAt, stepAt, checkedAt, stepWritten}
+use Rattle.exports.specs.Ticks.{motionAt, bodyAt, rulesAt, bodyRefusal, wholeBody, tickAt, steppedAt, stepAt, checkedAt, answerWritten}
 use Rattle.exports.proofs.Short.{no-room, no-early, never-0}
 
 module _ (records : List ℕ) (shapes : List Float) (cells : List ℕ) (w : Window) (numbers : List Float) (words : List ℕ) (age : ℕ) where
@@ -43,6 +43,6 @@ module _ (records : List ℕ) (shapes : List Float) (cells : List ℕ) (w : Wind
     -- nothing is written then
     pub short-body : (out : List Float) (r : ℕ) → wholeBody numbers words (length out) ≡ false → r ≡ shortOf lent (bodyRefusal records numbers words)
         → (r ≡ steppedAt lent records shapes cells w numbers words age (length out) .refusal)
-        × (out ≡ stepWritten out (steppedAt lent records shapes cells w numbers words age (length out)))
-    unfolding stepWritten choose
+        × (out ≡ answerWritten out (steppedAt lent records shapes cells w numbers words age (length out)))
+    unfolding answerWritten choose
     short-body out r h e = rw (cases (length out) (lengthsFit numbers words) refl h, never-0 lent (bodyRefusal records numbers words)) (e, refl)

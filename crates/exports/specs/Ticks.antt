@@ -24,6 +24,7 @@ use Rattle.step.specs.declared.Tick.{Tick}
 use Rattle.step.specs.Answers.{finiteTick, stepAnswer}
 use Rattle.step.specs.Step.{stepBodySensed}
 use Rattle.exports.specs.Room.{roomy}
+use Rattle.lent_steps.specs.Steps.{stepNumbers}
 
 -- ---- what is handed over
 
@@ -64,13 +65,6 @@ checkedAt records shapes cells w numbers words age places = steppedAt 0 records 
 
 -- ---- what is handed back
 
--- feet, velocity, ground, and the liquid: 0 none, 1 water, 2 lava; eight numbers
-abbrev pub stepNumbers : StepAnswer → List Float
-stepNumbers a =
-    a .motion .feet .x ∷ a .motion .feet .y ∷ a .motion .feet .z
-    ∷ a .motion .velocity .x ∷ a .motion .velocity .y ∷ a .motion .velocity .z
-    ∷ ofInt binary64 (pos (a .motion .ground)) ∷ ofInt binary64 (pos (kindNumber (a .liquid))) ∷ []
-
 -- a refusal writes nothing: what the host has stays as it is
-unfoldable pub stepWritten : List Float → StepAnswer → List Float
-stepWritten out a = choose (eqb (a .refusal) 0) (stored out 0 (stepNumbers a)) out
+unfoldable pub answerWritten : List Float → StepAnswer → List Float
+answerWritten out a = choose (eqb (a .refusal) 0) (stored out 0 (stepNumbers a)) out

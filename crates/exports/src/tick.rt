@@ -1,17 +1,11 @@
 // The step, in lent numbers.
 use crate::room::short_of;
-use lent_boxes::put;
-use lent_boxes::put_vec;
+use lent_steps::put_step;
 use step::StepAnswer;
-use tables::LiquidKind;
 ghost use mathlib.Core.Path.{_≡_};
-ghost use lib.IntN.{pos};
 ghost use lib.ListN.{length};
-ghost use lib.Ieee.{binary64, ofInt};
-ghost use Rattle.tables.specs.Tables.{kindNumber};
-ghost use Rattle.base.specs.Loop.{stored};
 ghost use Rattle.window.specs.Numbers.{windowOf};
-ghost use Rattle.exports.specs.Ticks.{bodyRefusal, checkedAt, stepAt, stepNumbers, stepWritten, wholeBody};
+ghost use Rattle.exports.specs.Ticks.{bodyRefusal, checkedAt, stepAt, answerWritten, wholeBody};
 
 fn whole_body(numbers: &[f64], words: &[u32], places: usize) -> bool
     ensures { λ r. ⌜ r ≡ wholeBody (now (numbers .entry)) (now (words .entry)) places ⌝ }
@@ -32,36 +26,9 @@ fn body_refusal(records: &[u32], numbers: &[f64], words: &[u32]) -> u32
     3
 }
 
-fn kind_number(kind: LiquidKind) -> u32
-    ensures { λ r. ⌜ r ≡ kindNumber kind ⌝ }
-{
-    match kind {
-        LiquidKind::None => 0,
-        LiquidKind::Water => 1,
-        LiquidKind::Lava => 2,
-    }
-}
-
-fn float_of(n: u32) -> f64
-    ensures { λ r. ⌜ r ≡ ofInt binary64 (pos n) ⌝ }
-{
-    n as f64
-}
-
-// Eight numbers, as `stepNumbers` has them.
-fn put_step(out: &mut [f64], a: StepAnswer)
-    ensures { λ _. ⌜ now (out .exit) ≡ stored (now (out .entry)) 0 (stepNumbers a) ⌝ }
-{
-    let liquid = a.liquid;
-    put_vec(out, 0, a.motion.feet);
-    put_vec(out, 3, a.motion.velocity);
-    put(out, 6, float_of(a.motion.ground));
-    put(out, 7, float_of(kind_number(liquid)));
-}
-
 fn answer_into(out: &mut [f64], a: StepAnswer) -> u32
     ensures { λ r. ⌜ r ≡ a .refusal ⌝ }
-    ensures { λ _. ⌜ now (out .exit) ≡ stepWritten (now (out .entry)) a ⌝ }
+    ensures { λ _. ⌜ now (out .exit) ≡ answerWritten (now (out .entry)) a ⌝ }
 {
     if a.refusal != 0 {
         return a.refusal;
@@ -91,7 +58,7 @@ pub extern "C" fn boltjuniper_step(
     out: &mut [f64],
 ) -> u32
     ensures { λ r. ⌜ r ≡ stepAt (now (records .entry)) (now (shapes .entry)) (now (cells .entry)) (windowOf ox oy oz sx sy sz) (now (numbers .entry)) (now (words .entry)) age (length (now (out .entry))) .refusal ⌝ }
-    ensures { λ _. ⌜ now (out .exit) ≡ stepWritten (now (out .entry)) (stepAt (now (records .entry)) (now (shapes .entry)) (now (cells .entry)) (windowOf ox oy oz sx sy sz) (now (numbers .entry)) (now (words .entry)) age (length (now (out .entry)))) ⌝ }
+    ensures { λ _. ⌜ now (out .exit) ≡ answerWritten (now (out .entry)) (stepAt (now (records .entry)) (now (shapes .entry)) (now (cells .entry)) (windowOf ox oy oz sx sy sz) (now (numbers .entry)) (now (words .entry)) age (length (now (out .entry)))) ⌝ }
 {
     let w = window::window_of(ox, oy, oz, sx, sy, sz);
     if whole_body(numbers, words, out.len()) {
@@ -123,7 +90,7 @@ pub extern "C" fn boltjuniper_step_checked(
     out: &mut [f64],
 ) -> u32
     ensures { λ r. ⌜ r ≡ checkedAt (now (records .entry)) (now (shapes .entry)) (now (cells .entry)) (windowOf ox oy oz sx sy sz) (now (numbers .entry)) (now (words .entry)) age (length (now (out .entry))) .refusal ⌝ }
-    ensures { λ _. ⌜ now (out .exit) ≡ stepWritten (now (out .entry)) (checkedAt (now (records .entry)) (now (shapes .entry)) (now (cells .entry)) (windowOf ox oy oz sx sy sz) (now (numbers .entry)) (now (words .entry)) age (length (now (out .entry)))) ⌝ }
+    ensures { λ _. ⌜ now (out .exit) ≡ answerWritten (now (out .entry)) (checkedAt (now (records .entry)) (now (shapes .entry)) (now (cells .entry)) (windowOf ox oy oz sx sy sz) (now (numbers .entry)) (now (words .entry)) age (length (now (out .entry)))) ⌝ }
 {
     let w = window::window_of(ox, oy, oz, sx, sy, sz);
     if whole_body(numbers, words, out.len()) {

@@ -1,12 +1,15 @@
 // What a step comes to, written into lent numbers.
+use lent_boxes::put;
+use lent_boxes::put_vec;
 use step::StepAnswer;
 use tables::LiquidKind;
 ghost use mathlib.Core.Path.{_≡_};
 ghost use lib.IntN.{pos};
 ghost use lib.Ieee.{binary64, ofInt};
 ghost use lib.ListN.{length};
+ghost use Rattle.base.specs.Loop.{stored};
 ghost use Rattle.tables.specs.Tables.{kindNumber};
-ghost use Rattle.lent_steps.specs.Steps.{comesFirst, stepRefusal, stepWritten};
+ghost use Rattle.lent_steps.specs.Steps.{stepNumbers, comesFirst, stepRefusal, stepWritten};
 
 fn kind_number(kind: LiquidKind) -> u32
     ensures { λ r. ⌜ r ≡ kindNumber kind ⌝ }
@@ -37,6 +40,17 @@ fn comes_first(refusal: u32) -> bool
     false
 }
 
+// Eight numbers, as `stepNumbers` has them; one whose place is not there is dropped.
+pub fn put_step(out: &mut [f64], a: StepAnswer)
+    ensures { λ _. ⌜ now (out .exit) ≡ stored (now (out .entry)) 0 (stepNumbers a) ⌝ }
+{
+    let liquid = a.liquid;
+    put_vec(out, 0, a.motion.feet);
+    put_vec(out, 3, a.motion.velocity);
+    put(out, 6, float_of(a.motion.ground));
+    put(out, 7, float_of(kind_number(liquid)));
+}
+
 // Feet, velocity, ground and liquid: eight numbers. It returns 0; or a refusal, and writes nothing. 11 is for less room than eight numbers.
 pub fn step_into(out: &mut [f64], a: StepAnswer) -> u32
     ensures { λ r. ⌜ r ≡ stepRefusal (length (now (out .entry))) a ⌝ }
@@ -51,14 +65,6 @@ pub fn step_into(out: &mut [f64], a: StepAnswer) -> u32
     if a.refusal != 0 {
         return a.refusal;
     }
-    let liquid = a.liquid;
-    out[0] = a.motion.feet.x;
-    out[1] = a.motion.feet.y;
-    out[2] = a.motion.feet.z;
-    out[3] = a.motion.velocity.x;
-    out[4] = a.motion.velocity.y;
-    out[5] = a.motion.velocity.z;
-    out[6] = float_of(a.motion.ground);
-    out[7] = float_of(kind_number(liquid));
+    put_step(out, a);
     0
 }

@@ -1,4 +1,4 @@
-// One tick of a scene file, for a host in another language.
+// One tick of a scene file.
 ghost use mathlib.Core.Path.{_≡_};
 ghost use lib.ListN.{length};
 ghost use Rattle.lent_steps.specs.Steps.{stepRefusal, stepWritten};

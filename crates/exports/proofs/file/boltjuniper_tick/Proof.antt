@@ -1,7 +1,7 @@
--- `tick_export::boltjuniper_tick` meets its contract. Assumes nothing.
+-- `exports::file::boltjuniper_tick` meets its contract. Assumes nothing.
 use borrow.Author.Needs.{needs}
-use Rattle.tick_export.proofs.boltjuniper_tick.Statement.{statement}
-use Rattle.tick_export.proofs.boltjuniper_tick.Tie as tie
+use Rattle.exports.proofs.file.boltjuniper_tick.Statement.{statement}
+use Rattle.exports.proofs.file.boltjuniper_tick.Tie as tie
 
 tick-of-requires : tie.Need-tick-of-requires
 tick-of-requires c κs = search needs

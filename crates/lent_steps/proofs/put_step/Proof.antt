@@ -1,8 +1,8 @@
--- `exports::tick::put_step` meets its contract. Assumes nothing.
+-- `lent_steps::put_step` meets its contract. Assumes nothing.
 use Rattle.base.specs.Loop.{stored}
 use borrow.Author.Needs.{needs}
-use Rattle.exports.proofs.tick.put_step.Statement.{statement}
-use Rattle.exports.proofs.tick.put_step.Tie as tie
+use Rattle.lent_steps.proofs.put_step.Statement.{statement}
+use Rattle.lent_steps.proofs.put_step.Tie as tie
 
 put-vec-requires : tie.Need-put-vec-requires
 put-vec-requires c κs = search needs
