@@ -52,6 +52,11 @@ uint32_t boltjuniper_step_checked(const uint32_t *records, size_t records_len, c
                                   const double *numbers, size_t numbers_len, const uint32_t *words, size_t words_len, uint64_t age, double *out,
                                   size_t out_len);
 
+/* One tick of the scene in file (blocks of 512 bytes, as onetick reads them). It writes feet, velocity, ground and liquid to out, eight numbers,
+   and returns 0; or it returns a refusal and writes nothing: 8 where the file is no scene, then 1 to 4, then 11 where out_len is below 8, then
+   5, 6, 7 or 9. It keeps three arrays of 15,744 words of the file on the stack, some 190 KB: call it from a thread that has them. */
+uint32_t boltjuniper_tick(const uint8_t *file, size_t file_len, double *out, size_t out_len);
+
 /* The move of a box through a window: takes tables, a window, `mover` (the box x0 y0 z0 x1 y1 z1, then its delta x y z: nine numbers), the
    step height, and whether the body was on the ground (0 or 1). Writes ten numbers to `out`: the box after the move, the way that it went
    x y z, and 1 where it came to stand on the ground, else 0. Returns 0; or 1, 2, 3 (the step height, or a ground above 1), 4 (the box or the
