@@ -30,10 +30,10 @@ use Rattle.ranges.specs.Ranges.{placeAt}
 use Rattle.ranges.specs.Walk.{line, layer, walk}
 use Rattle.moves.specs.Collect.{cellShape, offer, offerAll, visit, push, rangeOf, collectUpTo}
 use Rattle.tables.specs.Tables.{boxesAt}
-use Rattle.moves.specs.declared.Shape.{Shape}
-use Rattle.moves.specs.Parts.{shapeIn, countOf, nthAabb}
+use Rattle.solids.specs.declared.Shape.{Shape}
+use Rattle.solids.specs.Parts.{shapeIn, countOf, nthAabb}
 use Rattle.moves.specs.Answers.{heldAsked, sweptArea, moveAabb}
-use Rattle.moves.proofs.Boxes.{listed-all}
+use Rattle.solids.proofs.Boxes.{listed-all}
 
 -- ---- one after the other
 then-then : {S R : Type 0} (m : Ask (Turn S R)) (k l : S → Ask (Turn S R)) → ((m >>= onward k) >>= onward l) ≡ (m >>= onward (λ s. k s >>= onward l))

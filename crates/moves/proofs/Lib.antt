@@ -1,5 +1,4 @@
 -- The laws of collection.
-pub mod Boxes
 pub mod Collects
 pub mod Refuses
 pub mod Order

@@ -1,15 +1,12 @@
 // The move of a box through the blocks of a window.
-use crate::AskedShape;
 use crate::AskedMove;
-use crate::count_of;
-use crate::nth_aabb;
-use crate::part_at;
 use crate::range_of;
 use boxes::Aabb;
 use boxes::BoxList;
 use boxes::Request;
 use boxes::Vec3;
 use ranges::At;
+use solids::AskedShape;
 use window::Window;
 ghost use mathlib.Core.Path.{_≡_};
 ghost use Rattle.window.specs.Look.{lookAt};
@@ -33,14 +30,14 @@ fn swept_through(records: &[u32], shapes: &[f32], cells: &[u32], w: Window, q: R
         for x in 0..r.x.count {
             for z in 0..r.z.count {
                 let p = ranges::place(r, At { x, y, z });
-                let part = match part_at(records, cells, w, p) {
+                let part = match solids::part_at(records, cells, w, p) {
                     AskedShape::Refused(n) => return AskedMove::Refused(n),
                     AskedShape::Is(s) => s,
                 };
                 let shape = tables::boxes_at(shapes, part.first, part.count);
-                let n = count_of(part.cube, part.count, shape);
+                let n = solids::count_of(part.cube, part.count, shape);
                 for k in 0..n {
-                    let b = nth_aabb(part.cube, shape, p, k);
+                    let b = solids::nth_aabb(part.cube, shape, p, k);
                     if b.intersects(area) {
                         let i = list.count;
                         if i >= 128 {

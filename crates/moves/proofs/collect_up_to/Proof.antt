@@ -10,7 +10,7 @@ use Rattle.boxes.specs.declared.BoxList.{BoxList}
 use Rattle.boxes.specs.Lists.{room}
 use Rattle.window.specs.Look.{lookAt}
 use Rattle.moves.specs.Collect.{push, cellShape}
-use Rattle.moves.specs.Parts.{nthAabb, shapeAsked}
+use Rattle.solids.specs.Parts.{nthAabb, shapeAsked}
 use Rattle.moves.proofs.Collects.{Room, all, layersFrom, linesFrom, cellsFrom, boxesFrom, walk-begins, layer-begins, line-begins, cell-begins, cell-refused, box-next, boxes-end, cells-end, lines-end, layers-end, kept, passed, box-refused, full, empty-list, collected, not-collected}
 use borrow.Author.Needs.{needs}
 use Rattle.moves.proofs.collect_up_to.Statement.{statement}

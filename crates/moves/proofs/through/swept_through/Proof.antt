@@ -14,7 +14,7 @@ use Rattle.boxes.specs.Passes.{clipAlong, passesFrom, sweepOf}
 use Rattle.boxes.proofs.Turns.{clip-turn, made, pass-on, pass-over, passes-end}
 use Rattle.window.specs.Look.{lookAt}
 use Rattle.moves.specs.Collect.{push, cellShape}
-use Rattle.moves.specs.Parts.{nthAabb, shapeAsked}
+use Rattle.solids.specs.Parts.{nthAabb, shapeAsked}
 use Rattle.moves.proofs.Collects.{Room, all, layersFrom, linesFrom, cellsFrom, boxesFrom, walk-begins, layer-begins, line-begins, cell-begins, cell-refused, box-next, boxes-end, cells-end, lines-end, layers-end, kept, passed, box-refused, full, empty-list, fully, moved, not-moved}
 use borrow.Author.Needs.{needs}
 use Rattle.moves.proofs.through.swept_through.Statement.{statement}

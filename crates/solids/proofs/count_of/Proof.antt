@@ -1,9 +1,9 @@
--- `moves::count_of` meets its contract. Assumes nothing.
-use Rattle.moves.specs.Parts.{countOf}
+-- `solids::count_of` meets its contract. Assumes nothing.
+use Rattle.solids.specs.Parts.{countOf}
 use Rattle.base.specs.Choose.{choose}
 use borrow.Author.Tests.{eq-eqb, ne-eqb}
-use Rattle.moves.proofs.count_of.Statement.{statement}
-use Rattle.moves.proofs.count_of.Tie as tie
+use Rattle.solids.proofs.count_of.Statement.{statement}
+use Rattle.solids.proofs.count_of.Tie as tie
 
 returns : tie.Need-returns
 unfolding countOf choose

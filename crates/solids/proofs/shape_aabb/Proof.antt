@@ -1,7 +1,7 @@
--- `moves::shape_aabb` meets its contract. Assumes nothing.
+-- `solids::shape_aabb` meets its contract. Assumes nothing.
 use borrow.Author.Needs.{needs}
-use Rattle.moves.proofs.shape_aabb.Statement.{statement}
-use Rattle.moves.proofs.shape_aabb.Tie as tie
+use Rattle.solids.proofs.shape_aabb.Statement.{statement}
+use Rattle.solids.proofs.shape_aabb.Tie as tie
 
 box-at-requires : tie.Need-box-at-requires
 box-at-requires c κs = search needs

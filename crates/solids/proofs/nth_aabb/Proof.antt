@@ -1,9 +1,9 @@
--- `moves::nth_aabb` meets its contract. Assumes nothing.
+-- `solids::nth_aabb` meets its contract. Assumes nothing.
 use Rattle.base.specs.Choose.{choose}
-use Rattle.moves.specs.Parts.{nthAabb}
+use Rattle.solids.specs.Parts.{nthAabb}
 use borrow.Author.Needs.{needs}
-use Rattle.moves.proofs.nth_aabb.Statement.{statement}
-use Rattle.moves.proofs.nth_aabb.Tie as tie
+use Rattle.solids.proofs.nth_aabb.Statement.{statement}
+use Rattle.solids.proofs.nth_aabb.Tie as tie
 
 cube-at-requires : tie.Need-cube-at-requires
 cube-at-requires c κs = search needs

@@ -1,7 +1,7 @@
--- `moves::cube_at` meets its contract. Assumes nothing.
+-- `solids::cube_at` meets its contract. Assumes nothing.
 use borrow.Author.Needs.{needs}
-use Rattle.moves.proofs.cube_at.Statement.{statement}
-use Rattle.moves.proofs.cube_at.Tie as tie
+use Rattle.solids.proofs.cube_at.Statement.{statement}
+use Rattle.solids.proofs.cube_at.Tie as tie
 
 origin-of-requires : tie.Need-origin-of-requires
 origin-of-requires c κs = search needs

@@ -19,9 +19,9 @@ use Rattle.tables.specs.Tables.{wordAt, isRegistered, headAt, boxesAt}
 use Rattle.window.specs.declared.Pos.{Pos}
 use Rattle.window.specs.Look.{Block, some}
 use Rattle.connect.specs.Connect.{connectKind, connectedState}
-use Rattle.moves.specs.declared.Shape.{Shape}
-use Rattle.moves.specs.Collect.{CellShape, cube, boxes, aabbsOf, connectedShape, shapeOf}
-use Rattle.moves.specs.Parts.{shapeIn, countOf, nthAabb}
+use Rattle.solids.specs.declared.Shape.{Shape}
+use Rattle.solids.specs.Shapes.{CellShape, cube, boxes, aabbsOf, connectedShape, shapeOf}
+use Rattle.solids.specs.Parts.{shapeIn, countOf, nthAabb}
 
 -- a record that is registered
 pub head-registered : (records : List ℕ) (id : ℕ) (h : Head) → h ≡ headAt records id → isRegistered records id ≡ h .registered

@@ -1,4 +1,4 @@
--- How the program gets at the boxes of a cell: one by one, by number. No contract of a public function cites this file.
+-- How the program gets at the boxes of a cell: one by one, by number. No contract of a host's function cites this file.
 use mathlib.Core.Bool.{Bool}
 use mathlib.Core.List.{List}
 use Prim.Native.Nat.{ℕ}
@@ -11,10 +11,10 @@ use Rattle.boxes.specs.declared.Aabb.{Aabb}
 use Rattle.boxes.specs.Boxes.{offsetBy}
 use Rattle.tables.specs.Tables.{boxAt}
 use Rattle.window.specs.declared.Pos.{Pos}
-use Rattle.moves.specs.declared.Shape.{Shape}
-use Rattle.moves.specs.declared.AskedShape.{AskedShape}
-use Rattle.moves.specs.declared.AskedShape.the-variants.{Is, Refused}
-use Rattle.moves.specs.Collect.{CellShape, cube, boxes, cubeAt, toAabb, originOf}
+use Rattle.solids.specs.declared.Shape.{Shape}
+use Rattle.solids.specs.declared.AskedShape.{AskedShape}
+use Rattle.solids.specs.declared.AskedShape.the-variants.{Is, Refused}
+use Rattle.solids.specs.Shapes.{CellShape, cube, boxes, cubeAt, toAabb, originOf}
 
 abbrev pub shapeIn : Shape → CellShape
 shapeIn q = choose (q .cube) cube (boxes (q .first) (q .count))

@@ -1,9 +1,9 @@
--- `moves::part_of` meets its contract. Assumes nothing.
-use Rattle.moves.specs.Collect.{connectedShape}
+-- `solids::part_of` meets its contract. Assumes nothing.
+use Rattle.solids.specs.Shapes.{connectedShape}
 use Rattle.base.specs.Choose.{choose}
 use borrow.Author.Needs.{needs}
-use Rattle.moves.proofs.part_of.Statement.{statement}
-use Rattle.moves.proofs.part_of.Tie as tie
+use Rattle.solids.proofs.part_of.Statement.{statement}
+use Rattle.solids.proofs.part_of.Tie as tie
 
 connected-state-requires : tie.Need-connected-state-requires
 connected-state-requires c κs = search needs

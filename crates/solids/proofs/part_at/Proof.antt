@@ -1,11 +1,11 @@
--- `moves::part_at` meets its contract. Assumes nothing.
+-- `solids::part_at` meets its contract. Assumes nothing.
 use mathlib.Core.Path.{sym}
-use Rattle.moves.specs.Collect.{cellShape, shapeOf}
+use Rattle.solids.specs.Shapes.{cellShape, shapeOf}
 use Rattle.base.specs.Choose.{choose}
 use borrow.Author.Needs.{needs}
-use Rattle.moves.proofs.Boxes.{head-registered, plain-shape}
-use Rattle.moves.proofs.part_at.Statement.{statement}
-use Rattle.moves.proofs.part_at.Tie as tie
+use Rattle.solids.proofs.Boxes.{head-registered, plain-shape}
+use Rattle.solids.proofs.part_at.Statement.{statement}
+use Rattle.solids.proofs.part_at.Tie as tie
 
 look-requires : tie.Need-look-requires
 look-requires c κs = search needs
