@@ -1,8 +1,5 @@
 -- `lent_steps::step_into` meets its contract. Assumes nothing.
 use mathlib.Core.Path.{sym, _∙_}
-use lib.ListN.{length-set}
-use native.Mathlib.Omega.{arith}
-use Rattle.base.specs.Loop.{stored}
 use Rattle.lent_steps.proofs.Refusals.{early, short, late, accepted}
 use borrow.Author.Needs.{needs}
 use Rattle.lent_steps.proofs.step_into.Statement.{statement}
@@ -27,7 +24,14 @@ same-length : tie.Need-same-length
 same-length c = search needs
 
 returns-4 : tie.Need-returns-4
-returns-4 c = ?
+returns-4 c =
+    let put = c .before .before in
+    let late = c .before .before .before .before in
+    let wide = late .before .before in
+    let first = wide .before .before in
+    let a = first .before .before .args in
+    let t = accepted (a .out .now) (a .a) (sym (first .comes-first .ensures) ∙ wide .before .if1 .left) (wide .if2 .left) (late .if3 .left) in
+    (t .refusal, put .put-step .ensures ∙ t .numbers)
 
 pub step-into-spec : {M : Type 1} → statement M
 step-into-spec =
