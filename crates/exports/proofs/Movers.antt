@@ -11,7 +11,7 @@ use Rattle.base.specs.Ask.{Ask, refused}
 use Rattle.base.proofs.Every.{both}
 use Rattle.boxes.specs.declared.MoveResult.{MoveResult}
 use Rattle.boxes.specs.Limits.{isBox, isDelta, isStep}
-use Rattle.tables.specs.Check.{tablesFit}
+use Rattle.table_check.specs.Check.{tablesFit}
 use Rattle.lent.specs.Lent.{lentRefusal, sound, unless}
 use Rattle.lent_boxes.specs.Boxes.{vecAt, aabbAt, writtenBy}
 use Rattle.lent_boxes.specs.Moves.{moverRefusal}

@@ -18,7 +18,7 @@ ghost use mathlib.Core.Path.{_≡_};
 ghost use Rattle.floats.specs.Numbers.{isFinite, answerWhere};
 ghost use Rattle.floats.specs.Whole.{floorOf, ceilOf, cellOf};
 ghost use Rattle.floats.specs.Root.{hasRoot, rootOf};
-ghost use Rattle.tables.specs.Check.{tableRefusal};
+ghost use Rattle.table_check.specs.Check.{tableRefusal};
 
 // Floor, ceiling, root and cell, to be timed alone: a refusal hands back zero, as module 1 has it.
 
@@ -57,5 +57,5 @@ pub extern "C" fn boltjuniper_cell(x: f64) -> i32
 pub extern "C" fn boltjuniper_check_tables(records: &[u32], shapes: &[f32]) -> u32
     ensures { λ r. ⌜ r ≡ tableRefusal (now (records .entry)) (now (shapes .entry)) ⌝ }
 {
-    tables::check_tables(records, shapes)
+    table_check::check_tables(records, shapes)
 }

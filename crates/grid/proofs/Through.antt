@@ -20,7 +20,7 @@ use Rattle.boxes.specs.declared.MoveAnswer.{MoveAnswer}
 use Rattle.boxes.specs.Boxes.{overlap}
 use Rattle.boxes.specs.Move.{moveOver}
 use Rattle.boxes.specs.Limits.{isBox, isDelta, isStep}
-use Rattle.tables.specs.Check.{tableRefusal}
+use Rattle.table_check.specs.Check.{tableRefusal}
 use Rattle.window.specs.declared.Pos.{Pos}
 use Rattle.window.specs.declared.Window.{Window}
 use Rattle.window.specs.Window.{windowFits, windowRefusal}

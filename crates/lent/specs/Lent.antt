@@ -8,7 +8,7 @@ use lib.Ieee.{Float}
 use Rattle.base.specs.Choose.{choose}
 use Rattle.base.specs.Ask.{Ask}
 pub use Rattle.base.specs.Ask.{unless}
-use Rattle.tables.specs.Check.{tableRefusal}
+use Rattle.table_check.specs.Check.{tableRefusal}
 use Rattle.window.specs.declared.Window.{Window}
 use Rattle.window.specs.Window.{windowRefusal}
 

@@ -21,8 +21,8 @@ use Rattle.cover.specs.Gaps.{coversBySearch}
 use Rattle.cover.proofs.Examples.{allFit, full-search}
 use Rattle.tables.specs.Tables as B
 use Rattle.tables.specs.Tables.{wordAt, boxesAt, stateBoxes}
-use Rattle.tables.specs.Check as K
-use Rattle.tables.specs.Check.{tablesFit, tableRefusal}
+use Rattle.table_check.specs.Check as K
+use Rattle.table_check.specs.Check.{tablesFit, tableRefusal}
 use Rattle.small_scenes.specs.Palette as P
 
 -- ---- a state's boxes are f32s where all are

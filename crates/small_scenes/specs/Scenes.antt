@@ -15,7 +15,7 @@ use Rattle.boxes.specs.Entry.{moveOverList}
 use Rattle.tables.specs.declared.LiquidKind.{LiquidKind}
 use Rattle.tables.specs.declared.LiquidKind.the-variants.{None, Water}
 use Rattle.tables.specs.Tables.{kindNumber}
-use Rattle.tables.specs.Check.{tableRefusal}
+use Rattle.table_check.specs.Check.{tableRefusal}
 use Rattle.window.specs.declared.Window.{Window}
 use Rattle.window.specs.Window.{windowRefusal}
 use Rattle.window.specs.Look.{lookAt}

@@ -11,7 +11,7 @@ use lib.Ieee.{Float}
 use Rattle.base.specs.Choose.{choose}
 use Rattle.base.specs.Ask.{Ask, refused, found}
 use Rattle.window.specs.declared.Window.{Window}
-use Rattle.tables.specs.Check.{tablesFit}
+use Rattle.table_check.specs.Check.{tablesFit}
 use Rattle.window.specs.Window.{windowFits, windowRefusal}
 use Rattle.lent.specs.Lent.{unless, lentRefusal}
 use Rattle.moves.proofs.Refuses.{Refuses, wider, finds, names, either, after}

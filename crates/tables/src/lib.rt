@@ -1,11 +1,8 @@
-// The lent tables: records of 20 words, boxes of six numbers, and their check.
+// The lent tables: records of 20 words, boxes of six numbers, and look-ups into both.
 ghost use mathlib.Core.Path.{_≡_};
 ghost use lib.ListN.{getD};
 ghost use lib.Ieee.{ofBits, binary32};
 ghost use Rattle.tables.specs.Tables.{wordAt, isRegistered, headOf, headAt, blocksMotion, frictionAt, kindOf, liquidOf, liquidAt, boxesAt, stateBoxes, floatAt, shapeBoxOf, boxAt};
-ghost use Rattle.tables.specs.Check.{tableRefusal};
-
-mod check;
 
 // A kind of liquid, in the order of word 2's numbers.
 pub enum LiquidKind {
@@ -257,15 +254,4 @@ pub fn box_at(shape: &[f32], k: u32) -> ShapeBox
         );
     }
     cut_box(shape, k)
-}
-
-// The table check: 0 where every rule and limit of the lent tables holds, and 1 where one breaks.
-pub fn check_tables(records: &[u32], shapes: &[f32]) -> u32
-    ensures { λ r. ⌜ r ≡ tableRefusal (now (records .entry)) (now (shapes .entry)) ⌝ }
-{
-    if check::tables_fit(records, shapes) {
-        0
-    } else {
-        1
-    }
 }
