@@ -9,7 +9,7 @@ use lib.Ieee.{Float}
 use Rattle.base.specs.Choose.{choose}
 use Rattle.base.specs.Ask.{Ask, refused}
 use Rattle.base.proofs.Every.{both}
-use Rattle.boxes.specs.declared.MoveResult.{MoveResult}
+use Rattle.sweeps.specs.declared.MoveResult.{MoveResult}
 use Rattle.boxes.specs.Limits.{isBox, isDelta, isStep}
 use Rattle.table_check.specs.Check.{tablesFit}
 use Rattle.lent.specs.Lent.{lentRefusal, sound, unless}

@@ -6,7 +6,7 @@ use Prim.Native.Nat.{ℕ}
 use lib.Dec.{eqb, leb, ltb}
 use lib.ListN.{length}
 use lib.Ieee.{Float}
-use Rattle.boxes.specs.declared.MoveAnswer.{MoveAnswer}
+use Rattle.sweeps.specs.declared.MoveAnswer.{MoveAnswer}
 use Rattle.lent.specs.Lent.{lentRefusal}
 use Rattle.lent_boxes.specs.Boxes.{vecAt, aabbAt}
 use Rattle.lent_boxes.specs.Moves.{moverRefusal}

@@ -13,7 +13,7 @@ use Rattle.base.proofs.Tests.{leb-not, and-is, or-is, neither}
 use Rattle.floats.specs.Numbers.{zero64, leastOf, greatestOf}
 use Rattle.boxes.specs.declared.Aabb.{Aabb}
 use Rattle.boxes.specs.Boxes.{meet, overlap, apart, stopAt, clipX, clipY, clipZ}
-use Rattle.boxes.specs.Move.{clipAll}
+use Rattle.sweeps.specs.Move.{clipAll}
 use Rattle.grid.specs.Demand.{movedX, movedY, movedZ}
 use Rattle.grid.proofs.Units.{At, add-at, sub-at, at-same, lt-is, le-is}
 use Rattle.grid.proofs.Axis.{Span, meets, meets→, →meets, slid, clip, clips}

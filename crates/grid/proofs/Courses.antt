@@ -14,10 +14,10 @@ use Rattle.base.proofs.Tests.{or-l, or-r, or-split}
 use Rattle.floats.specs.Numbers.{zero64}
 use Rattle.boxes.specs.declared.Vec3.{Vec3}
 use Rattle.boxes.specs.declared.Aabb.{Aabb}
-use Rattle.boxes.specs.declared.Swept.{Swept}
-use Rattle.boxes.specs.declared.MoveResult.{MoveResult}
+use Rattle.sweeps.specs.declared.Swept.{Swept}
+use Rattle.sweeps.specs.declared.MoveResult.{MoveResult}
 use Rattle.boxes.specs.Boxes.{vec, overlap, clipX, clipY, clipZ}
-use Rattle.boxes.specs.Move.{clipAll, clipSequence, steppedUp, flatSquare, triesStep, stoppedFalling, moveOver}
+use Rattle.sweeps.specs.Move.{clipAll, clipSequence, steppedUp, flatSquare, triesStep, stoppedFalling, moveOver}
 use Rattle.grid.specs.Grid.{onGrid}
 use Rattle.grid.specs.Demand.{between, gridUnit, further, Struck, Travels, movedX, movedY, movedZ, Farthest, Demand3, keepsStep}
 use Rattle.grid.specs.Demand as D

@@ -13,10 +13,10 @@ use Rattle.base.specs.Ask as A
 use Rattle.base.specs.Every as Y
 use Rattle.floats.specs.Numbers as N
 use Rattle.floats.specs.Whole as H
-use Rattle.boxes.specs.declared.MoveAnswer.{MoveAnswer}
-use Rattle.boxes.specs.Move as M
+use Rattle.sweeps.specs.declared.MoveAnswer.{MoveAnswer}
+use Rattle.sweeps.specs.Move as M
 use Rattle.boxes.specs.Limits as L
-use Rattle.boxes.specs.Entry as E
+use Rattle.sweeps.specs.Entry as E
 use Rattle.tables.specs.Tables as B
 use Rattle.window.specs.Window as W
 use Rattle.window.specs.Look as U

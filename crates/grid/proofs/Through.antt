@@ -15,10 +15,10 @@ use Rattle.base.specs.Ask.{Ask, refused, found, _>>=_}
 use Rattle.base.proofs.Tests.{no-not}
 use Rattle.boxes.specs.declared.Vec3.{Vec3}
 use Rattle.boxes.specs.declared.Aabb.{Aabb}
-use Rattle.boxes.specs.declared.MoveResult.{MoveResult}
-use Rattle.boxes.specs.declared.MoveAnswer.{MoveAnswer}
+use Rattle.sweeps.specs.declared.MoveResult.{MoveResult}
+use Rattle.sweeps.specs.declared.MoveAnswer.{MoveAnswer}
 use Rattle.boxes.specs.Boxes.{overlap}
-use Rattle.boxes.specs.Move.{moveOver}
+use Rattle.sweeps.specs.Move.{moveOver}
 use Rattle.boxes.specs.Limits.{isBox, isDelta, isStep}
 use Rattle.table_check.specs.Check.{tableRefusal}
 use Rattle.window.specs.declared.Pos.{Pos}

@@ -18,13 +18,13 @@ use Rattle.base.specs.Every.{every}
 use Rattle.floats.specs.Numbers.{zero64, one64}
 use Rattle.boxes.specs.declared.Vec3.{Vec3}
 use Rattle.boxes.specs.declared.Aabb.{Aabb}
-use Rattle.boxes.specs.declared.Swept.{Swept}
-use Rattle.boxes.specs.declared.BoxList.{BoxList}
-use Rattle.boxes.specs.declared.MoveResult.{MoveResult}
+use Rattle.sweeps.specs.declared.Swept.{Swept}
+use Rattle.sweeps.specs.declared.BoxList.{BoxList}
+use Rattle.sweeps.specs.declared.MoveResult.{MoveResult}
 use Rattle.boxes.specs.Boxes.{vec, offsetBy, overlap}
-use Rattle.boxes.specs.Lists.{listOf}
-use Rattle.boxes.specs.Move.{clipSequence, steppedUp, flatSquare, triesStep}
-use Rattle.boxes.specs.Entry.{moveOverList}
+use Rattle.sweeps.specs.Lists.{listOf}
+use Rattle.sweeps.specs.Move.{clipSequence, steppedUp, flatSquare, triesStep}
+use Rattle.sweeps.specs.Entry.{moveOverList}
 use Rattle.cover.specs.Cover.{boxCount}
 use Rattle.tables.specs.Tables.{boxesAt, boxAt}
 use Rattle.window.specs.declared.Pos.{Pos}

@@ -10,13 +10,13 @@ use lib.Ieee.{Float}
 use borrow.Author.Tests.{eq-eqb, ne-eqb, lt-ltb, le-ltb}
 use Rattle.base.specs.Choose.{choose}
 use Rattle.base.specs.Loop.{stored}
-use Rattle.boxes.specs.declared.BoxList.{BoxList}
-use Rattle.boxes.specs.declared.Request.{Request}
-use Rattle.boxes.specs.declared.MoveResult.{MoveResult}
-use Rattle.boxes.specs.Lists.{room, listOf}
+use Rattle.sweeps.specs.declared.BoxList.{BoxList}
+use Rattle.sweeps.specs.declared.Request.{Request}
+use Rattle.sweeps.specs.declared.MoveResult.{MoveResult}
+use Rattle.sweeps.specs.Lists.{room, listOf}
 use Rattle.boxes.specs.Limits.{isBox, isDelta, isStep, areBoxes}
-use Rattle.boxes.specs.Move.{moveOver}
-use Rattle.boxes.specs.Entry.{refusalOf, moveOverList}
+use Rattle.sweeps.specs.Move.{moveOver}
+use Rattle.sweeps.specs.Entry.{refusalOf, moveOverList}
 use Rattle.lent_boxes.specs.Boxes.{vecAt, aabbAt, boxesOf, lentCount, lentFit, numbersOf, writtenBy}
 use Rattle.lent_boxes.specs.Moves.{requestOf, moverRefusal, listRefusal, movedOver, moveListOf}
 

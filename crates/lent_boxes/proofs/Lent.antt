@@ -11,7 +11,7 @@ use Rattle.floats.specs.Numbers.{zero64}
 use Rattle.boxes.specs.declared.Aabb.{Aabb}
 use Rattle.boxes.specs.Boxes.{vec, box}
 use Rattle.boxes.specs.Limits.{isBox, areBoxes}
-use Rattle.boxes.specs.Move.{clipAll}
+use Rattle.sweeps.specs.Move.{clipAll}
 use Rattle.tables.proofs.Lists.{getD-any}
 use Rattle.lent_boxes.specs.Boxes.{aabbAt}
 

@@ -10,8 +10,8 @@ use Rattle.base.specs.Loop.{listed, stored}
 use Rattle.floats.specs.Numbers.{zero64}
 use Rattle.boxes.specs.declared.Vec3.{Vec3}
 use Rattle.boxes.specs.declared.Aabb.{Aabb}
-use Rattle.boxes.specs.declared.MoveResult.{MoveResult}
-use Rattle.boxes.specs.declared.MoveAnswer.{MoveAnswer}
+use Rattle.sweeps.specs.declared.MoveResult.{MoveResult}
+use Rattle.sweeps.specs.declared.MoveAnswer.{MoveAnswer}
 use Rattle.boxes.specs.Boxes.{box}
 use Rattle.boxes.specs.Limits.{areBoxes, twoTo}
 use Rattle.bodies.specs.Numbers.{numberAt, vecFrom}

@@ -7,12 +7,12 @@ use lib.ListN.{length}
 use lib.Dec.{ltb, eqb}
 use lib.Ieee.{Float}
 use Rattle.base.specs.Choose.{choose}
-use Rattle.boxes.specs.declared.Request.{Request}
-use Rattle.boxes.specs.declared.MoveAnswer.{MoveAnswer}
-use Rattle.boxes.specs.Lists.{room}
+use Rattle.sweeps.specs.declared.Request.{Request}
+use Rattle.sweeps.specs.declared.MoveAnswer.{MoveAnswer}
+use Rattle.sweeps.specs.Lists.{room}
 use Rattle.boxes.specs.Limits.{isBox, isDelta, isStep}
-use Rattle.boxes.specs.Move.{moveOver}
-use Rattle.boxes.specs.Entry.{answerOf}
+use Rattle.sweeps.specs.Move.{moveOver}
+use Rattle.sweeps.specs.Entry.{answerOf}
 use Rattle.lent_boxes.specs.Boxes.{vecAt, aabbAt, lentCount, boxesOf, lentFit}
 
 abbrev pub requestOf : List Float → Float → ℕ → Request

@@ -3,11 +3,11 @@ use crate::box_at;
 use crate::first_box;
 use crate::lent_fit;
 use crate::written::put_result;
-use boxes::MoveResult;
-use boxes::Request;
+use sweeps::MoveResult;
+use sweeps::Request;
 ghost use mathlib.Core.Path.{_≡_};
 ghost use lib.ListN.{length};
-ghost use Rattle.boxes.specs.Move.{moveOver};
+ghost use Rattle.sweeps.specs.Move.{moveOver};
 ghost use Rattle.lent_boxes.specs.Boxes.{boxesOf, writtenBy};
 ghost use Rattle.lent_boxes.specs.Moves.{requestOf, moverFits, moverRefusal, listRefusal, moveListOf, moveAnyOf};
 
@@ -81,27 +81,27 @@ fn moved_over(numbers: &[f64], q: Request) -> MoveResult
     ensures { λ r. ⌜ r ≡ moveOver (boxesOf (now (numbers .entry))) (q .aabb) (q .delta) (q .step) (q .ground) ⌝ }
 {
     let n = numbers.len() / 6;
-    let mut s = boxes::begun(q);
+    let mut s = sweeps::begun(q);
     let mut pass = 0u32;
     while pass < 7 {
-        let axis = boxes::axis_of(pass);
+        let axis = sweeps::axis_of(pass);
         let now = s.now;
         let mover = now.aabb;
-        let mut d = boxes::wanted(pass, axis, q, now);
+        let mut d = sweeps::wanted(pass, axis, q, now);
         let mut i = 0usize;
         while i < n {
             let b = box_at(numbers, i * 6);
-            d = boxes::clip_along(axis, b, mover, d);
+            d = sweeps::clip_along(axis, b, mover, d);
             i += 1;
         }
         let first = s.first;
-        s = boxes::next(pass, q, first, boxes::gone(pass, axis, now, d));
+        s = sweeps::next(pass, q, first, sweeps::gone(pass, axis, now, d));
         if s.over {
-            return boxes::ended(q, s);
+            return sweeps::ended(q, s);
         }
         pass += 1;
     }
-    boxes::ended(q, s)
+    sweeps::ended(q, s)
 }
 
 // The move of a box over boxes, for a host, who may hand over anything. It writes ten numbers and returns 0, or writes nothing and returns

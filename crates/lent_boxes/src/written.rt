@@ -1,6 +1,6 @@
 // What a move comes to, written into lent numbers. A number whose place is not there is dropped.
-use boxes::MoveAnswer;
-use boxes::MoveResult;
+use sweeps::MoveAnswer;
+use sweeps::MoveResult;
 use boxes::Vec3;
 ghost use mathlib.Core.Path.{_≡_};
 ghost use mathlib.Core.List.{[], _∷_};

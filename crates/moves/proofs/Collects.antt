@@ -14,14 +14,14 @@ use Rattle.base.specs.Choose.{choose}
 use Rattle.base.specs.Loop.{listed}
 use Rattle.base.specs.Ask.{Ask, refused, found, _>>=_, Turn, next, done, onward, turning}
 use Rattle.boxes.specs.declared.Aabb.{Aabb}
-use Rattle.boxes.specs.declared.BoxList.{BoxList}
-use Rattle.boxes.specs.declared.Request.{Request}
-use Rattle.boxes.specs.declared.Sweep.{Sweep}
-use Rattle.boxes.specs.declared.MoveResult.{MoveResult}
+use Rattle.sweeps.specs.declared.BoxList.{BoxList}
+use Rattle.sweeps.specs.declared.Request.{Request}
+use Rattle.sweeps.specs.declared.Sweep.{Sweep}
+use Rattle.sweeps.specs.declared.MoveResult.{MoveResult}
 use Rattle.boxes.specs.Boxes.{overlap}
-use Rattle.boxes.specs.Passes.{sweepOf, endOfMove}
-use Rattle.boxes.proofs.Shape.{moves}
-use Rattle.boxes.specs.Lists.{room, listOf, emptyList, noBox, held}
+use Rattle.sweeps.specs.Passes.{sweepOf, endOfMove}
+use Rattle.sweeps.proofs.Shape.{moves}
+use Rattle.sweeps.specs.Lists.{room, listOf, emptyList, noBox, held}
 use Rattle.window.specs.declared.Pos.{Pos}
 use Rattle.window.specs.declared.Window.{Window}
 use Rattle.window.specs.Look.{Block, lookAt}

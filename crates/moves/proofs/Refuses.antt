@@ -12,7 +12,7 @@ use Rattle.base.specs.Choose.{choose}
 use Rattle.base.specs.Ask.{Ask, refused, found, _>>=_, asking, Turn, next, done, resume, onward, turning}
 use Rattle.boxes.specs.declared.Aabb.{Aabb}
 use Rattle.boxes.specs.declared.Vec3.{Vec3}
-use Rattle.boxes.specs.Lists.{room}
+use Rattle.sweeps.specs.Lists.{room}
 use Rattle.cover.specs.declared.Side.{Side}
 use Rattle.cover.specs.declared.Side.the-variants.{North, East, South, West}
 use Rattle.window.specs.declared.Pos.{Pos}

@@ -7,13 +7,13 @@ use Rattle.base.specs.Ask.{Ask, refused, found, _>>=_}
 use Rattle.floats.specs.Numbers.{zero64}
 use Rattle.boxes.specs.declared.Vec3.{Vec3}
 use Rattle.boxes.specs.declared.Aabb.{Aabb}
-use Rattle.boxes.specs.declared.MoveResult.{MoveResult}
-use Rattle.boxes.specs.declared.MoveAnswer.{MoveAnswer}
+use Rattle.sweeps.specs.declared.MoveResult.{MoveResult}
+use Rattle.sweeps.specs.declared.MoveAnswer.{MoveAnswer}
 use Rattle.boxes.specs.Boxes.{vec, expandTowards}
-use Rattle.boxes.specs.Lists.{Held, held}
-use Rattle.boxes.specs.Move.{moveOver}
+use Rattle.sweeps.specs.Lists.{Held, held}
+use Rattle.sweeps.specs.Move.{moveOver}
 use Rattle.boxes.specs.Limits.{isBox, isDelta, isStep}
-use Rattle.boxes.specs.Entry.{refusedMove}
+use Rattle.sweeps.specs.Entry.{refusedMove}
 use Rattle.window.specs.declared.Pos.{Pos}
 use Rattle.window.specs.declared.Window.{Window}
 use Rattle.window.specs.Look.{Block, lookAt}

@@ -2,8 +2,8 @@
 use crate::AskedMove;
 use crate::range_of;
 use boxes::Aabb;
-use boxes::BoxList;
-use boxes::Request;
+use sweeps::BoxList;
+use sweeps::Request;
 use boxes::Vec3;
 use ranges::At;
 use solids::AskedShape;
@@ -50,23 +50,23 @@ fn swept_through(records: &[u32], shapes: &[f32], cells: &[u32], w: Window, q: R
             }
         }
     }
-    let mut s = boxes::begun(q);
+    let mut s = sweeps::begun(q);
     for pass in 0..7u32 {
-        let axis = boxes::axis_of(pass);
+        let axis = sweeps::axis_of(pass);
         let now = s.now;
         let mover = now.aabb;
-        let mut d = boxes::wanted(pass, axis, q, now);
+        let mut d = sweeps::wanted(pass, axis, q, now);
         for i in 0..list.count {
             let b = list.boxes[i];
-            d = boxes::clip_along(axis, b, mover, d);
+            d = sweeps::clip_along(axis, b, mover, d);
         }
         let first = s.first;
-        s = boxes::next(pass, q, first, boxes::gone(pass, axis, now, d));
+        s = sweeps::next(pass, q, first, sweeps::gone(pass, axis, now, d));
         if s.over {
-            return AskedMove::To(boxes::ended(q, s));
+            return AskedMove::To(sweeps::ended(q, s));
         }
     }
-    AskedMove::To(boxes::ended(q, s))
+    AskedMove::To(sweeps::ended(q, s))
 }
 
 // The move: step is the step height, ground whether the body was on the ground. It refuses 5 and 6 alone.

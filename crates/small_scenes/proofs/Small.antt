@@ -6,9 +6,9 @@ use Rattle.base.specs.Ask as A
 use Rattle.floats.specs.Numbers as N
 use Rattle.floats.specs.Whole as H
 use Rattle.floats.specs.Root as R
-use Rattle.boxes.specs.Move as M
+use Rattle.sweeps.specs.Move as M
 use Rattle.boxes.specs.Limits as L
-use Rattle.boxes.specs.Entry as E
+use Rattle.sweeps.specs.Entry as E
 use Rattle.window.specs.Window as W
 use Rattle.window.specs.Look as K
 use Rattle.tables.specs.Tables as B

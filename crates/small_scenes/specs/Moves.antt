@@ -6,9 +6,9 @@ use lib.ListN.{length, replicate}
 use lib.Ieee.{Float, binary64, round, neg}
 use Rattle.boxes.specs.declared.Vec3.{Vec3}
 use Rattle.boxes.specs.declared.Aabb.{Aabb}
-use Rattle.boxes.specs.declared.BoxList.{BoxList}
+use Rattle.sweeps.specs.declared.BoxList.{BoxList}
 use Rattle.boxes.specs.Boxes.{vec, box}
-use Rattle.boxes.specs.Lists.{room, noBox}
+use Rattle.sweeps.specs.Lists.{room, noBox}
 
 -- n / d
 abbrev pub ratio : ℕ → ℕ → Float

@@ -9,9 +9,9 @@ use lib.Ieee.{Float, binary64, toBits}
 use Rattle.base.specs.Ask.{Ask, refused, found}
 use Rattle.boxes.specs.declared.Vec3.{Vec3}
 use Rattle.boxes.specs.declared.Aabb.{Aabb}
-use Rattle.boxes.specs.declared.MoveAnswer.{MoveAnswer}
+use Rattle.sweeps.specs.declared.MoveAnswer.{MoveAnswer}
 use Rattle.boxes.specs.Boxes.{vec, offsetBy, fromFeet}
-use Rattle.boxes.specs.Entry.{moveOverList}
+use Rattle.sweeps.specs.Entry.{moveOverList}
 use Rattle.tables.specs.declared.LiquidKind.{LiquidKind}
 use Rattle.tables.specs.declared.LiquidKind.the-variants.{None, Water}
 use Rattle.tables.specs.Tables.{kindNumber}

@@ -8,7 +8,7 @@ use Rattle.base.specs.Ask.{Ask, refused, found}
 use Rattle.floats.specs.Numbers.{zero64}
 use Rattle.boxes.specs.declared.Vec3.{Vec3}
 use Rattle.boxes.specs.declared.Aabb.{Aabb}
-use Rattle.boxes.specs.declared.MoveResult.{MoveResult}
+use Rattle.sweeps.specs.declared.MoveResult.{MoveResult}
 use Rattle.boxes.specs.Boxes.{vec, box}
 use Rattle.window.specs.declared.Window.{Window}
 

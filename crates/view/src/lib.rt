@@ -7,7 +7,7 @@ ghost use Rattle.window.specs.Look.{lookAt, asked};
 ghost use Rattle.moves.specs.Answers.{moveEntry};
 ghost use Rattle.step.specs.Answers.{checkedEntry, stepEntry};
 use boxes::Aabb;
-use boxes::MoveAnswer;
+use sweeps::MoveAnswer;
 use boxes::Vec3;
 use bodies::BodyNumbers;
 use bodies::MotionNumbers;

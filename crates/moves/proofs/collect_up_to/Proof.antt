@@ -6,8 +6,8 @@ use Prim.Native.Nat.{ℕ, _-_, _≤_, _<_}
 use native.Mathlib.Omega.{arith}
 use lib.ListN.{take}
 use Rattle.boxes.specs.declared.Aabb.{Aabb}
-use Rattle.boxes.specs.declared.BoxList.{BoxList}
-use Rattle.boxes.specs.Lists.{room}
+use Rattle.sweeps.specs.declared.BoxList.{BoxList}
+use Rattle.sweeps.specs.Lists.{room}
 use Rattle.window.specs.Look.{lookAt}
 use Rattle.moves.specs.Collect.{push, cellShape}
 use Rattle.solids.specs.Parts.{nthAabb, shapeAsked}

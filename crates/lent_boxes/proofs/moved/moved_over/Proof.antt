@@ -5,10 +5,10 @@ use native.Mathlib.Nat.{sub-zero}
 use native.Mathlib.Omega.{arith}
 use borrow.Author.Needs.{needs}
 use Rattle.base.specs.Loop.{listed}
-use Rattle.boxes.specs.Move.{clipAll}
-use Rattle.boxes.specs.Passes.{clipAlong, passesFrom, sweepOf}
-use Rattle.boxes.proofs.Shape.{moves}
-use Rattle.boxes.proofs.Turns.{pass-is, pass-on, pass-over, passes-end}
+use Rattle.sweeps.specs.Move.{clipAll}
+use Rattle.sweeps.specs.Passes.{clipAlong, passesFrom, sweepOf}
+use Rattle.sweeps.proofs.Shape.{moves}
+use Rattle.sweeps.proofs.Turns.{pass-is, pass-on, pass-over, passes-end}
 use Rattle.lent_boxes.specs.Boxes.{boxOf, boxesOf}
 use Rattle.lent_boxes.proofs.Lent.{clip-turn, clip-end}
 use Rattle.lent_boxes.proofs.moved.moved_over.Statement.{statement}

@@ -7,11 +7,11 @@ use Prim.Native.Nat.{ℕ, _-_, _<_}
 use native.Mathlib.Omega.{arith}
 use lib.ListN.{take, drop}
 use Rattle.boxes.specs.declared.Aabb.{Aabb}
-use Rattle.boxes.specs.declared.BoxList.{BoxList}
-use Rattle.boxes.specs.Lists.{room}
-use Rattle.boxes.specs.Move.{clipAll}
-use Rattle.boxes.specs.Passes.{clipAlong, passesFrom, sweepOf}
-use Rattle.boxes.proofs.Turns.{clip-turn, made, pass-on, pass-over, passes-end}
+use Rattle.sweeps.specs.declared.BoxList.{BoxList}
+use Rattle.sweeps.specs.Lists.{room}
+use Rattle.sweeps.specs.Move.{clipAll}
+use Rattle.sweeps.specs.Passes.{clipAlong, passesFrom, sweepOf}
+use Rattle.sweeps.proofs.Turns.{clip-turn, made, pass-on, pass-over, passes-end}
 use Rattle.window.specs.Look.{lookAt}
 use Rattle.moves.specs.Collect.{push, cellShape}
 use Rattle.solids.specs.Parts.{nthAabb, shapeAsked}
