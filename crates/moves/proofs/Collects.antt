@@ -26,8 +26,10 @@ use Rattle.window.specs.declared.Pos.{Pos}
 use Rattle.window.specs.declared.Window.{Window}
 use Rattle.window.specs.Look.{Block, lookAt}
 use Rattle.ranges.specs.declared.Range.{Range}
-use Rattle.ranges.specs.Ranges.{placeAt}
+use Rattle.ranges.specs.declared.At.{At}
+use Rattle.ranges.specs.Ranges.{placeAt, placeOf, startOf, nextOf}
 use Rattle.ranges.specs.Walk.{line, layer, walk}
+use Rattle.ranges.proofs.Walks.{rest, rest-start, rest-turn, rest-end, Within, start-within, next-within, left, next-less}
 use Rattle.moves.specs.Collect.{cellShape, offer, offerAll, visit, push, rangeOf, collectUpTo}
 use Rattle.tables.specs.Tables.{boxesAt}
 use Rattle.solids.specs.declared.Shape.{Shape}
@@ -69,89 +71,113 @@ unfolding listed offerAll turning
 offers accept area g zero i s = refl
 offers {S = S} accept area g (suc n) i s = ap (λ (k : S → Ask (Turn S Bool)). offer accept area (g i) s >>= onward k) (λ j a. offers accept area g n (i + 1) a j)
 
--- ---- what is left of a walk, in each of the four loops: layers, the lines of a layer, the cells of a line, the boxes of a cell
-module _ {S : Type 0} (accept : Aabb → S → Ask (Turn S Bool)) (look : Pos → Ask Block) (records : List ℕ) (shapes : List Float) (area : Aabb) (r : Range) where
-  abbrev visiting : Pos → S → Ask (Turn S Bool)
+-- ---- the boxes of a cell from number k on, and what comes after the cell
+module _ {S : Type 0} (accept : Aabb → S → Ask (Turn S Bool)) (area : Aabb) (after : S → Ask (Turn S Bool)) (g : ℕ → Aabb) (n k : ℕ) (s : S) where
+  unfoldable pub boxesFrom : Ask (Turn S Bool)
+  boxesFrom = from (λ j. offer accept area (g j)) n after k s
+
+  pub boxes-end : n ≤ k → boxesFrom ≡ after s
+  unfolding boxesFrom
+  boxes-end h = from-end (λ j. offer accept area (g j)) n after k s h
+
+-- a box, by what comes of it
+module _ {S : Type 0} (accept : Aabb → S → Ask (Turn S Bool)) (area : Aabb) (after : S → Ask (Turn S Bool)) (g : ℕ → Aabb) (n k : ℕ) (s : S) (b : Aabb) (h : k < n) (e : b ≡ g k) where
+  offered : (m : Ask (Turn S Bool)) → offer accept area b s ≡ m → boxesFrom accept area after g n k s ≡ (m >>= onward (boxesFrom accept area after g n (k + 1)))
+  unfolding boxesFrom
+  offered m o =
+      from-turn (λ j. offer accept area (g j)) n after k s h
+      ∙ ap (λ (a : Ask (Turn S Bool)). a >>= onward (from (λ j. offer accept area (g j)) n after (k + 1))) (ap (λ (a : Aabb). offer accept area a s) (sym e) ∙ o)
+
+  pub box-next : (a : S) → offer accept area b s ≡ found (next a) → boxesFrom accept area after g n k s ≡ boxesFrom accept area after g n (k + 1) a
+  box-next a o = offered (found (next a)) o
+
+  pub box-refused : (j : ℕ) → offer accept area b s ≡ refused j → boxesFrom accept area after g n k s ≡ refused j
+  box-refused j o = offered (refused j) o
+
+module _ {S : Type 0} (accept : Aabb → S → Ask (Turn S Bool)) (look : Pos → Ask Block) (records : List ℕ) (shapes : List Float) (area : Aabb) where
+  abbrev pub visiting : Pos → S → Ask (Turn S Bool)
   visiting = visit accept area look records shapes
 
-  abbrev pub all : S → Ask (Turn S Bool)
-  all = walk visiting r
-
-  unfoldable pub layersFrom : ℕ → S → Ask (Turn S Bool)
-  layersFrom = from (layer visiting r) (r .y .count) (λ s. found (next s))
-
-  unfoldable pub linesFrom : ℕ → ℕ → S → Ask (Turn S Bool)
-  linesFrom y = from (line visiting r y) (r .x .count) (layersFrom (y + 1))
-
-  unfoldable pub cellsFrom : ℕ → ℕ → ℕ → S → Ask (Turn S Bool)
-  cellsFrom y x = from (λ z. visiting (placeAt r x y z)) (r .z .count) (linesFrom y (x + 1))
-
-  unfoldable pub boxesFrom : ℕ → ℕ → ℕ → (ℕ → Aabb) → ℕ → ℕ → S → Ask (Turn S Bool)
-  boxesFrom y x z g n = from (λ k. offer accept area (g k)) n (cellsFrom y x (z + 1))
-
-  -- begun
-  pub walk-begins : (s : S) → layersFrom 0 s ≡ all s
-  unfolding layersFrom walk
-  walk-begins s = from-start (layer visiting r) (r .y .count) (λ a. found (next a)) s ∙ then-nothing (turning (layer visiting r) (r .y .count) 0 s)
-
-  pub layer-begins : (y : ℕ) (s : S) → y < r .y .count → layersFrom y s ≡ linesFrom y 0 s
-  unfolding layersFrom linesFrom layer
-  layer-begins y s h = from-turn (layer visiting r) (r .y .count) (λ a. found (next a)) y s h ∙ sym (from-start (line visiting r y) (r .x .count) (layersFrom (y + 1)) s)
-
-  pub line-begins : (y x : ℕ) (s : S) → x < r .x .count → linesFrom y x s ≡ cellsFrom y x 0 s
-  unfolding linesFrom cellsFrom line
-  line-begins y x s h = from-turn (line visiting r y) (r .x .count) (layersFrom (y + 1)) x s h ∙ sym (from-start (λ z. visiting (placeAt r x y z)) (r .z .count) (linesFrom y (x + 1)) s)
-
-  module _ (y x z : ℕ) (s : S) (h : z < r .z .count) where
-    turn : cellsFrom y x z s ≡ (visiting (placeAt r x y z) s >>= onward (cellsFrom y x (z + 1)))
-    unfolding cellsFrom
-    turn = from-turn (λ k. visiting (placeAt r x y k)) (r .z .count) (linesFrom y (x + 1)) z s h
-
-    pub cell-refused : (k : ℕ) → cellShape look records (placeAt r x y z) ≡ refused k → cellsFrom y x z s ≡ refused k
+  -- ---- a cell: `whole` is what is left from it on, and begins with it
+  module _ (p : Pos) (after : S → Ask (Turn S Bool)) (s : S) (whole : Ask (Turn S Bool)) (turn : whole ≡ (visiting p s >>= onward after)) where
+    pub cell-refused : (k : ℕ) → cellShape look records p ≡ refused k → whole ≡ refused k
     unfolding visit
     cell-refused k e = turn ∙ (rw e)
 
-    pub cell-begins : (q : Shape) (shape : List Float) (n : ℕ) → cellShape look records (placeAt r x y z) ≡ found (shapeIn q) → shape ≡ boxesAt shapes (q .first) (q .count) → n ≡ countOf (q .cube) (q .count) shape
-        → cellsFrom y x z s ≡ boxesFrom y x z (nthAabb (q .cube) shape (placeAt r x y z)) n 0 s
+    pub cell-begins : (q : Shape) (shape : List Float) (n : ℕ) → cellShape look records p ≡ found (shapeIn q) → shape ≡ boxesAt shapes (q .first) (q .count) → n ≡ countOf (q .cube) (q .count) shape
+        → whole ≡ boxesFrom accept area after (nthAabb (q .cube) shape p) n 0 s
     unfolding visit boxesFrom
     cell-begins q shape n e o m =
-        let g = nthAabb (q .cube) shape (placeAt r x y z) in
+        let g = nthAabb (q .cube) shape p in
         turn
         ∙ (rw e
-        (ap (λ (bs : List Aabb). offerAll accept area bs s >>= onward (cellsFrom y x (z + 1))) (listed-all shapes shape (placeAt r x y z) q n o m)
-        ∙ ap (λ (a : Ask (Turn S Bool)). a >>= onward (cellsFrom y x (z + 1))) (offers accept area g n 0 s)
-        ∙ sym (from-start (λ k. offer accept area (g k)) n (cellsFrom y x (z + 1)) s)))
+        (ap (λ (bs : List Aabb). offerAll accept area bs s >>= onward after) (listed-all shapes shape p q n o m)
+        ∙ ap (λ (a : Ask (Turn S Bool)). a >>= onward after) (offers accept area g n 0 s)
+        ∙ sym (from-start (λ k. offer accept area (g k)) n after s)))
 
-  -- a box, by what comes of it
-  module _ (y x z : ℕ) (g : ℕ → Aabb) (n k : ℕ) (s : S) (b : Aabb) (h : k < n) (e : b ≡ g k) where
-    offered : (m : Ask (Turn S Bool)) → offer accept area b s ≡ m → boxesFrom y x z g n k s ≡ (m >>= onward (boxesFrom y x z g n (k + 1)))
-    unfolding boxesFrom
-    offered m o =
-        from-turn (λ j. offer accept area (g j)) n (cellsFrom y x (z + 1)) k s h
-        ∙ ap (λ (a : Ask (Turn S Bool)). a >>= onward (boxesFrom y x z g n (k + 1))) (ap (λ (a : Aabb). offer accept area a s) (sym e) ∙ o)
+  module _ (r : Range) where
+    abbrev pub all : S → Ask (Turn S Bool)
+    all = walk visiting r
 
-    pub box-next : (a : S) → offer accept area b s ≡ found (next a) → boxesFrom y x z g n k s ≡ boxesFrom y x z g n (k + 1) a
-    box-next a o = offered (found (next a)) o
+    -- ---- what is left of a walk, in each of the move's three loops: layers, the lines of a layer, the cells of a line
+    unfoldable pub layersFrom : ℕ → S → Ask (Turn S Bool)
+    layersFrom = from (layer visiting r) (r .y .count) (λ s. found (next s))
 
-    pub box-refused : (j : ℕ) → offer accept area b s ≡ refused j → boxesFrom y x z g n k s ≡ refused j
-    box-refused j o = offered (refused j) o
+    unfoldable pub linesFrom : ℕ → ℕ → S → Ask (Turn S Bool)
+    linesFrom y = from (line visiting r y) (r .x .count) (layersFrom (y + 1))
 
-  -- through
-  pub boxes-end : (y x z : ℕ) (g : ℕ → Aabb) (n k : ℕ) (s : S) → n ≤ k → boxesFrom y x z g n k s ≡ cellsFrom y x (z + 1) s
-  unfolding boxesFrom
-  boxes-end y x z g n k s h = from-end (λ j. offer accept area (g j)) n (cellsFrom y x (z + 1)) k s h
+    unfoldable pub cellsFrom : ℕ → ℕ → ℕ → S → Ask (Turn S Bool)
+    cellsFrom y x = from (λ z. visiting (placeAt r x y z)) (r .z .count) (linesFrom y (x + 1))
 
-  pub cells-end : (y x z : ℕ) (s : S) → r .z .count ≤ z → cellsFrom y x z s ≡ linesFrom y (x + 1) s
-  unfolding cellsFrom
-  cells-end y x z s h = from-end (λ k. visiting (placeAt r x y k)) (r .z .count) (linesFrom y (x + 1)) z s h
+    -- begun
+    pub walk-begins : (s : S) → layersFrom 0 s ≡ all s
+    unfolding layersFrom walk
+    walk-begins s = from-start (layer visiting r) (r .y .count) (λ a. found (next a)) s ∙ then-nothing (turning (layer visiting r) (r .y .count) 0 s)
 
-  pub lines-end : (y x : ℕ) (s : S) → r .x .count ≤ x → linesFrom y x s ≡ layersFrom (y + 1) s
-  unfolding linesFrom
-  lines-end y x s h = from-end (line visiting r y) (r .x .count) (layersFrom (y + 1)) x s h
+    pub layer-begins : (y : ℕ) (s : S) → y < r .y .count → layersFrom y s ≡ linesFrom y 0 s
+    unfolding layersFrom linesFrom layer
+    layer-begins y s h = from-turn (layer visiting r) (r .y .count) (λ a. found (next a)) y s h ∙ sym (from-start (line visiting r y) (r .x .count) (layersFrom (y + 1)) s)
 
-  pub layers-end : (y : ℕ) (s : S) → r .y .count ≤ y → layersFrom y s ≡ found (next s)
-  unfolding layersFrom
-  layers-end y s h = from-end (layer visiting r) (r .y .count) (λ a. found (next a)) y s h
+    pub line-begins : (y x : ℕ) (s : S) → x < r .x .count → linesFrom y x s ≡ cellsFrom y x 0 s
+    unfolding linesFrom cellsFrom line
+    line-begins y x s h = from-turn (line visiting r y) (r .x .count) (layersFrom (y + 1)) x s h ∙ sym (from-start (λ z. visiting (placeAt r x y z)) (r .z .count) (linesFrom y (x + 1)) s)
+
+    pub cells-turn : (y x z : ℕ) (s : S) → z < r .z .count → (p : Pos) → p ≡ placeAt r x y z → cellsFrom y x z s ≡ (visiting p s >>= onward (cellsFrom y x (z + 1)))
+    unfolding cellsFrom
+    cells-turn y x z s h p e = rw e (from-turn (λ k. visiting (placeAt r x y k)) (r .z .count) (linesFrom y (x + 1)) z s h)
+
+    -- through
+    pub cells-end : (y x z : ℕ) (s : S) → r .z .count ≤ z → cellsFrom y x z s ≡ linesFrom y (x + 1) s
+    unfolding cellsFrom
+    cells-end y x z s h = from-end (λ k. visiting (placeAt r x y k)) (r .z .count) (linesFrom y (x + 1)) z s h
+
+    pub lines-end : (y x : ℕ) (s : S) → r .x .count ≤ x → linesFrom y x s ≡ layersFrom (y + 1) s
+    unfolding linesFrom
+    lines-end y x s h = from-end (line visiting r y) (r .x .count) (layersFrom (y + 1)) x s h
+
+    pub layers-end : (y : ℕ) (s : S) → r .y .count ≤ y → layersFrom y s ≡ found (next s)
+    unfolding layersFrom
+    layers-end y s h = from-end (layer visiting r) (r .y .count) (λ a. found (next a)) y s h
+
+    -- ---- and in the one loop of the entries, from a cell of the range on
+    abbrev pub cellFrom : At → S → Ask (Turn S Bool)
+    cellFrom = rest visiting r
+
+    pub range-begins : (t : At) (s : S) → t ≡ startOf r → Within r t × (cellFrom t s ≡ all s)
+    range-begins t s e = rw e (start-within r, rest-start visiting r s)
+
+    pub range-ends : (t : At) (s : S) → r .y .count ≤ t .y → cellFrom t s ≡ found (next s)
+    range-ends t s h = rest-end visiting r t s h
+
+    module _ (t : At) (within : Within r t) (h : t .y < r .y .count) where
+      pub cell-turn : (s : S) (p : Pos) → p ≡ placeOf r t → cellFrom t s ≡ (visiting p s >>= onward (cellFrom (nextOf r t)))
+      cell-turn s p e = rw e (rest-turn visiting r t s h (within .x h) (within .z h))
+
+      pub cell-next : (t' : At) → t' ≡ nextOf r t → (s : S) → Within r t' × (cellFrom t' s ≡ cellFrom (nextOf r t) s)
+      cell-next t' e s = rw e (next-within r t h (within .x h) (within .z h), refl)
+
+pub cell-less : (r : Range) (t : At) → Within r t → t .y < r .y .count → (t' : At) → t' ≡ nextOf r t → left r t' < left r t
+cell-less r t within h t' e = rw e (next-less r t h (within .x h) (within .z h))
 
 -- ---- boxes in place: so much room, and so many of them count
 pub record Room (most : ℕ) (bs : List Aabb) (count : ℕ) : Type 0 where

@@ -3,18 +3,21 @@ mod through;
 
 pub use through::move_through;
 use boxes::Aabb;
+use boxes::Vec3;
+use ranges::Range;
+use solids::AskedShape;
+use solids::Shape;
 use sweeps::BoxList;
 use sweeps::Collected;
 use sweeps::MoveAnswer;
 use sweeps::MoveResult;
-use boxes::Vec3;
-use ranges::At;
-use ranges::Range;
-use solids::AskedShape;
+use window::Pos;
 use window::Window;
 ghost use mathlib.Core.Path.{_≡_};
 ghost use Prim.Native.Nat.{_≤_};
 ghost use Rattle.sweeps.specs.Lists.{room, heldIn};
+ghost use Rattle.tables.specs.Tables.{boxesAt};
+ghost use Rattle.solids.specs.Parts.{countOf, nthAabb};
 ghost use Rattle.window.specs.Look.{lookAt};
 ghost use Rattle.moves.specs.Collect.{rangeOf, collectUpTo, collectBlockBoxes, collidesWithBlocks};
 ghost use Rattle.moves.specs.Answers.{heldAsked, hitAsked, moveAnswer, collectEntry, collidesEntry, moveEntry};
@@ -48,6 +51,22 @@ fn range_of(area: Aabb) -> Range
     Range { x, y, z }
 }
 
+// How many boxes a cell has of which `part_at` answered this.
+fn count_in(shapes: &[f32], part: Shape) -> u32
+    ensures { λ r. ⌜ r ≡ countOf (part .cube) (part .count) (boxesAt (now (shapes .entry)) (part .first) (part .count)) ⌝ }
+{
+    let shape = tables::boxes_at(shapes, part.first, part.count);
+    solids::count_of(part.cube, part.count, shape)
+}
+
+// Box k of the cell at p.
+fn box_in(shapes: &[f32], part: Shape, p: Pos, k: u32) -> Aabb
+    ensures { λ r. ⌜ r ≡ nthAabb (part .cube) (boxesAt (now (shapes .entry)) (part .first) (part .count)) p k ⌝ }
+{
+    let shape = tables::boxes_at(shapes, part.first, part.count);
+    solids::nth_aabb(part.cube, shape, p, k)
+}
+
 // The boxes of every cell that the area reaches, which strictly overlap it: as many as the cap says, and with one more it refuses 6. The list is
 // built in place.
 fn collect_up_to(cap: usize, records: &[u32], shapes: &[f32], cells: &[u32], w: Window, area: Aabb) -> Collected
@@ -56,29 +75,26 @@ fn collect_up_to(cap: usize, records: &[u32], shapes: &[f32], cells: &[u32], w: 
 {
     let r = range_of(area);
     let mut list = BoxList::new();
-    for y in 0..r.y.count {
-        for x in 0..r.x.count {
-            for z in 0..r.z.count {
-                let p = ranges::place(r, At { x, y, z });
-                let part = match solids::part_at(records, cells, w, p) {
-                    AskedShape::Refused(n) => return Collected::refused(n),
-                    AskedShape::Is(s) => s,
-                };
-                let shape = tables::boxes_at(shapes, part.first, part.count);
-                let n = solids::count_of(part.cube, part.count, shape);
-                for k in 0..n {
-                    let b = solids::nth_aabb(part.cube, shape, p, k);
-                    if b.intersects(area) {
-                        let i = list.count;
-                        if i >= cap {
-                            return Collected::refused(6);
-                        }
-                        list.boxes[i] = b;
-                        list.count = i + 1;
-                    }
+    let mut t = ranges::start(r);
+    while t.y < r.y.count {
+        let p = ranges::place(r, t);
+        let part = match solids::part_at(records, cells, w, p) {
+            AskedShape::Refused(n) => return Collected::refused(n),
+            AskedShape::Is(s) => s,
+        };
+        let n = count_in(shapes, part);
+        for k in 0..n {
+            let b = box_in(shapes, part, p, k);
+            if b.intersects(area) {
+                let i = list.count;
+                if i >= cap {
+                    return Collected::refused(6);
                 }
+                list.boxes[i] = b;
+                list.count = i + 1;
             }
         }
+        t = ranges::next(r, t);
     }
     Collected { list, refusal: 0 }
 }

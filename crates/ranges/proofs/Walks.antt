@@ -121,6 +121,15 @@ module _ {S R : Type 0} (f : Pos → S → Ask (Turn S R)) (r : Range) where
     pub rest-next : rest t s ≡ rest (nextOf r t) a
     rest-next = onwards (ltb (t .z + 1) (r .z .count)) (ltb (t .x + 1) (r .x .count)) refl refl
 
+  -- all three: what the cell answers, and then the rest from the next cell on
+  pub rest-turn : (t : At) (s : S) → t .y < r .y .count → t .x < r .x .count → t .z < r .z .count → rest t s ≡ (f (placeOf r t) s >>= onward (rest (nextOf r t)))
+  rest-turn t s hy hx hz = go (f (placeOf r t) s) refl
+    where
+      go : (m : Ask (Turn S R)) → f (placeOf r t) s ≡ m → rest t s ≡ (m >>= onward (rest (nextOf r t)))
+      go (refused k) e = rest-refused t s hy hx hz k e
+      go (found (next a)) e = rest-next t s a hy hx hz e
+      go (found (done b)) e = rest-done t s hy hx hz b e
+
   -- ---- from the start
   empty-line : r .z .count ≡ 0 → (y x : ℕ) (s : S) → line f r y x s ≡ found (next s)
   unfolding line turning

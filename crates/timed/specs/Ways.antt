@@ -1,7 +1,6 @@
 -- One number of a move.
 use Prim.Native.Nat.{ℕ}
 use lib.Dec.{eqb}
-use lib.IntN.{ℤ}
 use lib.Ieee.{Float}
 use Rattle.base.specs.Choose.{choose}
 use Rattle.base.specs.Ask.{Ask, refused, found}
@@ -10,13 +9,10 @@ use Rattle.boxes.specs.declared.Vec3.{Vec3}
 use Rattle.boxes.specs.declared.Aabb.{Aabb}
 use Rattle.sweeps.specs.declared.MoveResult.{MoveResult}
 use Rattle.boxes.specs.Boxes.{vec, box}
-use Rattle.window.specs.declared.Window.{Window}
 
-abbrev pub windowOf : ℤ → ℤ → ℤ → ℕ → ℕ → ℕ → Window
-windowOf ox oy oz sx sy sz = record { origin = record { x = ox; y = oy; z = oz }; sizes = record { x = sx; y = sy; z = sz } }
-
-abbrev pub boxOf : Float → Float → Float → Float → Float → Float → Aabb
-boxOf x0 y0 z0 x1 y1 z1 = box (vec x0 y0 z0) (vec x1 y1 z1)
+-- from its lower corner to its upper
+abbrev pub boxBetween : Float → Float → Float → Float → Float → Float → Aabb
+boxBetween x0 y0 z0 x1 y1 z1 = box (vec x0 y0 z0) (vec x1 y1 z1)
 
 -- 0 is x, 1 is y, another z
 unfoldable pub alongOf : ℕ → Vec3 → Float

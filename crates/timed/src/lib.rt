@@ -2,16 +2,14 @@
 use boxes::Aabb;
 use boxes::Vec3;
 use moves::AskedMove;
-use window::Pos;
-use window::Sizes;
-use window::Window;
 ghost use mathlib.Core.Path.{_≡_};
 ghost use mathlib.Core.Bool.{not};
 ghost use lib.Dec.{eqb};
 ghost use Rattle.boxes.specs.Boxes.{vec};
 ghost use Rattle.window.specs.Look.{lookAt};
+ghost use Rattle.window.specs.Numbers.{windowOf};
 ghost use Rattle.moves.specs.Answers.{moveAabb};
-ghost use Rattle.timed.specs.Ways.{windowOf, boxOf, alongOf, wayOf};
+ghost use Rattle.timed.specs.Ways.{boxBetween, alongOf, wayOf};
 
 fn along(v: Vec3, k: u32) -> f64
     ensures { λ r. ⌜ r ≡ alongOf k v ⌝ }
@@ -50,12 +48,9 @@ pub extern "C" fn boltjuniper_way(
     ground: u32,
     k: u32,
 ) -> f64
-    ensures { λ r. ⌜ r ≡ wayOf k (moveAabb (lookAt (now (cells .entry)) (windowOf ox oy oz sx sy sz)) (now (records .entry)) (now (shapes .entry)) (boxOf x0 y0 z0 x1 y1 z1) (vec dx dy dz) step (not (eqb ground 0))) ⌝ }
+    ensures { λ r. ⌜ r ≡ wayOf k (moveAabb (lookAt (now (cells .entry)) (windowOf ox oy oz sx sy sz)) (now (records .entry)) (now (shapes .entry)) (boxBetween x0 y0 z0 x1 y1 z1) (vec dx dy dz) step (not (eqb ground 0))) ⌝ }
 {
-    let w = Window {
-        origin: Pos { x: ox, y: oy, z: oz },
-        sizes: Sizes { x: sx, y: sy, z: sz },
-    };
+    let w = window::window_of(ox, oy, oz, sx, sy, sz);
     let a = Aabb {
         min: Vec3 { x: x0, y: y0, z: z0 },
         max: Vec3 { x: x1, y: y1, z: z1 },

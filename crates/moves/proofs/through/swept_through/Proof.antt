@@ -3,7 +3,7 @@
 use mathlib.Core.Path.{_≡_, refl, sym, ap, _∙_}
 use mathlib.Core.Logic.{⊎-elim}
 use mathlib.Core.List.{List, []}
-use Prim.Native.Nat.{ℕ, _-_, _<_}
+use Prim.Native.Nat.{ℕ, _+_, _-_, _<_}
 use native.Mathlib.Omega.{arith}
 use lib.ListN.{take, drop}
 use Rattle.boxes.specs.declared.Aabb.{Aabb}
@@ -15,14 +15,14 @@ use Rattle.sweeps.proofs.Turns.{clip-turn, made, pass-on, pass-over, passes-end
 use Rattle.window.specs.Look.{lookAt}
 use Rattle.moves.specs.Collect.{push, cellShape}
 use Rattle.solids.specs.Parts.{nthAabb, shapeAsked}
-use Rattle.moves.proofs.Collects.{Room, all, layersFrom, linesFrom, cellsFrom, boxesFrom, walk-begins, layer-begins, line-begins, cell-begins, cell-refused, box-next, boxes-end, cells-end, lines-end, layers-end, kept, passed, box-refused, full, empty-list, fully, moved, not-moved}
+use Rattle.moves.proofs.Collects.{Room, all, layersFrom, linesFrom, cellsFrom, boxesFrom, walk-begins, layer-begins, line-begins, cells-turn, cell-begins, cell-refused, box-next, boxes-end, cells-end, lines-end, layers-end, kept, passed, box-refused, full, empty-list, fully, moved, not-moved}
 use borrow.Author.Needs.{needs}
 use Rattle.moves.proofs.through.swept_through.Statement.{statement}
 use Rattle.moves.proofs.through.swept_through.Tie as tie
 
 abbrev Inv-loop4 : tie.InvT-loop4
 Inv-loop4 records shapes cells w q area r list₀ y x z p part shape n k₀ y-end x-end z-end list k =
-    Room room (list .boxes) (list .count) × (boxesFrom (push room) (lookAt cells w) records shapes area r y x z (nthAabb (part .cube) shape p) n k (take (list .count) (list .boxes)) ≡ all (push room) (lookAt cells w) records shapes area r [])
+    Room room (list .boxes) (list .count) × (boxesFrom (push room) area (cellsFrom (push room) (lookAt cells w) records shapes area r y x (z + 1)) (nthAabb (part .cube) shape p) n k (take (list .count) (list .boxes)) ≡ all (push room) (lookAt cells w) records shapes area r [])
 
 abbrev μ-loop4 : tie.MeasureT-loop4
 μ-loop4 records shapes cells w q area r list₀ y x z p part shape n k₀ y-end x-end z-end list k = n - k
@@ -93,7 +93,12 @@ enum-known-n : tie.Need-enum-known-n Inv-loop4 μ-loop4 Inv-loop3 μ-loop3 Inv-l
 enum-known-n c = search needs
 
 returns : tie.Need-returns Inv-loop4 μ-loop4 Inv-loop3 μ-loop3 Inv-loop2 μ-loop2 Inv-loop μ-loop Inv-loop6 μ-loop6 Inv-loop5 μ-loop5
-returns c = not-moved _ _ _ _ _ _ (c .before .before .before .before .before .before .before .before .before .before .before .before .before .swept-area .ensures) _ (c .before .before .before .before .before .before .before .before .before .before .before .before .range-of .ensures) _ (sym (cell-refused (push room) _ _ _ _ _ _ _ _ _ (c .before .before .before .before .before .loop3-test .taken) (c .before .n .given .0 .0) (ap (cellShape _ _) (sym (c .before .before .before .before .place .ensures)) ∙ sym (c .before .before .before .part-at .ensures) ∙ ap shapeAsked (c .before .n .given .1))) ∙ c .before .before .before .before .before .before .loop3 .inv .1)
+returns c =
+    let i = c .before .before .before .before .before .before .loop3 .inv in
+    let cell = c .before .before .before .before .place .ensures in
+    let shape = sym (c .before .before .before .part-at .ensures) ∙ ap shapeAsked (c .before .n .given .1) in
+    let stop = cell-refused (push room) _ _ _ _ _ _ _ _ (cells-turn (push room) _ _ _ _ _ _ _ _ _ (c .before .before .before .before .before .loop3-test .taken) _ cell) (c .before .n .given .0 .0) shape in
+    not-moved _ _ _ _ _ _ (c .before .before .before .before .before .before .before .before .before .before .before .before .before .swept-area .ensures) _ (c .before .before .before .before .before .before .before .before .before .before .before .before .range-of .ensures) _ (sym stop ∙ i .1)
 
 enum-known-s : tie.Need-enum-known-s Inv-loop4 μ-loop4 Inv-loop3 μ-loop3 Inv-loop2 μ-loop2 Inv-loop μ-loop Inv-loop6 μ-loop6 Inv-loop5 μ-loop5
 enum-known-s c = search needs
@@ -107,7 +112,12 @@ count-of-requires :
 count-of-requires c κs = search needs
 
 loop4-holds : tie.Need-loop4-holds Inv-loop4 μ-loop4 Inv-loop3 μ-loop3 Inv-loop2 μ-loop2 Inv-loop μ-loop Inv-loop6 μ-loop6 Inv-loop5 μ-loop5
-loop4-holds c = let i = c .before .before .before .before .before .before .before .before .loop3 .inv in (i .0, rw (c .before .before .before .before .before .before .place .ensures) (sym (cell-begins (push room) _ _ _ _ _ _ _ _ _ (c .before .before .before .before .before .before .before .loop3-test .taken) (c .before .before .before .s .given .0 .0) _ _ (ap (cellShape _ _) (sym (c .before .before .before .before .before .before .place .ensures)) ∙ sym (c .before .before .before .before .before .part-at .ensures) ∙ ap shapeAsked (c .before .before .before .s .given .1)) (c .before .boxes-at .ensures) (c .count-of .ensures)) ∙ i .1))
+loop4-holds c =
+    let i = c .before .before .before .before .before .before .before .before .loop3 .inv in
+    let cell = c .before .before .before .before .before .before .place .ensures in
+    let shape = sym (c .before .before .before .before .before .part-at .ensures) ∙ ap shapeAsked (c .before .before .before .s .given .1) in
+    let begun = cell-begins (push room) _ _ _ _ _ _ _ _ (cells-turn (push room) _ _ _ _ _ _ _ _ _ (c .before .before .before .before .before .before .before .loop3-test .taken) _ cell) (c .before .before .before .s .given .0 .0) _ _ shape (c .before .boxes-at .ensures) (c .count-of .ensures) in
+    (i .0, sym begun ∙ i .1)
 
 nth-aabb-requires :
     tie.Need-nth-aabb-requires Inv-loop4 μ-loop4 Inv-loop3 μ-loop3 Inv-loop2 μ-loop2 Inv-loop μ-loop Inv-loop6 μ-loop6 Inv-loop5 μ-loop5
@@ -118,7 +128,7 @@ intersects-requires :
 intersects-requires c κs = search needs
 
 returns-2 : tie.Need-returns-2 Inv-loop4 μ-loop4 Inv-loop3 μ-loop3 Inv-loop2 μ-loop2 Inv-loop μ-loop Inv-loop6 μ-loop6 Inv-loop5 μ-loop5
-returns-2 c = let i = c .before .before .before .before .before .loop4 .inv in not-moved _ _ _ _ _ _ (c .before .before .before .before .before .before .before .before .before .before .before .before .before .before .before .before .before .before .before .before .before .swept-area .ensures) _ (c .before .before .before .before .before .before .before .before .before .before .before .before .before .before .before .before .before .before .before .before .range-of .ensures) 6 (sym (box-refused (push room) _ _ _ _ _ _ _ _ _ _ _ _ _ (c .before .before .before .before .loop4-test .taken) (c .before .before .before .nth-aabb .ensures) 6 (full room _ _ (i .0) room _ _ (c .if2 .taken) (sym (c .before .before .intersects .ensures) ∙ c .before .if1 .taken))) ∙ i .1)
+returns-2 c = let i = c .before .before .before .before .before .loop4 .inv in not-moved _ _ _ _ _ _ (c .before .before .before .before .before .before .before .before .before .before .before .before .before .before .before .before .before .before .before .before .before .swept-area .ensures) _ (c .before .before .before .before .before .before .before .before .before .before .before .before .before .before .before .before .before .before .before .before .range-of .ensures) 6 (sym (box-refused (push room) _ _ _ _ _ _ _ (c .before .before .before .before .loop4-test .taken) (c .before .before .before .nth-aabb .ensures) 6 (full room _ _ (i .0) room _ _ (c .if2 .taken) (sym (c .before .before .intersects .ensures) ∙ c .before .if1 .taken))) ∙ i .1)
 
 mul-b : tie.Need-mul-b Inv-loop4 μ-loop4 Inv-loop3 μ-loop3 Inv-loop2 μ-loop2 Inv-loop μ-loop Inv-loop6 μ-loop6 Inv-loop5 μ-loop5
 mul-b c = let i = c .before .before .before .before .before .loop4 .inv .0 .whole in omega arith
@@ -144,7 +154,7 @@ loop4-again c =
     let boxes-in : BoxList → List Aabb = λ x. x .boxes in
     let count-in : BoxList → ℕ = λ x. x .count in
     let m = ⊎-elim (λ w. let b : l .count < 128 = w .1 .left in kept room room _ _ (l .boxes) (c .if1 .list .boxes) (l .count) (c .if1 .list .count) (i .0) (ap boxes-in (w .2)) (ap count-in (w .2)) b b (o ∙ w .0 .taken)) (λ w. passed room room _ _ (l .boxes) (c .if1 .list .boxes) (l .count) (c .if1 .list .count) (i .0) (ap boxes-in (w .1)) (ap count-in (w .1)) (o ∙ w .0 .left)) (c .if1 .came) in
-    (m .0, sym (box-next (push room) _ _ _ _ _ _ _ _ _ _ _ _ _ (c .before .before .before .loop4-test .taken) (c .before .before .nth-aabb .ensures) _ (m .1)) ∙ i .1)
+    (m .0, sym (box-next (push room) _ _ _ _ _ _ _ (c .before .before .before .loop4-test .taken) (c .before .before .nth-aabb .ensures) _ (m .1)) ∙ i .1)
 
 add-z : tie.Need-add-z Inv-loop4 μ-loop4 Inv-loop3 μ-loop3 Inv-loop2 μ-loop2 Inv-loop μ-loop Inv-loop6 μ-loop6 Inv-loop5 μ-loop5
 add-z c = let h : c .before .before .before .before .before .before .before .before .before .before .loop3 .z < c .before .before .before .before .before .before .before .before .before .before .before .before .before .before .before .before .range-of .result .z .count = c .before .before .before .before .before .before .before .before .before .loop3-test .taken in omega (arith, c .before .before .before .before .before .before .before .before .before .before .before .before .before .before .before .before .range-of .ok .1 .1 .1 .1 .0)
@@ -153,7 +163,7 @@ loop3-less : tie.Need-loop3-less Inv-loop4 μ-loop4 Inv-loop3 μ-loop3 Inv-loop2
 loop3-less c = omega arith
 
 loop3-again : tie.Need-loop3-again Inv-loop4 μ-loop4 Inv-loop3 μ-loop3 Inv-loop2 μ-loop2 Inv-loop μ-loop Inv-loop6 μ-loop6 Inv-loop5 μ-loop5
-loop3-again c = let i = c .before .loop4 .inv in (i .0, sym (boxes-end (push room) _ _ _ _ _ _ _ _ _ _ _ _ (c .loop4-test .left)) ∙ i .1)
+loop3-again c = let i = c .before .loop4 .inv in (i .0, sym (boxes-end (push room) _ _ _ _ _ _ (c .loop4-test .left)) ∙ i .1)
 
 add-x : tie.Need-add-x Inv-loop4 μ-loop4 Inv-loop3 μ-loop3 Inv-loop2 μ-loop2 Inv-loop μ-loop Inv-loop6 μ-loop6 Inv-loop5 μ-loop5
 add-x c = let h : c .before .before .before .loop2 .x < c .before .before .before .before .before .before .before .range-of .result .x .count = c .before .before .loop2-test .taken in omega arith
