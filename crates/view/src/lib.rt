@@ -100,14 +100,7 @@ pub fn checked_view<'r, 's, 'a>(
 // The three for a caller that has cells and numbers apart: their parameters are plain, so whoever calls them needs no proof by hand.
 
 pub fn move_window(
-    records: &[u32],
-    shapes: &[f32],
-    cells: &[u32],
-    w: Window,
-    aabb: Aabb,
-    delta: Vec3,
-    step: f64,
-    ground: bool,
+    records: &[u32], shapes: &[f32], cells: &[u32], w: Window, aabb: Aabb, delta: Vec3, step: f64, ground: bool,
 ) -> MoveAnswer
     ensures { λ r. ⌜ r ≡ moveEntry (now (records .entry)) (now (shapes .entry)) (now (cells .entry)) w aabb delta step ground ⌝ }
 {
@@ -115,14 +108,7 @@ pub fn move_window(
 }
 
 pub fn step_window(
-    records: &[u32],
-    shapes: &[f32],
-    cells: &[u32],
-    w: Window,
-    rules: Rules,
-    body: BodyNumbers,
-    given: MotionNumbers,
-    age: u64,
+    records: &[u32], shapes: &[f32], cells: &[u32], w: Window, rules: Rules, body: BodyNumbers, given: MotionNumbers, age: u64,
 ) -> StepAnswer
     ensures { λ r. ⌜ r ≡ stepEntry (now (records .entry)) (now (shapes .entry)) (now (cells .entry)) w rules body given age ⌝ }
 {
@@ -130,14 +116,7 @@ pub fn step_window(
 }
 
 pub fn checked_window(
-    records: &[u32],
-    shapes: &[f32],
-    cells: &[u32],
-    w: Window,
-    rules: Rules,
-    body: BodyNumbers,
-    given: MotionNumbers,
-    age: u64,
+    records: &[u32], shapes: &[f32], cells: &[u32], w: Window, rules: Rules, body: BodyNumbers, given: MotionNumbers, age: u64,
 ) -> StepAnswer
     ensures { λ r. ⌜ r ≡ checkedEntry (now (records .entry)) (now (shapes .entry)) (now (cells .entry)) w rules body given age ⌝ }
 {
