@@ -20,9 +20,9 @@ use Rattle.lent.specs.Lent.{lentRefusal}
 use Rattle.window.specs.declared.Window.{Window}
 use Rattle.window.specs.Look.{lookAt}
 use Rattle.step.specs.declared.StepAnswer.{StepAnswer}
-use Rattle.step.specs.declared.Tick.{Tick}
+use Rattle.ticks.specs.declared.Tick.{Tick}
 use Rattle.step.specs.Answers.{finiteTick, stepAnswer}
-use Rattle.step.specs.Step.{stepBodySensed}
+use Rattle.ticks.specs.Step.{stepBodySensed}
 use Rattle.exports.specs.Room.{roomy}
 use Rattle.lent_steps.specs.Steps.{stepNumbers}
 
