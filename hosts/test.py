@@ -72,8 +72,8 @@ def as_numpy(a):
     return numpy.frombuffer(a.tobytes(), dtype={"I": numpy.uint32, "f": numpy.float32, "d": numpy.float64}[a.typecode])
 
 
-COUNTS = {name: Count(name) for name in ("tick", "ticks", "step", "step_checked", "steps", "check_tables", "move",
-                                         "move_over_list", "collected", "step of numpy's arrays", "two ticks at a door", "arrays as they are")}
+COUNTS = {name: Count(name) for name in ("tick", "ticks", "step", "step_checked", "steps", "check_tables", "move", "move_over_list", "collected",
+                                         "move over what it collects", "step of numpy's arrays", "two ticks at a door", "arrays as they are")}
 
 
 def one_scene(name, theirs):
@@ -94,8 +94,18 @@ def one_scene(name, theirs):
     # A move through the window meets 1 and 2 as the step does; its step height is then 3.
     refused = asked(b.move, tables, window, b.Mover((0.0,) * 6, (0.0,) * 3, 5.0))
     COUNTS["move"].add(name, "refused %d" % refused.number, theirs if early else "refused 3")
+    over_collected(name, tables, window, body)
     if numpy:
         COUNTS["step of numpy's arrays"].add(name, tick_text(asked(b.step, *parts(scene, as_numpy))), theirs)
+
+
+def over_collected(name, tables, window, body):
+    """A move through a window is the move over the boxes that it collects: here the body's own box, by its velocity."""
+    (x, y, z), delta, (width, height), step = body.numbers[:3], body.numbers[3:6], body.numbers[6:8], body.numbers[13]
+    mover = b.Mover((x - width / 2, y, z - width / 2, x + width / 2, y + height, z + width / 2), tuple(delta), step, body.words[0])
+    boxes = asked(b.collected, tables, window, mover)
+    over = boxes if isinstance(boxes, b.Refused) else asked(b.move_over_list, [number for box in boxes for number in box], mover)
+    COUNTS["move over what it collects"].add(name, move_text(mover, asked(b.move, tables, window, mover)), move_text(mover, over))
 
 
 def one_list(call, theirs):
