@@ -7,7 +7,7 @@
 
 enum { WORDS = 128 * 128, ROOM = 1 << 16 };
 
-static uint32_t file[WORDS + 1], body[48], records[WORDS], window[6], cells[WORDS];
+static uint32_t file[2 * WORDS], body[48], records[WORDS], window[6], cells[WORDS];
 static float shapes[WORDS];
 static char line[ROOM];
 static size_t block;
@@ -47,11 +47,12 @@ static void parts(void) {
     part(123, (size_t)window[3] * window[4] * window[5], cells);
 }
 
-/* Reads a file (the machine is little-endian); of a longer one than any scene one byte more, so that it is no whole number of blocks. */
+/* Reads a file whole (the machine is little-endian). */
 static size_t read_file(const char *path) {
     FILE *f = fopen(path, "rb");
     if (!f) exit(2);
-    size_t n = fread(file, 1, 4 * WORDS + 1, f);
+    size_t n = fread(file, 1, sizeof file, f);
+    if (n == sizeof file) exit(2);
     fclose(f);
     return n;
 }
