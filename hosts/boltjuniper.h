@@ -1,5 +1,6 @@
-/* Boltjuniper for hosts in C: the functions of crates/exports that a host calls. Link target/staticlib/libexports.a (`rt staticlib exports`)
-   and libm.
+/* Boltjuniper for hosts in C: the functions of crates/exports that a host calls, and that of crates/shown. Link
+   target/staticlib/libexports.a (`rt staticlib exports`) and libm; for boltjuniper_collected also target/staticlib/libshown.a (`rt staticlib
+   shown`).
 
    A slice is a pointer and its number of elements, aligned as its type asks. Nothing beyond that number is read or written, what is handed
    in is only read, and `out` must not overlap it. Every call ends, and every input gets an answer: 0, or the number of a refusal
@@ -52,9 +53,9 @@ uint32_t boltjuniper_step_checked(const uint32_t *records, size_t records_len, c
                                   const double *numbers, size_t numbers_len, const uint32_t *words, size_t words_len, uint64_t age, double *out,
                                   size_t out_len);
 
-/* One tick of the scene in file (blocks of 512 bytes, as onetick reads them). It writes feet, velocity, ground and liquid to out, eight numbers,
-   and returns 0; or it returns a refusal and writes nothing: 8 where the file is no scene, then 1 to 4, then 11 where out_len is below 8, then
-   5, 6, 7 or 9. It keeps three arrays of 15,744 words of the file on the stack, some 190 KB: call it from a thread that has them. */
+/* One tick of the scene in `file` (blocks of 512 bytes, as onetick reads them; no alignment is asked for). Writes the same eight numbers to `out`.
+   Returns 0; or 8 where the file is no scene, 1, 2, 3, 4, 11, then 5, 6 or 7 at the first such event, then 9. It keeps three arrays of 15,744
+   words of the file on the stack, some 190 KB: call it from a thread that has them. */
 uint32_t boltjuniper_tick(const uint8_t *file, size_t file_len, double *out, size_t out_len);
 
 /* The move of a box through a window: takes tables, a window, `mover` (the box x0 y0 z0 x1 y1 z1, then its delta x y z: nine numbers), the
@@ -70,6 +71,14 @@ uint32_t boltjuniper_move(const uint32_t *records, size_t records_len, const flo
    than 128 boxes). */
 uint32_t boltjuniper_move_over_list(const double *boxes, size_t boxes_len, const double *mover, size_t mover_len, double step, uint32_t ground,
                                     double *out, size_t out_len);
+
+/* For pictures: the boxes that the move of a box through a window collects, one at a call. It takes what boltjuniper_move does, without the
+   ground, and k, which box is asked for. Writes seven numbers to `out`: how many boxes there are, at most 128, and box k, zeros where k is not
+   below that. Returns 0; or 1, 2, 3 (the step height), 4 (the box or the delta, or other than nine numbers), 11, then 5 or 6 at the first such
+   event. */
+uint32_t boltjuniper_collected(const uint32_t *records, size_t records_len, const float *shapes, size_t shapes_len, const uint32_t *cells,
+                               size_t cells_len, int32_t ox, int32_t oy, int32_t oz, uint32_t sx, uint32_t sy, uint32_t sz, const double *mover,
+                               size_t mover_len, double step, uint32_t k, double *out, size_t out_len);
 
 #ifdef __cplusplus
 }

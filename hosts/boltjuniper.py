@@ -103,7 +103,7 @@ DECLARED = {
     "step_checked": TABLES + WINDOW + BODY + SLICE,
     "move": TABLES + WINDOW + SLICE + STEP + SLICE,
     "move_over_list": SLICE * 2 + STEP + SLICE,
-    "collected": TABLES + WINDOW + SLICE + [ctypes.c_double] + SLICE,
+    "collected": TABLES + WINDOW + SLICE + STEP + SLICE,
     "tick": SLICE * 2,
 }
 _loaded = {}
@@ -200,10 +200,10 @@ class _Lent:
         self.arguments += _whole([mover.ground], 0, 2**32)
         return self
 
-    def answer(self, name, numbers):
-        """Calls a function that writes so many numbers: these, or Refused as a value."""
+    def answer(self, name, numbers, *last):
+        """Calls a function that writes so many numbers: these, or Refused as a value. `last` are arguments that change from call to call."""
         out = (ctypes.c_double * numbers)()
-        refusal = _function(name)(*self.arguments, *([ctypes.addressof(out), numbers] if numbers else []))
+        refusal = _function(name)(*self.arguments, *last, *([ctypes.addressof(out), numbers] if numbers else []))
         return Refused(refusal) if refusal else list(out)
 
 
@@ -258,8 +258,12 @@ def move(tables, window, mover):
 
 def collected(tables, window, mover):
     """The boxes that a move through a window collects, each least x y z and greatest x y z, in their order."""
-    out = _judged(_Lent().tables(tables).window(window).swept(mover).answer("collected", 1 + 6 * 128))
-    return [tuple(out[1 + 6 * k:7 + 6 * k]) for k in range(int(out[0]))]
+    lent = _Lent().tables(tables).window(window).swept(mover)
+
+    def count_and_box(k):
+        return _judged(lent.answer("collected", 7, k))
+
+    return [tuple(count_and_box(k)[1:]) for k in range(int(count_and_box(0)[0]))]
 
 
 def move_over_list(boxes, mover):
