@@ -10,7 +10,7 @@ use lib.Ieee.{Float, binary64, ofInt}
 use Rattle.base.specs.Choose.{choose}
 use Rattle.base.specs.Loop.{stored}
 use Rattle.boxes.specs.declared.Aabb.{Aabb}
-use Rattle.boxes.specs.Lists.{Held, noBox}
+use Rattle.sweeps.specs.Lists.{Held, noBox}
 use Rattle.lent.specs.Lent.{sound, unless}
 use Rattle.lent_boxes.specs.Boxes.{vecAt, aabbAt}
 use Rattle.lent_boxes.specs.Moves.{moverRefusal}

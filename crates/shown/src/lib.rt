@@ -1,8 +1,8 @@
 // What a picture of a move shows: the boxes that the move collects, in lent numbers. A picture's host links it beside `exports`; no host of a
 // tick does.
 use boxes::Aabb;
-use boxes::BoxList;
-use boxes::Collected;
+use sweeps::BoxList;
+use sweeps::Collected;
 use boxes::Vec3;
 use lent_boxes::put;
 use lent_boxes::put_vec;
@@ -10,7 +10,7 @@ use window::Window;
 ghost use mathlib.Core.Path.{_≡_};
 ghost use lib.ListN.{length, getD};
 ghost use Rattle.base.specs.Loop.{stored};
-ghost use Rattle.boxes.specs.Lists.{noBox, listOf, heldIn};
+ghost use Rattle.sweeps.specs.Lists.{noBox, listOf, heldIn};
 ghost use Rattle.window.specs.Numbers.{windowOf};
 ghost use Rattle.shown.specs.Shown.{sweptBy, collectedAt, numbersAt, boxWritten};
 

@@ -1,7 +1,7 @@
 -- `shown::count_of` meets its contract. Assumes nothing.
 use mathlib.Core.Path.{_≡_, sym, _∙_}
 use lib.ListN.{length, length-map}
-use Rattle.boxes.specs.Lists.{room}
+use Rattle.sweeps.specs.Lists.{room}
 use Rattle.shown.proofs.Lists.{few, many}
 use borrow.Author.Needs.{needs}
 use Rattle.shown.proofs.count_of.Statement.{statement}

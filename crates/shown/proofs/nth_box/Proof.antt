@@ -1,7 +1,7 @@
 -- `shown::nth_box` meets its contract. Assumes nothing.
 use mathlib.Core.Path.{_≡_, sym, _∙_}
 use lib.ListN.{length, length-map}
-use Rattle.boxes.specs.Lists.{room, noBox}
+use Rattle.sweeps.specs.Lists.{room, noBox}
 use Rattle.shown.proofs.Lists.{roomed, is-nth, beyond}
 use borrow.Author.Needs.{needs}
 use Rattle.shown.proofs.nth_box.Statement.{statement}
