@@ -76,7 +76,8 @@ pub extern "C" fn boltjuniper_step_checked(
         let rules = bodies::rules_from(numbers, words);
         let body = bodies::body_from(numbers, words);
         let given = bodies::motion_from(numbers, words);
-        return answer_into(out, view::checked_window(records, shapes, cells, w, rules, body, given, age));
+        let a = view::checked_window(records, shapes, cells, w, rules, body, given, age);
+        return answer_into(out, a);
     }
     let early = body_refusal(records, numbers, words);
     short_of(0, early)

@@ -18,7 +18,10 @@ friction-of-requires c κs = search needs
 
 returns : tie.Need-returns
 unfolding bodyOf
-returns c = rw (← c .before .before .before .flap-of .ensures, ← c .before .before .model-of .ensures, ← c .before .stage-of .ensures, ← c .friction-of .ensures)
+returns c =
+    let at-model-of = c .before .before in
+    let at-flap-of = at-model-of .before in
+    rw (← at-flap-of .flap-of .ensures, ← at-model-of .model-of .ensures, ← c .before .stage-of .ensures, ← c .friction-of .ensures)
 
 pub body-of-spec : {M : Type 1} → statement M
 body-of-spec =

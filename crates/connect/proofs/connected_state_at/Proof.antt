@@ -24,11 +24,19 @@ enum-known-told-2 c = search needs
 
 returns-2 : tie.Need-returns-2
 unfolding connectedEntry choose
-returns-2 c = rw (← c .before .before .before .before .before .check-lent .ensures, eq-eqb _ _ (c .before .before .before .before .if1 .left), ← c .before .before .before .connected-state .ensures, c .before .told .given .1)
+returns-2 c =
+    let at-connected-state = c .before .before .before in
+    let at-if1 = at-connected-state .before in
+    let at-check-lent = at-if1 .before in
+    rw (← at-check-lent .check-lent .ensures, eq-eqb _ _ (at-if1 .if1 .left), ← at-connected-state .connected-state .ensures, c .before .told .given .1)
 
 returns-3 : tie.Need-returns-3
 unfolding connectedEntry choose
-returns-3 c = rw (← c .before .before .before .before .before .check-lent .ensures, eq-eqb _ _ (c .before .before .before .before .if1 .left), ← c .before .before .before .connected-state .ensures, c .before .told2 .given .1)
+returns-3 c =
+    let at-connected-state = c .before .before .before in
+    let at-if1 = at-connected-state .before in
+    let at-check-lent = at-if1 .before in
+    rw (← at-check-lent .check-lent .ensures, eq-eqb _ _ (at-if1 .if1 .left), ← at-connected-state .connected-state .ensures, c .before .told2 .given .1)
 
 pub connected-state-at-spec : {M : Type 1} → statement M
 connected-state-at-spec =

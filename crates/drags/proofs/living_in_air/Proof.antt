@@ -16,7 +16,10 @@ living-velocity-requires : tie.Need-living-velocity-requires
 living-velocity-requires c κs = search needs
 
 returns : tie.Need-returns
-returns c = rw (← c .before .before .before .grip .ensures, ← c .before .before .fallen .ensures, ← c .before .flapped .ensures, ← c .living-velocity .ensures)
+returns c =
+    let at-fallen = c .before .before in
+    let at-grip = at-fallen .before in
+    rw (← at-grip .grip .ensures, ← at-fallen .fallen .ensures, ← c .before .flapped .ensures, ← c .living-velocity .ensures)
 
 pub living-in-air-spec : {M : Type 1} → statement M
 living-in-air-spec =

@@ -13,7 +13,11 @@ is-dry-requires c κs = search needs
 
 returns : tie.Need-returns
 unfolding pulled choose
-returns c = rw (← c .before .before .before .before .is-before-move .ensures, ← c .before .before .before .is-dry .ensures, c .before .before .if1 .taken)
+returns c =
+    let at-if1 = c .before .before in
+    let at-is-dry = at-if1 .before in
+    let at-is-before-move = at-is-dry .before in
+    rw (← at-is-before-move .is-before-move .ensures, ← at-is-dry .is-dry .ensures, at-if1 .if1 .taken)
 
 returns-2 : tie.Need-returns-2
 unfolding pulled choose

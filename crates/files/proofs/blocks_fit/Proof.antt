@@ -16,7 +16,10 @@ parts-fit-requires c κs = search needs
 
 returns : tie.Need-returns
 unfolding blocksFit
-returns c = rw (← c .before .before .before .blocks-for .ensures, le-leb _ _ (c .before .before .if1 .taken), eq-eqb _ _ (c .before .if2 .taken), ← c .parts-fit .ensures)
+returns c =
+    let at-if1 = c .before .before in
+    let at-blocks-for = at-if1 .before in
+    rw (← at-blocks-for .blocks-for .ensures, le-leb _ _ (at-if1 .if1 .taken), eq-eqb _ _ (c .before .if2 .taken), ← c .parts-fit .ensures)
 
 returns-2 : tie.Need-returns-2
 unfolding blocksFit

@@ -19,13 +19,19 @@ rest-fits-requires : tie.Need-rest-fits-requires
 rest-fits-requires c κs = search needs
 
 returns : tie.Need-returns
-returns c = counts-all _ _ (ap countsAsked (sym (c .before .before .before .n .given .1)) ∙ c .before .before .before .before .before .counts-within .ensures) (sym (c .before .rest-fits .ensures) ∙ c .if1 .taken)
+returns c =
+    let at-n = c .before .before .before in
+    let at-counts-within = at-n .before .before in
+    counts-all _ _ (ap countsAsked (sym (at-n .n .given .1)) ∙ at-counts-within .counts-within .ensures) (sym (c .before .rest-fits .ensures) ∙ c .if1 .taken)
 
 returns-2 : tie.Need-returns-2
 returns-2 c = no-counts _ (ap countsAsked (sym (c .enum-told .given .1)) ∙ c .before .before .counts-within .ensures)
 
 returns-3 : tie.Need-returns-3
-returns-3 c = counts-none _ _ (ap countsAsked (sym (c .before .before .before .n .given .1)) ∙ c .before .before .before .before .before .counts-within .ensures) (sym (c .before .rest-fits .ensures) ∙ c .if1 .left)
+returns-3 c =
+    let at-n = c .before .before .before in
+    let at-counts-within = at-n .before .before in
+    counts-none _ _ (ap countsAsked (sym (at-n .n .given .1)) ∙ at-counts-within .counts-within .ensures) (sym (c .before .rest-fits .ensures) ∙ c .if1 .left)
 
 pub counts-of-spec : {M : Type 1} → statement M
 counts-of-spec =

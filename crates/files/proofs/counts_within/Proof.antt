@@ -52,7 +52,11 @@ returns-2 c = counts-unfit (c .before .before .before .before .before .before .b
 
 returns-3 : tie.Need-returns-3
 unfolding countsFit choose
-returns-3 c = rw (← c .before .before .before .before .body-word .ensures, ← c .before .before .before .body-word2 .ensures, le-leb _ _ (c .before .before .if1 .taken), le-leb _ _ (c .before .if2 .taken), lt-leb _ _ (c .if3 .left))
+returns-3 c =
+    let at-if1 = c .before .before in
+    let at-body-word2 = at-if1 .before in
+    let at-body-word = at-body-word2 .before in
+    rw (← at-body-word .body-word .ensures, ← at-body-word2 .body-word2 .ensures, le-leb _ _ (at-if1 .if1 .taken), le-leb _ _ (c .before .if2 .taken), lt-leb _ _ (c .if3 .left))
 
 returns-4 : tie.Need-returns-4
 unfolding countsFit choose

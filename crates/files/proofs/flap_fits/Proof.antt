@@ -20,11 +20,18 @@ body-word-requires-3 c κs = search needs
 
 returns-2 : tie.Need-returns-2
 unfolding flapFits
-returns-2 c = rw (← c .before .before .before .before .body-word .ensures, eq-eqb _ _ (c .before .before .before .if1 .left), ← c .before .before .body-word2 .ensures, eq-eqb _ _ (c .before .if2 .taken), ← c .body-word3 .ensures)
+returns-2 c =
+    let at-body-word2 = c .before .before in
+    let at-if1 = at-body-word2 .before in
+    let at-body-word = at-if1 .before in
+    rw (← at-body-word .body-word .ensures, eq-eqb _ _ (at-if1 .if1 .left), ← at-body-word2 .body-word2 .ensures, eq-eqb _ _ (c .before .if2 .taken), ← c .body-word3 .ensures)
 
 returns-3 : tie.Need-returns-3
 unfolding flapFits
-returns-3 c = rw (← c .before .before .before .body-word .ensures, eq-eqb _ _ (c .before .before .if1 .left), ← c .before .body-word2 .ensures, ne-eqb _ _ (c .if2 .left))
+returns-3 c =
+    let at-if1 = c .before .before in
+    let at-body-word = at-if1 .before in
+    rw (← at-body-word .body-word .ensures, eq-eqb _ _ (at-if1 .if1 .left), ← c .before .body-word2 .ensures, ne-eqb _ _ (c .if2 .left))
 
 pub flap-fits-spec : {M : Type 1} → statement M
 flap-fits-spec =

@@ -21,19 +21,42 @@ cells-fit-requires c κs = search needs
 
 returns : tie.Need-returns
 unfolding partsFit
-returns c = rw (← c .before .before .before .before .before .before .before .before .body-fits .ensures, c .before .before .before .before .before .before .before .if1 .taken, ← c .before .before .before .before .before .before .records-fit .ensures, c .before .before .before .before .before .if2 .taken, ← c .before .before .before .before .boxes-fit .ensures, c .before .before .before .if3 .taken, ← c .before .before .window-fits .ensures, c .before .if4 .taken, ← c .cells-fit .ensures)
+returns c =
+    let at-window-fits = c .before .before in
+    let at-if3 = at-window-fits .before in
+    let at-boxes-fit = at-if3 .before in
+    let at-if2 = at-boxes-fit .before in
+    let at-records-fit = at-if2 .before in
+    let at-if1 = at-records-fit .before in
+    let at-body-fits = at-if1 .before in
+    rw (← at-body-fits .body-fits .ensures, at-if1 .if1 .taken, ← at-records-fit .records-fit .ensures, at-if2 .if2 .taken, ← at-boxes-fit .boxes-fit .ensures, at-if3 .if3 .taken, ← at-window-fits .window-fits .ensures, c .before .if4 .taken, ← c .cells-fit .ensures)
 
 returns-2 : tie.Need-returns-2
 unfolding partsFit
-returns-2 c = rw (← c .before .before .before .before .before .before .before .body-fits .ensures, c .before .before .before .before .before .before .if1 .taken, ← c .before .before .before .before .before .records-fit .ensures, c .before .before .before .before .if2 .taken, ← c .before .before .before .boxes-fit .ensures, c .before .before .if3 .taken, ← c .before .window-fits .ensures, c .if4 .left)
+returns-2 c =
+    let at-if3 = c .before .before in
+    let at-boxes-fit = at-if3 .before in
+    let at-if2 = at-boxes-fit .before in
+    let at-records-fit = at-if2 .before in
+    let at-if1 = at-records-fit .before in
+    let at-body-fits = at-if1 .before in
+    rw (← at-body-fits .body-fits .ensures, at-if1 .if1 .taken, ← at-records-fit .records-fit .ensures, at-if2 .if2 .taken, ← at-boxes-fit .boxes-fit .ensures, at-if3 .if3 .taken, ← c .before .window-fits .ensures, c .if4 .left)
 
 returns-3 : tie.Need-returns-3
 unfolding partsFit
-returns-3 c = rw (← c .before .before .before .before .before .body-fits .ensures, c .before .before .before .before .if1 .taken, ← c .before .before .before .records-fit .ensures, c .before .before .if2 .taken, ← c .before .boxes-fit .ensures, c .if3 .left)
+returns-3 c =
+    let at-if2 = c .before .before in
+    let at-records-fit = at-if2 .before in
+    let at-if1 = at-records-fit .before in
+    let at-body-fits = at-if1 .before in
+    rw (← at-body-fits .body-fits .ensures, at-if1 .if1 .taken, ← at-records-fit .records-fit .ensures, at-if2 .if2 .taken, ← c .before .boxes-fit .ensures, c .if3 .left)
 
 returns-4 : tie.Need-returns-4
 unfolding partsFit
-returns-4 c = rw (← c .before .before .before .body-fits .ensures, c .before .before .if1 .taken, ← c .before .records-fit .ensures, c .if2 .left)
+returns-4 c =
+    let at-if1 = c .before .before in
+    let at-body-fits = at-if1 .before in
+    rw (← at-body-fits .body-fits .ensures, at-if1 .if1 .taken, ← c .before .records-fit .ensures, c .if2 .left)
 
 returns-5 : tie.Need-returns-5
 unfolding partsFit

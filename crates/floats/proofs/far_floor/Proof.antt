@@ -20,21 +20,35 @@ given-requires c κs = search needs
 
 returns : tie.Need-returns
 unfolding ofBits
-returns c = taken _ _ _ _ (c .given .ensures) (sym (c .before .before .before .is-finite .ensures) ∙ c .before .before .if1 .taken) (whole-floor (c .before .before .before .before .args .x) (passed _ _ (c .before .before .before .is-finite .ensures) (c .before .before .if1 .taken)) (held (c .before .before .before .before)) (c .before .if2 .taken))
+returns c =
+    let at-if1 = c .before .before in
+    let at-is-finite = at-if1 .before in
+    let start = at-is-finite .before in
+    taken _ _ _ _ (c .given .ensures) (sym (at-is-finite .is-finite .ensures) ∙ at-if1 .if1 .taken) (whole-floor (start .args .x) (passed _ _ (at-is-finite .is-finite .ensures) (at-if1 .if1 .taken)) (held (start)) (c .before .if2 .taken))
 
 given-requires-2 : tie.Need-given-requires-2
 given-requires-2 c κs = search needs
 
 returns-2 : tie.Need-returns-2
 unfolding ofBits
-returns-2 c = taken _ _ _ _ (c .given2 .ensures) (sym (c .before .before .before .before .is-finite .ensures) ∙ c .before .before .before .if1 .taken) (low-floor (c .before .before .before .before .before .args .x) (passed _ _ (c .before .before .before .before .is-finite .ensures) (c .before .before .before .if1 .taken)) (held (c .before .before .before .before .before)) (c .before .before .if2 .left) (c .before .if3 .taken))
+returns-2 c =
+    let at-if2 = c .before .before in
+    let at-if1 = at-if2 .before in
+    let at-is-finite = at-if1 .before in
+    let start = at-is-finite .before in
+    taken _ _ _ _ (c .given2 .ensures) (sym (at-is-finite .is-finite .ensures) ∙ at-if1 .if1 .taken) (low-floor (start .args .x) (passed _ _ (at-is-finite .is-finite .ensures) (at-if1 .if1 .taken)) (held (start)) (at-if2 .if2 .left) (c .before .if3 .taken))
 
 given-requires-3 : tie.Need-given-requires-3
 given-requires-3 c κs = search needs
 
 returns-3 : tie.Need-returns-3
 unfolding ofBits
-returns-3 c = taken _ _ _ _ (c .given3 .ensures) (sym (c .before .before .before .before .is-finite .ensures) ∙ c .before .before .before .if1 .taken) (high-floor (c .before .before .before .before .before .args .x) (passed _ _ (c .before .before .before .before .is-finite .ensures) (c .before .before .before .if1 .taken)) (held (c .before .before .before .before .before)) (c .before .before .if2 .left) (c .before .if3 .left))
+returns-3 c =
+    let at-if2 = c .before .before in
+    let at-if1 = at-if2 .before in
+    let at-is-finite = at-if1 .before in
+    let start = at-is-finite .before in
+    taken _ _ _ _ (c .given3 .ensures) (sym (at-is-finite .is-finite .ensures) ∙ at-if1 .if1 .taken) (high-floor (start .args .x) (passed _ _ (at-is-finite .is-finite .ensures) (at-if1 .if1 .taken)) (held (start)) (at-if2 .if2 .left) (c .before .if3 .left))
 
 refused-requires : tie.Need-refused-requires
 refused-requires c κs = search needs

@@ -25,7 +25,11 @@ blocks-motion-requires c κs = search needs
 
 returns : tie.Need-returns
 unfolding blocksLiquidFlow choose
-returns c = rw (← c .before .before .before .before .before .before .look-by .ensures, c .before .before .before .before .cell .given .1, ← c .before .before .is-registered .ensures, c .before .if1 .taken, ← c .blocks-motion .ensures)
+returns c =
+    let at-is-registered = c .before .before in
+    let at-cell = at-is-registered .before .before in
+    let at-look-by = at-cell .before .before in
+    rw (← at-look-by .look-by .ensures, at-cell .cell .given .1, ← at-is-registered .is-registered .ensures, c .before .if1 .taken, ← c .blocks-motion .ensures)
 
 returns-2 : tie.Need-returns-2
 unfolding blocksLiquidFlow choose
@@ -37,7 +41,10 @@ returns-3 c = rw (← c .before .before .look-by .ensures, c .enum-told2 .given 
 
 returns-4 : tie.Need-returns-4
 unfolding blocksLiquidFlow choose
-returns-4 c = rw (← c .before .before .before .before .before .look-by .ensures, c .before .before .before .cell .given .1, ← c .before .is-registered .ensures, c .if1 .left)
+returns-4 c =
+    let at-cell = c .before .before .before in
+    let at-look-by = at-cell .before .before in
+    rw (← at-look-by .look-by .ensures, at-cell .cell .given .1, ← c .before .is-registered .ensures, c .if1 .left)
 
 pub blocks-liquid-flow-spec : {M : Type 1} → statement M
 blocks-liquid-flow-spec =

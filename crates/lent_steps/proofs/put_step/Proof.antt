@@ -30,7 +30,15 @@ same-length c = search needs
 
 returns : tie.Need-returns
 unfolding stored
-returns c = rw (c .before .before .put2 .ensures, c .before .before .before .float-of2 .ensures, c .before .before .before .before .kind-number .ensures, c .before .before .before .before .before .before .before .before .put .ensures, c .before .before .before .before .before .before .before .before .before .float-of .ensures, c .before .before .before .before .before .before .before .before .before .before .before .before .before .put-vec2 .ensures, c .before .before .before .before .before .before .before .before .before .before .before .before .before .before .before .before .before .put-vec .ensures)
+returns c =
+    let at-put2 = c .before .before in
+    let at-float-of2 = at-put2 .before in
+    let at-kind-number = at-float-of2 .before in
+    let at-put = at-kind-number .before .before .before .before in
+    let at-float-of = at-put .before in
+    let at-put-vec2 = at-float-of .before .before .before .before in
+    let at-put-vec = at-put-vec2 .before .before .before .before in
+    rw (at-put2 .put2 .ensures, at-float-of2 .float-of2 .ensures, at-kind-number .kind-number .ensures, at-put .put .ensures, at-float-of .float-of .ensures, at-put-vec2 .put-vec2 .ensures, at-put-vec .put-vec .ensures)
 
 pub put-step-spec : {M : Type 1} → statement M
 put-step-spec =

@@ -24,14 +24,22 @@ collect-requires c κs = search needs
 
 returns-2 : tie.Need-returns-2
 unfolding collectEntry choose
-returns-2 c = rw (← c .before .before .before .before .check-lent .ensures, eq-eqb _ _ (c .before .before .before .if1 .left), ← c .before .before .is-box .ensures, c .before .if2 .taken, ← c .collect .ensures)
+returns-2 c =
+    let at-is-box = c .before .before in
+    let at-if1 = at-is-box .before in
+    let at-check-lent = at-if1 .before in
+    rw (← at-check-lent .check-lent .ensures, eq-eqb _ _ (at-if1 .if1 .left), ← at-is-box .is-box .ensures, c .before .if2 .taken, ← c .collect .ensures)
 
 refused-requires-2 : tie.Need-refused-requires-2
 refused-requires-2 c κs = search needs
 
 returns-3 : tie.Need-returns-3
 unfolding collectEntry choose
-returns-3 c = rw (← c .before .before .before .before .check-lent .ensures, eq-eqb _ _ (c .before .before .before .if1 .left), ← c .before .before .is-box .ensures, c .before .if2 .left, ← c .refused2 .ensures)
+returns-3 c =
+    let at-is-box = c .before .before in
+    let at-if1 = at-is-box .before in
+    let at-check-lent = at-if1 .before in
+    rw (← at-check-lent .check-lent .ensures, eq-eqb _ _ (at-if1 .if1 .left), ← at-is-box .is-box .ensures, c .before .if2 .left, ← c .refused2 .ensures)
 
 pub collect-block-boxes-spec : {M : Type 1} → statement M
 collect-block-boxes-spec =

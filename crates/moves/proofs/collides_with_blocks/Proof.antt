@@ -27,15 +27,30 @@ enum-known-told-2 c = search needs
 
 returns-2 : tie.Need-returns-2
 unfolding collidesEntry choose
-returns-2 c = rw (← c .before .before .before .before .before .before .before .check-lent .ensures, eq-eqb _ _ (c .before .before .before .before .before .before .if1 .left), ← c .before .before .before .before .before .is-box .ensures, c .before .before .before .before .if2 .taken, ← c .before .before .before .collides .ensures, c .before .told .given .1)
+returns-2 c =
+    let at-collides = c .before .before .before in
+    let at-if2 = at-collides .before in
+    let at-is-box = at-if2 .before in
+    let at-if1 = at-is-box .before in
+    let at-check-lent = at-if1 .before in
+    rw (← at-check-lent .check-lent .ensures, eq-eqb _ _ (at-if1 .if1 .left), ← at-is-box .is-box .ensures, at-if2 .if2 .taken, ← at-collides .collides .ensures, c .before .told .given .1)
 
 returns-3 : tie.Need-returns-3
 unfolding collidesEntry choose
-returns-3 c = rw (← c .before .before .before .before .before .before .before .check-lent .ensures, eq-eqb _ _ (c .before .before .before .before .before .before .if1 .left), ← c .before .before .before .before .before .is-box .ensures, c .before .before .before .before .if2 .taken, ← c .before .before .before .collides .ensures, c .before .told2 .given .1)
+returns-3 c =
+    let at-collides = c .before .before .before in
+    let at-if2 = at-collides .before in
+    let at-is-box = at-if2 .before in
+    let at-if1 = at-is-box .before in
+    let at-check-lent = at-if1 .before in
+    rw (← at-check-lent .check-lent .ensures, eq-eqb _ _ (at-if1 .if1 .left), ← at-is-box .is-box .ensures, at-if2 .if2 .taken, ← at-collides .collides .ensures, c .before .told2 .given .1)
 
 returns-4 : tie.Need-returns-4
 unfolding collidesEntry choose
-returns-4 c = rw (← c .before .before .before .check-lent .ensures, eq-eqb _ _ (c .before .before .if1 .left), ← c .before .is-box .ensures, c .if2 .left)
+returns-4 c =
+    let at-if1 = c .before .before in
+    let at-check-lent = at-if1 .before in
+    rw (← at-check-lent .check-lent .ensures, eq-eqb _ _ (at-if1 .if1 .left), ← c .before .is-box .ensures, c .if2 .left)
 
 pub collides-with-blocks-spec : {M : Type 1} → statement M
 collides-with-blocks-spec =

@@ -36,25 +36,52 @@ enum-known-told-2 c = search needs
 
 returns-2 : tie.Need-returns-2
 unfolding moveEntry choose
-returns-2 c = rw (← c .before .before .before .before .before .before .before .before .before .before .check-lent .ensures, eq-eqb _ _ (c .before .before .before .before .before .before .before .before .before .if1 .left), ← c .before .before .before .before .before .before .before .before .is-step .ensures, c .before .before .before .before .before .before .before .if2 .taken, ← c .before .before .before .before .before .before .is-fit .ensures, c .before .before .before .before .before .if3 .taken, ← c .before .before .before .before .move-through .ensures, c .before .before .told .given .1, ← c .refused-move2 .ensures)
+returns-2 c =
+    let at-told = c .before .before in
+    let at-move-through = at-told .before .before in
+    let at-if3 = at-move-through .before in
+    let at-is-fit = at-if3 .before in
+    let at-if2 = at-is-fit .before in
+    let at-is-step = at-if2 .before in
+    let at-if1 = at-is-step .before in
+    let at-check-lent = at-if1 .before in
+    rw (← at-check-lent .check-lent .ensures, eq-eqb _ _ (at-if1 .if1 .left), ← at-is-step .is-step .ensures, at-if2 .if2 .taken, ← at-is-fit .is-fit .ensures, at-if3 .if3 .taken, ← at-move-through .move-through .ensures, at-told .told .given .1, ← c .refused-move2 .ensures)
 
 returns-3 : tie.Need-returns-3
 unfolding moveEntry choose
-returns-3 c = rw (← c .before .before .before .before .before .before .before .before .before .check-lent .ensures, eq-eqb _ _ (c .before .before .before .before .before .before .before .before .if1 .left), ← c .before .before .before .before .before .before .before .is-step .ensures, c .before .before .before .before .before .before .if2 .taken, ← c .before .before .before .before .before .is-fit .ensures, c .before .before .before .before .if3 .taken, ← c .before .before .before .move-through .ensures, c .before .told2 .given .1)
+returns-3 c =
+    let at-move-through = c .before .before .before in
+    let at-if3 = at-move-through .before in
+    let at-is-fit = at-if3 .before in
+    let at-if2 = at-is-fit .before in
+    let at-is-step = at-if2 .before in
+    let at-if1 = at-is-step .before in
+    let at-check-lent = at-if1 .before in
+    rw (← at-check-lent .check-lent .ensures, eq-eqb _ _ (at-if1 .if1 .left), ← at-is-step .is-step .ensures, at-if2 .if2 .taken, ← at-is-fit .is-fit .ensures, at-if3 .if3 .taken, ← at-move-through .move-through .ensures, c .before .told2 .given .1)
 
 refused-move-requires-3 : tie.Need-refused-move-requires-3
 refused-move-requires-3 c κs = search needs
 
 returns-4 : tie.Need-returns-4
 unfolding moveEntry choose
-returns-4 c = rw (← c .before .before .before .before .before .before .check-lent .ensures, eq-eqb _ _ (c .before .before .before .before .before .if1 .left), ← c .before .before .before .before .is-step .ensures, c .before .before .before .if2 .taken, ← c .before .before .is-fit .ensures, c .before .if3 .left, ← c .refused-move3 .ensures)
+returns-4 c =
+    let at-is-fit = c .before .before in
+    let at-if2 = at-is-fit .before in
+    let at-is-step = at-if2 .before in
+    let at-if1 = at-is-step .before in
+    let at-check-lent = at-if1 .before in
+    rw (← at-check-lent .check-lent .ensures, eq-eqb _ _ (at-if1 .if1 .left), ← at-is-step .is-step .ensures, at-if2 .if2 .taken, ← at-is-fit .is-fit .ensures, c .before .if3 .left, ← c .refused-move3 .ensures)
 
 refused-move-requires-4 : tie.Need-refused-move-requires-4
 refused-move-requires-4 c κs = search needs
 
 returns-5 : tie.Need-returns-5
 unfolding moveEntry choose
-returns-5 c = rw (← c .before .before .before .before .check-lent .ensures, eq-eqb _ _ (c .before .before .before .if1 .left), ← c .before .before .is-step .ensures, c .before .if2 .left, ← c .refused-move4 .ensures)
+returns-5 c =
+    let at-is-step = c .before .before in
+    let at-if1 = at-is-step .before in
+    let at-check-lent = at-if1 .before in
+    rw (← at-check-lent .check-lent .ensures, eq-eqb _ _ (at-if1 .if1 .left), ← at-is-step .is-step .ensures, c .before .if2 .left, ← c .refused-move4 .ensures)
 
 pub move-aabb-spec : {M : Type 1} → statement M
 move-aabb-spec =

@@ -18,7 +18,10 @@ friction-requires c κs = search needs
 
 returns-2 : tie.Need-returns-2
 unfolding frictionOfState choose
-returns-2 c = rw (ne-eqb _ _ (c .before .before .before .if1 .left), ← c .before .before .is-registered .ensures, c .before .if2 .taken, ← c .friction .ensures)
+returns-2 c =
+    let at-is-registered = c .before .before in
+    let at-if1 = at-is-registered .before in
+    rw (ne-eqb _ _ (at-if1 .if1 .left), ← at-is-registered .is-registered .ensures, c .before .if2 .taken, ← c .friction .ensures)
 
 returns-3 : tie.Need-returns-3
 unfolding frictionOfState choose

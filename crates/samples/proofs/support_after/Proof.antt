@@ -20,18 +20,31 @@ living-support-requires c κs = search needs
 
 returns-2 : tie.Need-returns-2
 unfolding supportAfter choose
-returns-2 c = rw (← c .before .before .before .before .is-falling-block .ensures, c .before .before .before .if1 .left, ← c .before .before .is-living .ensures, c .before .if2 .taken, ← c .living-support .ensures)
+returns-2 c =
+    let at-is-living = c .before .before in
+    let at-if1 = at-is-living .before in
+    let at-is-falling-block = at-if1 .before in
+    rw (← at-is-falling-block .is-falling-block .ensures, at-if1 .if1 .left, ← at-is-living .is-living .ensures, c .before .if2 .taken, ← c .living-support .ensures)
 
 ground-support-requires : tie.Need-ground-support-requires
 ground-support-requires c κs = search needs
 
 returns-3 : tie.Need-returns-3
 unfolding supportAfter choose
-returns-3 c = rw (← c .before .before .before .before .before .is-falling-block .ensures, c .before .before .before .before .if1 .left, ← c .before .before .before .is-living .ensures, c .before .before .if2 .left, c .before .if3 .taken, ← c .ground-support .ensures)
+returns-3 c =
+    let at-if2 = c .before .before in
+    let at-is-living = at-if2 .before in
+    let at-if1 = at-is-living .before in
+    let at-is-falling-block = at-if1 .before in
+    rw (← at-is-falling-block .is-falling-block .ensures, at-if1 .if1 .left, ← at-is-living .is-living .ensures, at-if2 .if2 .left, c .before .if3 .taken, ← c .ground-support .ensures)
 
 returns-4 : tie.Need-returns-4
 unfolding supportAfter choose
-returns-4 c = rw (← c .before .before .before .before .is-falling-block .ensures, c .before .before .before .if1 .left, ← c .before .before .is-living .ensures, c .before .if2 .left, c .if3 .left)
+returns-4 c =
+    let at-is-living = c .before .before in
+    let at-if1 = at-is-living .before in
+    let at-is-falling-block = at-if1 .before in
+    rw (← at-is-falling-block .is-falling-block .ensures, at-if1 .if1 .left, ← at-is-living .is-living .ensures, c .before .if2 .left, c .if3 .left)
 
 pub support-after-spec : {M : Type 1} → statement M
 support-after-spec =

@@ -24,14 +24,23 @@ refused-requires-2 c κs = search needs
 
 returns-2 : tie.Need-returns-2
 unfolding collectedAt choose
-returns-2 c = rw (← c .before .before .before .before .check-lent .ensures, eq-eqb _ _ (c .before .before .before .if1 .left), ← c .before .before .mover-refusal .ensures, ne-eqb _ _ (c .before .if2 .taken), ← c .refused2 .ensures)
+returns-2 c =
+    let at-mover-refusal = c .before .before in
+    let at-if1 = at-mover-refusal .before in
+    let at-check-lent = at-if1 .before in
+    rw (← at-check-lent .check-lent .ensures, eq-eqb _ _ (at-if1 .if1 .left), ← at-mover-refusal .mover-refusal .ensures, ne-eqb _ _ (c .before .if2 .taken), ← c .refused2 .ensures)
 
 refused-requires-3 : tie.Need-refused-requires-3
 refused-requires-3 c κs = search needs
 
 returns-3 : tie.Need-returns-3
 unfolding collectedAt choose
-returns-3 c = rw (← c .before .before .before .before .before .check-lent .ensures, eq-eqb _ _ (c .before .before .before .before .if1 .left), ← c .before .before .before .mover-refusal .ensures, eq-eqb _ _ (c .before .before .if2 .left), lt-ltb _ _ (c .before .if3 .taken), ← c .refused3 .ensures)
+returns-3 c =
+    let at-if2 = c .before .before in
+    let at-mover-refusal = at-if2 .before in
+    let at-if1 = at-mover-refusal .before in
+    let at-check-lent = at-if1 .before in
+    rw (← at-check-lent .check-lent .ensures, eq-eqb _ _ (at-if1 .if1 .left), ← at-mover-refusal .mover-refusal .ensures, eq-eqb _ _ (at-if2 .if2 .left), lt-ltb _ _ (c .before .if3 .taken), ← c .refused3 .ensures)
 
 swept-by-requires : tie.Need-swept-by-requires
 swept-by-requires c κs = search needs
@@ -41,7 +50,13 @@ collect-requires c κs = search needs
 
 returns-4 : tie.Need-returns-4
 unfolding collectedAt choose
-returns-4 c = rw (← c .before .before .before .before .before .before .check-lent .ensures, eq-eqb _ _ (c .before .before .before .before .before .if1 .left), ← c .before .before .before .before .mover-refusal .ensures, eq-eqb _ _ (c .before .before .before .if2 .left), le-ltb _ _ (c .before .before .if3 .left), ← c .before .swept-by .ensures, ← c .collect .ensures)
+returns-4 c =
+    let at-if3 = c .before .before in
+    let at-if2 = at-if3 .before in
+    let at-mover-refusal = at-if2 .before in
+    let at-if1 = at-mover-refusal .before in
+    let at-check-lent = at-if1 .before in
+    rw (← at-check-lent .check-lent .ensures, eq-eqb _ _ (at-if1 .if1 .left), ← at-mover-refusal .mover-refusal .ensures, eq-eqb _ _ (at-if2 .if2 .left), le-ltb _ _ (at-if3 .if3 .left), ← c .before .swept-by .ensures, ← c .collect .ensures)
 
 pub collected-spec : {M : Type 1} → statement M
 collected-spec =

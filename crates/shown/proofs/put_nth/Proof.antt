@@ -27,7 +27,13 @@ same-length c = search needs
 
 returns : tie.Need-returns
 unfolding stored
-returns c = rw (c .before .before .put-vec2 .ensures, c .before .before .before .before .before .before .put-vec .ensures, c .before .before .before .before .before .before .before .before .before .before .put .ensures, c .before .before .before .before .before .before .before .before .before .before .before .before .before .count-of .ensures, c .before .before .before .before .before .before .before .before .before .before .before .before .before .before .nth-box .ensures)
+returns c =
+    let at-put-vec2 = c .before .before in
+    let at-put-vec = at-put-vec2 .before .before .before .before in
+    let at-put = at-put-vec .before .before .before .before in
+    let at-count-of = at-put .before .before .before in
+    let at-nth-box = at-count-of .before in
+    rw (at-put-vec2 .put-vec2 .ensures, at-put-vec .put-vec .ensures, at-put .put .ensures, at-count-of .count-of .ensures, at-nth-box .nth-box .ensures)
 
 pub put-nth-spec : {M : Type 1} → statement M
 put-nth-spec =

@@ -19,7 +19,11 @@ expand-towards-requires-2 : tie.Need-expand-towards-requires-2
 expand-towards-requires-2 c κs = search needs
 
 returns : tie.Need-returns
-returns c = rw (c .expand-towards2 .ensures, c .before .new .ensures, c .before .before .expand-towards .ensures, c .before .before .before .vec-from .ensures, c .before .before .before .before .first-box .ensures)
+returns c =
+    let at-expand-towards = c .before .before in
+    let at-vec-from = at-expand-towards .before in
+    let at-first-box = at-vec-from .before in
+    rw (c .expand-towards2 .ensures, c .before .new .ensures, at-expand-towards .expand-towards .ensures, at-vec-from .vec-from .ensures, at-first-box .first-box .ensures)
 
 pub swept-by-spec : {M : Type 1} → statement M
 swept-by-spec =

@@ -23,7 +23,10 @@ offset-requires c κs = search needs
 
 returns-2 : tie.Need-returns-2
 unfolding nthAabb choose
-returns-2 c = rw (c .offset .ensures, c .before .before .shape-aabb .ensures, c .before .origin-of .ensures, c .before .before .before .if1 .left)
+returns-2 c =
+    let at-shape-aabb = c .before .before in
+    let at-if1 = at-shape-aabb .before in
+    rw (c .offset .ensures, at-shape-aabb .shape-aabb .ensures, c .before .origin-of .ensures, at-if1 .if1 .left)
 
 pub nth-aabb-spec : {M : Type 1} → statement M
 nth-aabb-spec =

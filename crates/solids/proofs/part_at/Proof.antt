@@ -24,14 +24,24 @@ head-at-requires c κs = search needs
 
 returns : tie.Need-returns
 unfolding cellShape choose
-returns c = rw (← c .before .before .before .before .before .before .before .look .ensures, c .before .before .before .before .before .cell .given .1) (sym (plain-shape _ _ _ _ _ (c .before .before .before .head-at .ensures) (c .before .before .if1 .taken) (c .if2 .taken)))
+returns c =
+    let at-if1 = c .before .before in
+    let at-head-at = at-if1 .before in
+    let at-cell = at-head-at .before .before in
+    let at-look = at-cell .before .before in
+    rw (← at-look .look .ensures, at-cell .cell .given .1) (sym (plain-shape _ _ _ _ _ (at-head-at .head-at .ensures) (at-if1 .if1 .taken) (c .if2 .taken)))
 
 part-of-requires : tie.Need-part-of-requires
 part-of-requires c κs = search needs
 
 returns-2 : tie.Need-returns-2
 unfolding cellShape shapeOf choose
-returns-2 c = rw (← c .before .before .before .before .before .before .before .before .look .ensures, c .before .before .before .before .before .before .cell .given .1, head-registered _ _ _ (c .before .before .before .before .head-at .ensures), c .before .before .before .if1 .taken, ← c .part-of .ensures)
+returns-2 c =
+    let at-if1 = c .before .before .before in
+    let at-head-at = at-if1 .before in
+    let at-cell = at-head-at .before .before in
+    let at-look = at-cell .before .before in
+    rw (← at-look .look .ensures, at-cell .cell .given .1, head-registered _ _ _ (at-head-at .head-at .ensures), at-if1 .if1 .taken, ← c .part-of .ensures)
 
 returns-3 : tie.Need-returns-3
 unfolding cellShape shapeOf choose
@@ -43,7 +53,10 @@ returns-4 c = rw (← c .before .before .look .ensures, c .enum-told2 .given .1)
 
 returns-5 : tie.Need-returns-5
 unfolding cellShape shapeOf choose
-returns-5 c = rw (← c .before .before .before .before .before .look .ensures, c .before .before .before .cell .given .1, head-registered _ _ _ (c .before .head-at .ensures), c .if1 .left)
+returns-5 c =
+    let at-cell = c .before .before .before in
+    let at-look = at-cell .before .before in
+    rw (← at-look .look .ensures, at-cell .cell .given .1, head-registered _ _ _ (c .before .head-at .ensures), c .if1 .left)
 
 pub part-at-spec : {M : Type 1} → statement M
 part-at-spec =

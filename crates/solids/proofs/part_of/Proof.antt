@@ -26,7 +26,10 @@ returns c = rw (← c .before .before .before .connected-state .ensures, c .befo
 
 returns-2 : tie.Need-returns-2
 unfolding connectedShape choose
-returns-2 c = rw (← c .before .before .before .before .before .connected-state .ensures, c .before .before .before .state2 .given .1, ← c .before .word .ensures, ← c .word2 .ensures)
+returns-2 c =
+    let at-state2 = c .before .before .before in
+    let at-connected-state = at-state2 .before .before in
+    rw (← at-connected-state .connected-state .ensures, at-state2 .state2 .given .1, ← c .before .word .ensures, ← c .word2 .ensures)
 
 pub part-of-spec : {M : Type 1} → statement M
 part-of-spec =

@@ -40,25 +40,53 @@ sample-or-requires c κs = search needs
 
 returns-2 : tie.Need-returns-2
 unfolding frictionEntry livingBlockFriction choose
-returns-2 c = rw (← c .before .before .before .before .before .before .before .before .before .before .check-lent .ensures, eq-eqb _ _ (c .before .before .before .before .before .before .before .before .before .if1 .left), ← c .before .before .before .before .before .before .before .before .rules-fit .ensures, c .before .before .before .before .before .before .before .if2 .taken, ← c .before .before .before .before .before .before .is-position .ensures, c .before .before .before .before .before .if3 .taken, ← c .before .before .before .before .living-sample .ensures, c .before .before .told .given .1, ← c .refused-number2 .ensures)
+returns-2 c =
+    let at-told = c .before .before in
+    let at-living-sample = at-told .before .before in
+    let at-if3 = at-living-sample .before in
+    let at-is-position = at-if3 .before in
+    let at-if2 = at-is-position .before in
+    let at-rules-fit = at-if2 .before in
+    let at-if1 = at-rules-fit .before in
+    let at-check-lent = at-if1 .before in
+    rw (← at-check-lent .check-lent .ensures, eq-eqb _ _ (at-if1 .if1 .left), ← at-rules-fit .rules-fit .ensures, at-if2 .if2 .taken, ← at-is-position .is-position .ensures, at-if3 .if3 .taken, ← at-living-sample .living-sample .ensures, at-told .told .given .1, ← c .refused-number2 .ensures)
 
 returns-3 : tie.Need-returns-3
 unfolding frictionEntry livingBlockFriction choose
-returns-3 c = rw (← c .before .before .before .before .before .before .before .before .before .before .check-lent .ensures, eq-eqb _ _ (c .before .before .before .before .before .before .before .before .before .if1 .left), ← c .before .before .before .before .before .before .before .before .rules-fit .ensures, c .before .before .before .before .before .before .before .if2 .taken, ← c .before .before .before .before .before .before .is-position .ensures, c .before .before .before .before .before .if3 .taken, ← c .before .before .before .before .living-sample .ensures, c .before .before .told2 .given .1, ← c .sample-or .ensures)
+returns-3 c =
+    let at-told2 = c .before .before in
+    let at-living-sample = at-told2 .before .before in
+    let at-if3 = at-living-sample .before in
+    let at-is-position = at-if3 .before in
+    let at-if2 = at-is-position .before in
+    let at-rules-fit = at-if2 .before in
+    let at-if1 = at-rules-fit .before in
+    let at-check-lent = at-if1 .before in
+    rw (← at-check-lent .check-lent .ensures, eq-eqb _ _ (at-if1 .if1 .left), ← at-rules-fit .rules-fit .ensures, at-if2 .if2 .taken, ← at-is-position .is-position .ensures, at-if3 .if3 .taken, ← at-living-sample .living-sample .ensures, at-told2 .told2 .given .1, ← c .sample-or .ensures)
 
 refused-number-requires-3 : tie.Need-refused-number-requires-3
 refused-number-requires-3 c κs = search needs
 
 returns-4 : tie.Need-returns-4
 unfolding frictionEntry livingBlockFriction choose
-returns-4 c = rw (← c .before .before .before .before .before .before .check-lent .ensures, eq-eqb _ _ (c .before .before .before .before .before .if1 .left), ← c .before .before .before .before .rules-fit .ensures, c .before .before .before .if2 .taken, ← c .before .before .is-position .ensures, c .before .if3 .left, ← c .refused-number3 .ensures)
+returns-4 c =
+    let at-is-position = c .before .before in
+    let at-if2 = at-is-position .before in
+    let at-rules-fit = at-if2 .before in
+    let at-if1 = at-rules-fit .before in
+    let at-check-lent = at-if1 .before in
+    rw (← at-check-lent .check-lent .ensures, eq-eqb _ _ (at-if1 .if1 .left), ← at-rules-fit .rules-fit .ensures, at-if2 .if2 .taken, ← at-is-position .is-position .ensures, c .before .if3 .left, ← c .refused-number3 .ensures)
 
 refused-number-requires-4 : tie.Need-refused-number-requires-4
 refused-number-requires-4 c κs = search needs
 
 returns-5 : tie.Need-returns-5
 unfolding frictionEntry livingBlockFriction choose
-returns-5 c = rw (← c .before .before .before .before .check-lent .ensures, eq-eqb _ _ (c .before .before .before .if1 .left), ← c .before .before .rules-fit .ensures, c .before .if2 .left, ← c .refused-number4 .ensures)
+returns-5 c =
+    let at-rules-fit = c .before .before in
+    let at-if1 = at-rules-fit .before in
+    let at-check-lent = at-if1 .before in
+    rw (← at-check-lent .check-lent .ensures, eq-eqb _ _ (at-if1 .if1 .left), ← at-rules-fit .rules-fit .ensures, c .before .if2 .left, ← c .refused-number4 .ensures)
 
 pub living-block-friction-spec : {M : Type 1} → statement M
 living-block-friction-spec =

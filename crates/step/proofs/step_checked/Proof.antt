@@ -39,11 +39,25 @@ finite-step-requires c κs = search needs
 
 returns-2 : tie.Need-returns-2
 unfolding checkedEntry choose
-returns-2 c = rw (← c .before .before .before .before .before .before .before .before .number-refusal .ensures, eq-eqb _ _ (c .before .before .before .before .before .before .before .if1 .left), ← c .before .before .before .before .before .before .body-of .ensures, ← c .before .before .before .before .before .motion-of .ensures, ← c .before .before .before .before .step-through .ensures, c .before .before .told .given .1, ← c .refused-step2 .ensures)
+returns-2 c =
+    let at-told = c .before .before in
+    let at-step-through = at-told .before .before in
+    let at-motion-of = at-step-through .before in
+    let at-body-of = at-motion-of .before in
+    let at-if1 = at-body-of .before in
+    let at-number-refusal = at-if1 .before in
+    rw (← at-number-refusal .number-refusal .ensures, eq-eqb _ _ (at-if1 .if1 .left), ← at-body-of .body-of .ensures, ← at-motion-of .motion-of .ensures, ← at-step-through .step-through .ensures, at-told .told .given .1, ← c .refused-step2 .ensures)
 
 returns-3 : tie.Need-returns-3
 unfolding checkedEntry choose
-returns-3 c = rw (← c .before .before .before .before .before .before .before .before .number-refusal .ensures, eq-eqb _ _ (c .before .before .before .before .before .before .before .if1 .left), ← c .before .before .before .before .before .before .body-of .ensures, ← c .before .before .before .before .before .motion-of .ensures, ← c .before .before .before .before .step-through .ensures, c .before .before .told2 .given .1, ← c .finite-step .ensures)
+returns-3 c =
+    let at-told2 = c .before .before in
+    let at-step-through = at-told2 .before .before in
+    let at-motion-of = at-step-through .before in
+    let at-body-of = at-motion-of .before in
+    let at-if1 = at-body-of .before in
+    let at-number-refusal = at-if1 .before in
+    rw (← at-number-refusal .number-refusal .ensures, eq-eqb _ _ (at-if1 .if1 .left), ← at-body-of .body-of .ensures, ← at-motion-of .motion-of .ensures, ← at-step-through .step-through .ensures, at-told2 .told2 .given .1, ← c .finite-step .ensures)
 
 pub step-checked-spec : {M : Type 1} → statement M
 step-checked-spec =

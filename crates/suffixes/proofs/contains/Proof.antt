@@ -37,7 +37,10 @@ equals-requires : tie.Need-equals-requires Inv-loop μ-loop
 equals-requires c κs = tt
 
 returns : tie.Need-returns Inv-loop μ-loop
-returns c = within-found (now (c .before .before .before .before .before .before .before .args .id)) (now (c .before .before .before .before .before .before .before .args .part)) (c .before .before .before .before .loop .k) _ (c .before .before .before .before .loop .inv .1) (sym (starts-by _ _ (c .before .before .before .before .loop .k)) ∙ sym (c .before .equals .ensures) ∙ c .if1 .taken)
+returns c =
+    let at-loop = c .before .before .before .before in
+    let start = at-loop .before .before .before in
+    within-found (now (start .args .id)) (now (start .args .part)) (at-loop .loop .k) _ (at-loop .loop .inv .1) (sym (starts-by _ _ (at-loop .loop .k)) ∙ sym (c .before .equals .ensures) ∙ c .if1 .taken)
 
 add-k : tie.Need-add-k Inv-loop μ-loop
 add-k c = omega arith

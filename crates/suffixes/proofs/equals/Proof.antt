@@ -28,7 +28,12 @@ shared-slice-read-if2-2 : tie.Need-shared-slice-read-if2-2 Inv-loop μ-loop
 shared-slice-read-if2-2 c = omega arith
 
 returns-2 : tie.Need-returns-2 Inv-loop μ-loop
-returns-2 c = equal-stop (now (c .before .before .before .before .before .before .args .a)) (now (c .before .before .before .before .before .before .args .b)) (c .before .before .before .before .before .if1 .left) (c .before .before .before .before .loop .i) _ (c .before .before .before .before .loop .inv .1) (c .before .before .before .loop-test .taken) (c .if2 .taken)
+returns-2 c =
+    let at-loop-test = c .before .before .before in
+    let at-loop = at-loop-test .before in
+    let at-if1 = at-loop .before in
+    let start = at-if1 .before in
+    equal-stop (now (start .args .a)) (now (start .args .b)) (at-if1 .if1 .left) (at-loop .loop .i) _ (at-loop .loop .inv .1) (at-loop-test .loop-test .taken) (c .if2 .taken)
 
 add-i : tie.Need-add-i Inv-loop μ-loop
 add-i c = omega arith
@@ -37,10 +42,18 @@ loop-less : tie.Need-loop-less Inv-loop μ-loop
 loop-less c = omega arith
 
 loop-again : tie.Need-loop-again Inv-loop μ-loop
-loop-again c = (omega arith, equal-next (now (c .before .before .before .before .before .before .args .a)) (now (c .before .before .before .before .before .before .args .b)) (c .before .before .before .before .before .if1 .left) (c .before .before .before .before .loop .i) _ (c .before .before .before .before .loop .inv .1) (c .before .before .before .loop-test .taken) (c .if2 .left))
+loop-again c =
+    let at-loop-test = c .before .before .before in
+    let at-loop = at-loop-test .before in
+    let at-if1 = at-loop .before in
+    let start = at-if1 .before in
+    (omega arith, equal-next (now (start .args .a)) (now (start .args .b)) (at-if1 .if1 .left) (at-loop .loop .i) _ (at-loop .loop .inv .1) (at-loop-test .loop-test .taken) (c .if2 .left))
 
 returns-3 : tie.Need-returns-3 Inv-loop μ-loop
-returns-3 c = equal-end (now (c .before .before .before .args .a)) (now (c .before .before .before .args .b)) (c .before .before .if1 .left) (c .before .loop .i) _ (c .before .loop .inv .1) (c .loop-test .left)
+returns-3 c =
+    let at-if1 = c .before .before in
+    let start = at-if1 .before in
+    equal-end (now (start .args .a)) (now (start .args .b)) (at-if1 .if1 .left) (c .before .loop .i) _ (c .before .loop .inv .1) (c .loop-test .left)
 
 pub equals-spec : {M : Type 1} → statement M
 equals-spec =

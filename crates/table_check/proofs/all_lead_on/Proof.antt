@@ -36,11 +36,17 @@ loop-less : tie.Need-loop-less Inv-loop μ-loop
 loop-less c = search needs
 
 loop-again : tie.Need-loop-again Inv-loop μ-loop
-loop-again c = (search needs, below-more _ _ (c .before .before .before .before .loop .inv .1) (rw (← c .before .before .word .ensures, ← c .before .leads-on .ensures) (c .if1 .taken)))
+loop-again c =
+    let at-word = c .before .before in
+    let at-loop = at-word .before .before in
+    (search needs, below-more _ _ (at-loop .loop .inv .1) (rw (← at-word .word .ensures, ← c .before .leads-on .ensures) (c .if1 .taken)))
 
 returns : tie.Need-returns Inv-loop μ-loop
 unfolding allLeadOn
-returns c = sym (every-not _ _ (c .before .before .before .before .loop .i) (omega arith) (rw (← c .before .before .word .ensures, ← c .before .leads-on .ensures) (c .if1 .left)))
+returns c =
+    let at-word = c .before .before in
+    let at-loop = at-word .before .before in
+    sym (every-not _ _ (at-loop .loop .i) (omega arith) (rw (← at-word .word .ensures, ← c .before .leads-on .ensures) (c .if1 .left)))
 
 returns-2 : tie.Need-returns-2 Inv-loop μ-loop
 unfolding allLeadOn

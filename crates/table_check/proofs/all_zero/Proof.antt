@@ -36,7 +36,11 @@ word-requires c κs = search needs
 
 returns : tie.Need-returns Inv-loop μ-loop
 unfolding allZero
-returns c = sym (every-not _ _ (c .before .before .before .before .before .loop .i) (omega arith) (rw (← c .before .before .before .place .ensures, ← c .before .before .place2 .ensures, ← c .before .word .ensures) (ne-eqb _ _ (c .if1 .taken))))
+returns c =
+    let at-place2 = c .before .before in
+    let at-place = at-place2 .before in
+    let at-loop = at-place .before .before in
+    sym (every-not _ _ (at-loop .loop .i) (omega arith) (rw (← at-place .place .ensures, ← at-place2 .place2 .ensures, ← c .before .word .ensures) (ne-eqb _ _ (c .if1 .taken))))
 
 add-i : tie.Need-add-i Inv-loop μ-loop
 add-i c = search needs
@@ -45,7 +49,11 @@ loop-less : tie.Need-loop-less Inv-loop μ-loop
 loop-less c = search needs
 
 loop-again : tie.Need-loop-again Inv-loop μ-loop
-loop-again c = (search needs, below-more _ _ (c .before .before .before .before .before .loop .inv .1) (rw (← c .before .before .before .place .ensures, ← c .before .before .place2 .ensures, ← c .before .word .ensures) (eq-eqb _ _ (c .if1 .left))))
+loop-again c =
+    let at-place2 = c .before .before in
+    let at-place = at-place2 .before in
+    let at-loop = at-place .before .before in
+    (search needs, below-more _ _ (at-loop .loop .inv .1) (rw (← at-place .place .ensures, ← at-place2 .place2 .ensures, ← c .before .word .ensures) (eq-eqb _ _ (c .if1 .left))))
 
 returns-2 : tie.Need-returns-2 Inv-loop μ-loop
 unfolding allZero

@@ -70,11 +70,19 @@ side-fits-requires-3 c κs = search needs
 
 returns : tie.Need-returns
 unfolding boxFits
-returns c = rw (add-zero, ← c .before .before .before .before .before .before .before .before .side-fits .ensures, c .before .before .before .before .before .before .before .if1 .taken, ← c .before .before .before .before .side-fits2 .ensures, c .before .before .before .if2 .taken, ← c .side-fits3 .ensures)
+returns c =
+    let at-if2 = c .before .before .before in
+    let at-side-fits2 = at-if2 .before in
+    let at-if1 = at-side-fits2 .before .before .before in
+    let at-side-fits = at-if1 .before in
+    rw (add-zero, ← at-side-fits .side-fits .ensures, at-if1 .if1 .taken, ← at-side-fits2 .side-fits2 .ensures, at-if2 .if2 .taken, ← c .side-fits3 .ensures)
 
 returns-2 : tie.Need-returns-2
 unfolding boxFits
-returns-2 c = rw (add-zero, ← c .before .before .before .before .before .side-fits .ensures, c .before .before .before .before .if1 .taken, ← c .before .side-fits2 .ensures, c .if2 .left)
+returns-2 c =
+    let at-if1 = c .before .before .before .before in
+    let at-side-fits = at-if1 .before in
+    rw (add-zero, ← at-side-fits .side-fits .ensures, at-if1 .if1 .taken, ← c .before .side-fits2 .ensures, c .if2 .left)
 
 returns-3 : tie.Need-returns-3
 unfolding boxFits

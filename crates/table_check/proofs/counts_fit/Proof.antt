@@ -6,11 +6,17 @@ use Rattle.table_check.proofs.counts_fit.Tie as tie
 
 returns : tie.Need-returns
 unfolding tableCountsFit
-returns c = rw (eq-eqb _ _ (c .before .before .before .if1 .taken), eq-eqb _ _ (c .before .before .if2 .taken), le-leb _ _ (c .before .if3 .taken), le-leb _ _ (c .if4 .taken))
+returns c =
+    let at-if2 = c .before .before in
+    let at-if1 = at-if2 .before in
+    rw (eq-eqb _ _ (at-if1 .if1 .taken), eq-eqb _ _ (at-if2 .if2 .taken), le-leb _ _ (c .before .if3 .taken), le-leb _ _ (c .if4 .taken))
 
 returns-2 : tie.Need-returns-2
 unfolding tableCountsFit
-returns-2 c = rw (eq-eqb _ _ (c .before .before .before .if1 .taken), eq-eqb _ _ (c .before .before .if2 .taken), le-leb _ _ (c .before .if3 .taken), lt-leb _ _ (c .if4 .left))
+returns-2 c =
+    let at-if2 = c .before .before in
+    let at-if1 = at-if2 .before in
+    rw (eq-eqb _ _ (at-if1 .if1 .taken), eq-eqb _ _ (at-if2 .if2 .taken), le-leb _ _ (c .before .if3 .taken), lt-leb _ _ (c .if4 .left))
 
 returns-3 : tie.Need-returns-3
 unfolding tableCountsFit

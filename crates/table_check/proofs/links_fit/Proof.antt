@@ -21,18 +21,30 @@ all-lead-on-requires c κs = search needs
 
 returns-2 : tie.Need-returns-2
 unfolding linksFit choose
-returns-2 c = rw (← c .before .before .before .before .word .ensures, ne-eqb _ _ (c .before .before .before .if1 .left), ← c .before .before .all-lead-on .ensures, c .before .if2 .taken, eq-eqb _ _ (c .if3 .taken))
+returns-2 c =
+    let at-all-lead-on = c .before .before in
+    let at-if1 = at-all-lead-on .before in
+    let at-word = at-if1 .before in
+    rw (← at-word .word .ensures, ne-eqb _ _ (at-if1 .if1 .left), ← at-all-lead-on .all-lead-on .ensures, c .before .if2 .taken, eq-eqb _ _ (c .if3 .taken))
 
 posts-stay-requires : tie.Need-posts-stay-requires
 posts-stay-requires c κs = search needs
 
 returns-3 : tie.Need-returns-3
 unfolding linksFit choose
-returns-3 c = rw (← c .before .before .before .before .before .word .ensures, ne-eqb _ _ (c .before .before .before .before .if1 .left), ← c .before .before .before .all-lead-on .ensures, c .before .before .if2 .taken, ne-eqb _ _ (c .before .if3 .left), ← c .posts-stay .ensures)
+returns-3 c =
+    let at-if2 = c .before .before in
+    let at-all-lead-on = at-if2 .before in
+    let at-if1 = at-all-lead-on .before in
+    let at-word = at-if1 .before in
+    rw (← at-word .word .ensures, ne-eqb _ _ (at-if1 .if1 .left), ← at-all-lead-on .all-lead-on .ensures, at-if2 .if2 .taken, ne-eqb _ _ (c .before .if3 .left), ← c .posts-stay .ensures)
 
 returns-4 : tie.Need-returns-4
 unfolding linksFit choose
-returns-4 c = rw (← c .before .before .before .word .ensures, ne-eqb _ _ (c .before .before .if1 .left), ← c .before .all-lead-on .ensures, c .if2 .left)
+returns-4 c =
+    let at-if1 = c .before .before in
+    let at-word = at-if1 .before in
+    rw (← at-word .word .ensures, ne-eqb _ _ (at-if1 .if1 .left), ← c .before .all-lead-on .ensures, c .if2 .left)
 
 pub links-fit-spec : {M : Type 1} → statement M
 links-fit-spec =

@@ -22,11 +22,19 @@ add-result c = search needs
 
 returns : tie.Need-returns
 unfolding stateBoxesFit
-returns c = rw (← c .before .before .before .before .word .ensures, ← c .before .before .before .wide .ensures, ← c .before .before .word2 .ensures, ← c .before .wide2 .ensures, le-leb _ _ (c .if1 .taken))
+returns c =
+    let at-word2 = c .before .before in
+    let at-wide = at-word2 .before in
+    let at-word = at-wide .before in
+    rw (← at-word .word .ensures, ← at-wide .wide .ensures, ← at-word2 .word2 .ensures, ← c .before .wide2 .ensures, le-leb _ _ (c .if1 .taken))
 
 returns-2 : tie.Need-returns-2
 unfolding stateBoxesFit
-returns-2 c = rw (← c .before .before .before .before .word .ensures, ← c .before .before .before .wide .ensures, ← c .before .before .word2 .ensures, ← c .before .wide2 .ensures, lt-leb _ _ (c .if1 .left))
+returns-2 c =
+    let at-word2 = c .before .before in
+    let at-wide = at-word2 .before in
+    let at-word = at-wide .before in
+    rw (← at-word .word .ensures, ← at-wide .wide .ensures, ← at-word2 .word2 .ensures, ← c .before .wide2 .ensures, lt-leb _ _ (c .if1 .left))
 
 pub part-fits-spec : {M : Type 1} → statement M
 part-fits-spec =

@@ -21,19 +21,42 @@ registered-or-zero-requires c κs = search needs
 
 returns : tie.Need-returns
 unfolding recordFits
-returns c = rw (← c .before .before .before .before .before .before .before .before .words-fit .ensures, c .before .before .before .before .before .before .before .if1 .taken, ← c .before .before .before .before .before .before .part-fits .ensures, c .before .before .before .before .before .if2 .taken, ← c .before .before .before .before .links-fit .ensures, c .before .before .before .if3 .taken, ← c .before .before .faces-fit .ensures, c .before .if4 .taken, ← c .registered-or-zero .ensures)
+returns c =
+    let at-faces-fit = c .before .before in
+    let at-if3 = at-faces-fit .before in
+    let at-links-fit = at-if3 .before in
+    let at-if2 = at-links-fit .before in
+    let at-part-fits = at-if2 .before in
+    let at-if1 = at-part-fits .before in
+    let at-words-fit = at-if1 .before in
+    rw (← at-words-fit .words-fit .ensures, at-if1 .if1 .taken, ← at-part-fits .part-fits .ensures, at-if2 .if2 .taken, ← at-links-fit .links-fit .ensures, at-if3 .if3 .taken, ← at-faces-fit .faces-fit .ensures, c .before .if4 .taken, ← c .registered-or-zero .ensures)
 
 returns-2 : tie.Need-returns-2
 unfolding recordFits
-returns-2 c = rw (← c .before .before .before .before .before .before .before .words-fit .ensures, c .before .before .before .before .before .before .if1 .taken, ← c .before .before .before .before .before .part-fits .ensures, c .before .before .before .before .if2 .taken, ← c .before .before .before .links-fit .ensures, c .before .before .if3 .taken, ← c .before .faces-fit .ensures, c .if4 .left)
+returns-2 c =
+    let at-if3 = c .before .before in
+    let at-links-fit = at-if3 .before in
+    let at-if2 = at-links-fit .before in
+    let at-part-fits = at-if2 .before in
+    let at-if1 = at-part-fits .before in
+    let at-words-fit = at-if1 .before in
+    rw (← at-words-fit .words-fit .ensures, at-if1 .if1 .taken, ← at-part-fits .part-fits .ensures, at-if2 .if2 .taken, ← at-links-fit .links-fit .ensures, at-if3 .if3 .taken, ← c .before .faces-fit .ensures, c .if4 .left)
 
 returns-3 : tie.Need-returns-3
 unfolding recordFits
-returns-3 c = rw (← c .before .before .before .before .before .words-fit .ensures, c .before .before .before .before .if1 .taken, ← c .before .before .before .part-fits .ensures, c .before .before .if2 .taken, ← c .before .links-fit .ensures, c .if3 .left)
+returns-3 c =
+    let at-if2 = c .before .before in
+    let at-part-fits = at-if2 .before in
+    let at-if1 = at-part-fits .before in
+    let at-words-fit = at-if1 .before in
+    rw (← at-words-fit .words-fit .ensures, at-if1 .if1 .taken, ← at-part-fits .part-fits .ensures, at-if2 .if2 .taken, ← c .before .links-fit .ensures, c .if3 .left)
 
 returns-4 : tie.Need-returns-4
 unfolding recordFits
-returns-4 c = rw (← c .before .before .before .words-fit .ensures, c .before .before .if1 .taken, ← c .before .part-fits .ensures, c .if2 .left)
+returns-4 c =
+    let at-if1 = c .before .before in
+    let at-words-fit = at-if1 .before in
+    rw (← at-words-fit .words-fit .ensures, at-if1 .if1 .taken, ← c .before .part-fits .ensures, c .if2 .left)
 
 returns-5 : tie.Need-returns-5
 unfolding recordFits

@@ -12,11 +12,17 @@ within-four-requires-2 c κs = search needs
 
 returns : tie.Need-returns
 unfolding sideFits
-returns c = rw (← c .before .before .before .within-four .ensures, c .before .before .if1 .taken, ← c .before .within-four2 .ensures, c .if2 .taken)
+returns c =
+    let at-if1 = c .before .before in
+    let at-within-four = at-if1 .before in
+    rw (← at-within-four .within-four .ensures, at-if1 .if1 .taken, ← c .before .within-four2 .ensures, c .if2 .taken)
 
 returns-2 : tie.Need-returns-2
 unfolding sideFits
-returns-2 c = rw (← c .before .before .before .within-four .ensures, c .before .before .if1 .taken, ← c .before .within-four2 .ensures, c .if2 .left)
+returns-2 c =
+    let at-if1 = c .before .before in
+    let at-within-four = at-if1 .before in
+    rw (← at-within-four .within-four .ensures, at-if1 .if1 .taken, ← c .before .within-four2 .ensures, c .if2 .left)
 
 returns-3 : tie.Need-returns-3
 unfolding sideFits

@@ -21,11 +21,18 @@ boxes-fit-requires c κs = search needs
 
 returns : tie.Need-returns
 unfolding tablesFit
-returns c = rw (← c .before .before .before .before .counts-fit .ensures, c .before .before .before .if1 .taken, ← c .before .before .records-fit .ensures, c .before .if2 .taken, ← c .boxes-fit .ensures)
+returns c =
+    let at-records-fit = c .before .before in
+    let at-if1 = at-records-fit .before in
+    let at-counts-fit = at-if1 .before in
+    rw (← at-counts-fit .counts-fit .ensures, at-if1 .if1 .taken, ← at-records-fit .records-fit .ensures, c .before .if2 .taken, ← c .boxes-fit .ensures)
 
 returns-2 : tie.Need-returns-2
 unfolding tablesFit
-returns-2 c = rw (← c .before .before .before .counts-fit .ensures, c .before .before .if1 .taken, ← c .before .records-fit .ensures, c .if2 .left)
+returns-2 c =
+    let at-if1 = c .before .before in
+    let at-counts-fit = at-if1 .before in
+    rw (← at-counts-fit .counts-fit .ensures, at-if1 .if1 .taken, ← c .before .records-fit .ensures, c .if2 .left)
 
 returns-3 : tie.Need-returns-3
 unfolding tablesFit

@@ -22,7 +22,10 @@ word-at-requires c κs = search needs
 
 returns : tie.Need-returns
 unfolding choose
-returns c = rw (lt-ltb _ _ (c .before .before .before .if1 .taken), ← c .before .before .wide .ensures, ← c .before .wide2 .ensures, ← c .word-at .ensures)
+returns c =
+    let at-wide = c .before .before in
+    let at-if1 = at-wide .before in
+    rw (lt-ltb _ _ (at-if1 .if1 .taken), ← at-wide .wide .ensures, ← c .before .wide2 .ensures, ← c .word-at .ensures)
 
 returns-2 : tie.Need-returns-2
 unfolding choose

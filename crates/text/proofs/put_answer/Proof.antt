@@ -14,7 +14,10 @@ same-length c = search needs
 
 returns : tie.Need-returns
 unfolding textOf choose
-returns c = rw (eq-eqb _ _ (c .before .before .before .before .if1 .taken)) (c .before .before .put-lines .ensures)
+returns c =
+    let at-put-lines = c .before .before in
+    let at-if1 = at-put-lines .before .before in
+    rw (eq-eqb _ _ (at-if1 .if1 .taken)) (at-put-lines .put-lines .ensures)
 
 put-refusal-requires : tie.Need-put-refusal-requires
 put-refusal-requires c κs = search needs
@@ -24,7 +27,10 @@ same-length-2 c = search needs
 
 returns-2 : tie.Need-returns-2
 unfolding textOf choose
-returns-2 c = rw (ne-eqb _ _ (c .before .before .before .before .if1 .left)) (c .before .before .put-refusal .ensures)
+returns-2 c =
+    let at-put-refusal = c .before .before in
+    let at-if1 = at-put-refusal .before .before in
+    rw (ne-eqb _ _ (at-if1 .if1 .left)) (at-put-refusal .put-refusal .ensures)
 
 pub put-answer-spec : {M : Type 1} → statement M
 put-answer-spec =

@@ -19,7 +19,10 @@ same-length c = search needs
 
 returns : tie.Need-returns
 unfolding feetLine
-returns c = first _ (c .before .before .before .before .before .before .put-text .ensures) (last (c .before .before .put-vec .ensures))
+returns c =
+    let at-put-vec = c .before .before in
+    let at-put-text = at-put-vec .before .before .before .before in
+    first _ (at-put-text .put-text .ensures) (last (at-put-vec .put-vec .ensures))
 
 pub put-feet-spec : {M : Type 1} → statement M
 put-feet-spec =

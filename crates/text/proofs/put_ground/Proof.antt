@@ -28,7 +28,12 @@ same-length c = search needs
 
 returns : tie.Need-returns
 unfolding groundLine
-returns c = first _ (c .before .before .before .before .before .before .before .before .before .before .before .before .put-text .ensures) (first _ (rw (c .before .before .before .before .before .before .before .before .ground-digit .ensures) at (c .before .before .before .before .before .before .before .put .ensures)) (last (c .before .before .put-text2 .ensures)))
+returns c =
+    let at-put-text2 = c .before .before in
+    let at-put = at-put-text2 .before .before .before .before .before in
+    let at-ground-digit = at-put .before in
+    let at-put-text = at-ground-digit .before .before .before .before in
+    first _ (at-put-text .put-text .ensures) (first _ (rw (at-ground-digit .ground-digit .ensures) at (at-put .put .ensures)) (last (at-put-text2 .put-text2 .ensures)))
 
 pub put-ground-spec : {M : Type 1} → statement M
 put-ground-spec =

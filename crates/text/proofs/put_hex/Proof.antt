@@ -34,7 +34,12 @@ loop-less : tie.Need-loop-less Inv-loop μ-loop
 loop-less c = search needs
 
 loop-again : tie.Need-loop-again Inv-loop μ-loop
-loop-again c = (search needs, listed-turn (hexAt (c .before .before .before .before .before .before .before .bits-of-float .result)) (c .before .before .before .before .before .before .loop .k) (c .before .before .before .before .before .before .loop .inv .1) (rw (c .before .before .before .hex-at .ensures) at (c .before .before .put .ensures)))
+loop-again c =
+    let at-put = c .before .before in
+    let at-hex-at = at-put .before in
+    let at-loop = at-hex-at .before .before .before in
+    let at-bits-of-float = at-loop .before in
+    (search needs, listed-turn (hexAt (at-bits-of-float .bits-of-float .result)) (at-loop .loop .k) (at-loop .loop .inv .1) (rw (at-hex-at .hex-at .ensures) at (at-put .put .ensures)))
 
 same-length : tie.Need-same-length Inv-loop μ-loop
 same-length c = same-size (c .before .loop .inv .1)

@@ -22,7 +22,12 @@ same-length c = search needs
 
 returns : tie.Need-returns
 unfolding linesOf
-returns c = first _ (c .before .before .before .before .before .before .before .before .before .before .before .before .before .before .put-feet .ensures) (first _ (c .before .before .before .before .before .before .before .before .before .before .put-velocity .ensures) (first _ (c .before .before .before .before .before .before .put-ground .ensures) (last (c .before .before .put-liquid .ensures))))
+returns c =
+    let at-put-liquid = c .before .before in
+    let at-put-ground = at-put-liquid .before .before .before .before in
+    let at-put-velocity = at-put-ground .before .before .before .before in
+    let at-put-feet = at-put-velocity .before .before .before .before in
+    first _ (at-put-feet .put-feet .ensures) (first _ (at-put-velocity .put-velocity .ensures) (first _ (at-put-ground .put-ground .ensures) (last (at-put-liquid .put-liquid .ensures))))
 
 pub put-lines-spec : {M : Type 1} → statement M
 put-lines-spec =

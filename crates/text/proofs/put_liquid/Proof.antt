@@ -25,7 +25,11 @@ same-length c = search needs
 
 returns : tie.Need-returns
 unfolding liquidLine
-returns c = first _ (c .before .before .before .before .before .before .before .before .before .before .before .put-text .ensures) (first _ (c .before .before .before .before .before .before .before .put-kind .ensures) (last (c .before .before .put-text2 .ensures)))
+returns c =
+    let at-put-text2 = c .before .before in
+    let at-put-kind = at-put-text2 .before .before .before .before .before in
+    let at-put-text = at-put-kind .before .before .before .before in
+    first _ (at-put-text .put-text .ensures) (first _ (at-put-kind .put-kind .ensures) (last (at-put-text2 .put-text2 .ensures)))
 
 pub put-liquid-spec : {M : Type 1} → statement M
 put-liquid-spec =

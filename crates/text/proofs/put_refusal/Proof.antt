@@ -31,7 +31,11 @@ same-length c = search needs
 
 returns : tie.Need-returns
 unfolding refusedText
-returns c = first _ (c .before .before .before .before .before .before .before .before .before .before .before .put-text .ensures) (first _ (c .before .before .before .before .before .before .before .put .ensures) (last (c .before .before .put-text2 .ensures)))
+returns c =
+    let at-put-text2 = c .before .before in
+    let at-put = at-put-text2 .before .before .before .before .before in
+    let at-put-text = at-put .before .before .before .before in
+    first _ (at-put-text .put-text .ensures) (first _ (at-put .put .ensures) (last (at-put-text2 .put-text2 .ensures)))
 
 pub put-refusal-spec : {M : Type 1} → statement M
 put-refusal-spec =

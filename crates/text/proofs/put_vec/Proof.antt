@@ -37,7 +37,14 @@ same-length c = search needs
 
 returns : tie.Need-returns
 unfolding vecText
-returns c = first _ (c .before .before .before .before .before .before .before .before .before .before .before .before .before .before .before .before .before .before .before .before .before .before .before .before .before .put-hex .ensures) (first _ (c .before .before .before .before .before .before .before .before .before .before .before .before .before .before .before .before .before .before .before .before .put-text .ensures) (first _ (c .before .before .before .before .before .before .before .before .before .before .before .before .before .before .before .before .put-hex2 .ensures) (first _ (c .before .before .before .before .before .before .before .before .before .before .before .put-text2 .ensures) (first _ (c .before .before .before .before .before .before .before .put-hex3 .ensures) (last (c .before .before .put-text3 .ensures))))))
+returns c =
+    let at-put-text3 = c .before .before in
+    let at-put-hex3 = at-put-text3 .before .before .before .before .before in
+    let at-put-text2 = at-put-hex3 .before .before .before .before in
+    let at-put-hex2 = at-put-text2 .before .before .before .before .before in
+    let at-put-text = at-put-hex2 .before .before .before .before in
+    let at-put-hex = at-put-text .before .before .before .before .before in
+    first _ (at-put-hex .put-hex .ensures) (first _ (at-put-text .put-text .ensures) (first _ (at-put-hex2 .put-hex2 .ensures) (first _ (at-put-text2 .put-text2 .ensures) (first _ (at-put-hex3 .put-hex3 .ensures) (last (at-put-text3 .put-text3 .ensures))))))
 
 pub put-vec-spec : {M : Type 1} → statement M
 put-vec-spec =

@@ -19,7 +19,11 @@ same-length : tie.Need-same-length
 same-length c = search needs
 
 returns-2 : tie.Need-returns-2
-returns-2 c = all-written (c .before .before .before .before .before .before .args .refusal) (c .before .before .before .before .before .before .args .motion) (c .before .before .before .before .before .before .args .kind) (c .before .before .before .before .before .before .args .out .now) (c .before .before .before .before .if1 .left) (c .before .before .put-answer .ensures)
+returns-2 c =
+    let at-put-answer = c .before .before in
+    let at-if1 = at-put-answer .before .before in
+    let start = at-if1 .before .before in
+    all-written (start .args .refusal) (start .args .motion) (start .args .kind) (start .args .out .now) (at-if1 .if1 .left) (at-put-answer .put-answer .ensures)
 
 pub write-answer-spec : {M : Type 1} → statement M
 write-answer-spec = tie.close (tie.spec returns put-answer-requires same-length returns-2)

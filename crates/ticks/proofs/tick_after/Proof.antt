@@ -16,7 +16,10 @@ tick-to-requires c κs = search needs
 
 returns : tie.Need-returns
 unfolding tickAfter choose
-returns c = rw (← c .before .before .before .is-falling-block .ensures, c .before .before .if1 .taken, ← c .before .new .ensures, ← c .tick-to .ensures)
+returns c =
+    let at-if1 = c .before .before in
+    let at-is-falling-block = at-if1 .before in
+    rw (← at-is-falling-block .is-falling-block .ensures, at-if1 .if1 .taken, ← c .before .new .ensures, ← c .tick-to .ensures)
 
 is-living-requires : tie.Need-is-living-requires
 is-living-requires c κs = search needs
@@ -29,7 +32,12 @@ tick-to-requires-2 c κs = search needs
 
 returns-2 : tie.Need-returns-2
 unfolding tickAfter choose
-returns-2 c = rw (← c .before .before .before .before .before .is-falling-block .ensures, c .before .before .before .before .if1 .left, ← c .before .before .before .is-living .ensures, c .before .before .if2 .taken, ← c .before .apply-living-drag .ensures, ← c .tick-to2 .ensures)
+returns-2 c =
+    let at-if2 = c .before .before in
+    let at-is-living = at-if2 .before in
+    let at-if1 = at-is-living .before in
+    let at-is-falling-block = at-if1 .before in
+    rw (← at-is-falling-block .is-falling-block .ensures, at-if1 .if1 .left, ← at-is-living .is-living .ensures, at-if2 .if2 .taken, ← c .before .apply-living-drag .ensures, ← c .tick-to2 .ensures)
 
 dragged-requires : tie.Need-dragged-requires
 dragged-requires c κs = search needs
@@ -39,7 +47,12 @@ tick-to-requires-3 c κs = search needs
 
 returns-3 : tie.Need-returns-3
 unfolding tickAfter choose
-returns-3 c = rw (← c .before .before .before .before .before .is-falling-block .ensures, c .before .before .before .before .if1 .left, ← c .before .before .before .is-living .ensures, c .before .before .if2 .left, ← c .before .dragged .ensures, ← c .tick-to3 .ensures)
+returns-3 c =
+    let at-if2 = c .before .before in
+    let at-is-living = at-if2 .before in
+    let at-if1 = at-is-living .before in
+    let at-is-falling-block = at-if1 .before in
+    rw (← at-is-falling-block .is-falling-block .ensures, at-if1 .if1 .left, ← at-is-living .is-living .ensures, at-if2 .if2 .left, ← c .before .dragged .ensures, ← c .tick-to3 .ensures)
 
 pub tick-after-spec : {M : Type 1} → statement M
 tick-after-spec =

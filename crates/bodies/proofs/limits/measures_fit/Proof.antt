@@ -30,7 +30,14 @@ is-step-requires c κs = search needs
 
 returns : tie.Need-returns
 unfolding measuresFit
-returns c = rw (← c .before .before .before .before .before .before .before .is-extent .ensures, ← c .before .before .before .before .before .before .is-extent2 .ensures, ← c .before .before .before .before .before .is-small .ensures, ← c .before .before .before .before .is-small2 .ensures, ← c .before .before .before .is-small3 .ensures, ← c .before .before .is-small4 .ensures, ← c .before .is-small5 .ensures, ← c .is-step .ensures)
+returns c =
+    let at-is-small4 = c .before .before in
+    let at-is-small3 = at-is-small4 .before in
+    let at-is-small2 = at-is-small3 .before in
+    let at-is-small = at-is-small2 .before in
+    let at-is-extent2 = at-is-small .before in
+    let at-is-extent = at-is-extent2 .before in
+    rw (← at-is-extent .is-extent .ensures, ← at-is-extent2 .is-extent2 .ensures, ← at-is-small .is-small .ensures, ← at-is-small2 .is-small2 .ensures, ← at-is-small3 .is-small3 .ensures, ← at-is-small4 .is-small4 .ensures, ← c .before .is-small5 .ensures, ← c .is-step .ensures)
 
 pub measures-fit-spec : {M : Type 1} → statement M
 measures-fit-spec =

@@ -13,11 +13,17 @@ motion-fits-requires c κs = search needs
 
 returns : tie.Need-returns
 unfolding numberRefusal choose
-returns c = rw (← c .before .before .before .before .before .numbers-fit .ensures, c .before .before .before .before .if1 .taken, ← c .before .motion-fits .ensures, c .if2 .taken)
+returns c =
+    let at-if1 = c .before .before .before .before in
+    let at-numbers-fit = at-if1 .before in
+    rw (← at-numbers-fit .numbers-fit .ensures, at-if1 .if1 .taken, ← c .before .motion-fits .ensures, c .if2 .taken)
 
 returns-2 : tie.Need-returns-2
 unfolding numberRefusal choose
-returns-2 c = rw (← c .before .before .before .before .before .numbers-fit .ensures, c .before .before .before .before .if1 .taken, ← c .before .motion-fits .ensures, c .if2 .left)
+returns-2 c =
+    let at-if1 = c .before .before .before .before in
+    let at-numbers-fit = at-if1 .before in
+    rw (← at-numbers-fit .numbers-fit .ensures, at-if1 .if1 .taken, ← c .before .motion-fits .ensures, c .if2 .left)
 
 returns-3 : tie.Need-returns-3
 unfolding numberRefusal choose

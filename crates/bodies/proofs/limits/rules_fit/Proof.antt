@@ -24,7 +24,12 @@ is-registered-requires c κs = search needs
 
 returns : tie.Need-returns
 unfolding rulesFit
-returns c = rw (← c .before .before .before .before .before .is-small .ensures, ← c .before .before .before .before .is-small2 .ensures, ← c .before .before .before .is-small3 .ensures, ← c .before .before .is-small4 .ensures, ← c .before .is-small5 .ensures, ← c .is-registered .ensures)
+returns c =
+    let at-is-small4 = c .before .before in
+    let at-is-small3 = at-is-small4 .before in
+    let at-is-small2 = at-is-small3 .before in
+    let at-is-small = at-is-small2 .before in
+    rw (← at-is-small .is-small .ensures, ← at-is-small2 .is-small2 .ensures, ← at-is-small3 .is-small3 .ensures, ← at-is-small4 .is-small4 .ensures, ← c .before .is-small5 .ensures, ← c .is-registered .ensures)
 
 pub rules-fit-spec : {M : Type 1} → statement M
 rules-fit-spec =

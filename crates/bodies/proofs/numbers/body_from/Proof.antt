@@ -40,7 +40,18 @@ word-requires-4 : tie.Need-word-requires-4
 word-requires-4 c κs = search needs
 
 returns : tie.Need-returns
-returns c = rw (← c .before .before .before .before .before .before .before .before .before .before .before .number-at .ensures, ← c .before .before .before .before .before .before .before .before .before .before .number-at2 .ensures, ← c .before .before .before .before .before .before .before .before .before .number-at3 .ensures, ← c .before .before .before .before .before .before .before .before .number-at4 .ensures, ← c .before .before .before .before .before .before .before .number-at5 .ensures, ← c .before .before .before .before .before .before .number-at6 .ensures, ← c .before .before .before .before .before .number-at7 .ensures, ← c .before .before .before .before .number-at8 .ensures, ← c .before .before .before .word .ensures, ← c .before .before .word2 .ensures, ← c .before .word3 .ensures, ← c .word4 .ensures)
+returns c =
+    let at-word2 = c .before .before in
+    let at-word = at-word2 .before in
+    let at-number-at8 = at-word .before in
+    let at-number-at7 = at-number-at8 .before in
+    let at-number-at6 = at-number-at7 .before in
+    let at-number-at5 = at-number-at6 .before in
+    let at-number-at4 = at-number-at5 .before in
+    let at-number-at3 = at-number-at4 .before in
+    let at-number-at2 = at-number-at3 .before in
+    let at-number-at = at-number-at2 .before in
+    rw (← at-number-at .number-at .ensures, ← at-number-at2 .number-at2 .ensures, ← at-number-at3 .number-at3 .ensures, ← at-number-at4 .number-at4 .ensures, ← at-number-at5 .number-at5 .ensures, ← at-number-at6 .number-at6 .ensures, ← at-number-at7 .number-at7 .ensures, ← at-number-at8 .number-at8 .ensures, ← at-word .word .ensures, ← at-word2 .word2 .ensures, ← c .before .word3 .ensures, ← c .word4 .ensures)
 
 pub body-from-spec : {M : Type 1} → statement M
 body-from-spec =

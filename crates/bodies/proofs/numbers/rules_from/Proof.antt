@@ -22,7 +22,12 @@ word-requires : tie.Need-word-requires
 word-requires c κs = search needs
 
 returns : tie.Need-returns
-returns c = rw (← c .before .before .before .before .before .number-at .ensures, ← c .before .before .before .before .number-at2 .ensures, ← c .before .before .before .number-at3 .ensures, ← c .before .before .number-at4 .ensures, ← c .before .number-at5 .ensures, ← c .word .ensures)
+returns c =
+    let at-number-at4 = c .before .before in
+    let at-number-at3 = at-number-at4 .before in
+    let at-number-at2 = at-number-at3 .before in
+    let at-number-at = at-number-at2 .before in
+    rw (← at-number-at .number-at .ensures, ← at-number-at2 .number-at2 .ensures, ← at-number-at3 .number-at3 .ensures, ← at-number-at4 .number-at4 .ensures, ← c .before .number-at5 .ensures, ← c .word .ensures)
 
 pub rules-from-spec : {M : Type 1} → statement M
 rules-from-spec =

@@ -15,11 +15,18 @@ is-side-requires-3 c κs = search needs
 
 returns : tie.Need-returns
 unfolding choose
-returns c = rw (← c .before .before .before .before .is-side .ensures, c .before .before .before .if1 .taken, ← c .before .before .is-side2 .ensures, c .before .if2 .taken, ← c .is-side3 .ensures)
+returns c =
+    let at-is-side2 = c .before .before in
+    let at-if1 = at-is-side2 .before in
+    let at-is-side = at-if1 .before in
+    rw (← at-is-side .is-side .ensures, at-if1 .if1 .taken, ← at-is-side2 .is-side2 .ensures, c .before .if2 .taken, ← c .is-side3 .ensures)
 
 returns-2 : tie.Need-returns-2
 unfolding choose
-returns-2 c = rw (← c .before .before .before .is-side .ensures, c .before .before .if1 .taken, ← c .before .is-side2 .ensures, c .if2 .left)
+returns-2 c =
+    let at-if1 = c .before .before in
+    let at-is-side = at-if1 .before in
+    rw (← at-is-side .is-side .ensures, at-if1 .if1 .taken, ← c .before .is-side2 .ensures, c .if2 .left)
 
 returns-3 : tie.Need-returns-3
 unfolding choose

@@ -16,11 +16,18 @@ are-sides-requires c κs = search needs
 
 returns : tie.Need-returns
 unfolding ofBits choose
-returns c = rw (← c .before .before .before .before .are-within .ensures, c .before .before .before .if1 .taken, ← c .before .before .are-within2 .ensures, c .before .if2 .taken, ← c .are-sides .ensures)
+returns c =
+    let at-are-within2 = c .before .before in
+    let at-if1 = at-are-within2 .before in
+    let at-are-within = at-if1 .before in
+    rw (← at-are-within .are-within .ensures, at-if1 .if1 .taken, ← at-are-within2 .are-within2 .ensures, c .before .if2 .taken, ← c .are-sides .ensures)
 
 returns-2 : tie.Need-returns-2
 unfolding ofBits choose
-returns-2 c = rw (← c .before .before .before .are-within .ensures, c .before .before .if1 .taken, ← c .before .are-within2 .ensures, c .if2 .left)
+returns-2 c =
+    let at-if1 = c .before .before in
+    let at-are-within = at-if1 .before in
+    rw (← at-are-within .are-within .ensures, at-if1 .if1 .taken, ← c .before .are-within2 .ensures, c .if2 .left)
 
 returns-3 : tie.Need-returns-3
 unfolding ofBits choose

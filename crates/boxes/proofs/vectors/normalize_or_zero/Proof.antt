@@ -16,21 +16,32 @@ scale-requires c κs = search needs
 
 returns : tie.Need-returns
 unfolding normalised choose
-returns c = rw (← c .before .before .before .before .length .ensures, ← c .before .before .before .is-finite .ensures, c .before .before .if1 .taken, c .before .if2 .taken, ← c .scale .ensures)
+returns c =
+    let at-if1 = c .before .before in
+    let at-is-finite = at-if1 .before in
+    let at-length = at-is-finite .before in
+    rw (← at-length .length .ensures, ← at-is-finite .is-finite .ensures, at-if1 .if1 .taken, c .before .if2 .taken, ← c .scale .ensures)
 
 zero-requires : tie.Need-zero-requires
 zero-requires c κs = search needs
 
 returns-2 : tie.Need-returns-2
 unfolding normalised choose
-returns-2 c = rw (← c .before .before .before .before .length .ensures, ← c .before .before .before .is-finite .ensures, c .before .before .if1 .taken, c .before .if2 .left, ← c .zero .ensures)
+returns-2 c =
+    let at-if1 = c .before .before in
+    let at-is-finite = at-if1 .before in
+    let at-length = at-is-finite .before in
+    rw (← at-length .length .ensures, ← at-is-finite .is-finite .ensures, at-if1 .if1 .taken, c .before .if2 .left, ← c .zero .ensures)
 
 zero-requires-2 : tie.Need-zero-requires-2
 zero-requires-2 c κs = search needs
 
 returns-3 : tie.Need-returns-3
 unfolding normalised choose
-returns-3 c = rw (← c .before .before .before .length .ensures, ← c .before .before .is-finite .ensures, c .before .if1 .left, ← c .zero2 .ensures)
+returns-3 c =
+    let at-is-finite = c .before .before in
+    let at-length = at-is-finite .before in
+    rw (← at-length .length .ensures, ← at-is-finite .is-finite .ensures, c .before .if1 .left, ← c .zero2 .ensures)
 
 pub normalize-or-zero-spec : {M : Type 1} → statement M
 normalize-or-zero-spec =

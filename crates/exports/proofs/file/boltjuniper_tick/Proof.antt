@@ -13,7 +13,10 @@ same-length : tie.Need-same-length
 same-length c = search needs
 
 returns : tie.Need-returns
-returns c = rw (← c .before .before .before .before .tick-of .ensures) (c .before .before .step-into .ensures)
+returns c =
+    let at-step-into = c .before .before in
+    let at-tick-of = at-step-into .before .before in
+    rw (← at-tick-of .tick-of .ensures) (at-step-into .step-into .ensures)
 
 pub boltjuniper-tick-spec : {M : Type 1} → statement M
 boltjuniper-tick-spec =

@@ -22,7 +22,12 @@ number-refusal-requires c κs = search needs
 
 returns : tie.Need-returns
 unfolding bodyRefusal choose
-returns c = rw (← c .before .before .before .before .before .lengths-fit .ensures, c .before .before .before .before .if1 .taken) (rw (c .before .before .before .rules-from .ensures, c .before .before .body-from .ensures, c .before .motion-from .ensures) at (c .number-refusal .ensures))
+returns c =
+    let at-body-from = c .before .before in
+    let at-rules-from = at-body-from .before in
+    let at-if1 = at-rules-from .before in
+    let at-lengths-fit = at-if1 .before in
+    rw (← at-lengths-fit .lengths-fit .ensures, at-if1 .if1 .taken) (rw (at-rules-from .rules-from .ensures, at-body-from .body-from .ensures, c .before .motion-from .ensures) at (c .number-refusal .ensures))
 
 returns-2 : tie.Need-returns-2
 unfolding bodyRefusal choose

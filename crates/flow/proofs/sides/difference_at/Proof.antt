@@ -35,7 +35,15 @@ difference-to-requires c κs = search needs
 
 returns : tie.Need-returns
 unfolding difference liquidHeld choose
-returns c = rw (← c .before .before .before .before .before .before .before .before .before .before .step-beside .ensures, ← c .before .before .before .before .before .before .before .before .before .effective-depth .ensures, ← c .before .before .before .before .before .before .before .before .look-by .ensures, ← c .before .before .before .before .before .before .before .liquid-told .ensures, c .before .before .before .before .before .other .given .1, ← c .before .before .before .are-alike .ensures, c .before .before .if1 .taken, ← c .before .effective-depth2 .ensures, ← c .difference-to .ensures)
+returns c =
+    let at-if1 = c .before .before in
+    let at-are-alike = at-if1 .before in
+    let at-other = at-are-alike .before .before in
+    let at-liquid-told = at-other .before .before in
+    let at-look-by = at-liquid-told .before in
+    let at-effective-depth = at-look-by .before in
+    let at-step-beside = at-effective-depth .before in
+    rw (← at-step-beside .step-beside .ensures, ← at-effective-depth .effective-depth .ensures, ← at-look-by .look-by .ensures, ← at-liquid-told .liquid-told .ensures, at-other .other .given .1, ← at-are-alike .are-alike .ensures, at-if1 .if1 .taken, ← c .before .effective-depth2 .ensures, ← c .difference-to .ensures)
 
 blocks-liquid-flow-requires : tie.Need-blocks-liquid-flow-requires
 blocks-liquid-flow-requires c κs = search needs
@@ -48,7 +56,17 @@ enum-known-stopped c = search needs
 
 returns-2 : tie.Need-returns-2
 unfolding difference liquidHeld choose
-returns-2 c = rw (← c .before .before .before .before .before .before .before .before .before .before .before .before .before .step-beside .ensures, ← c .before .before .before .before .before .before .before .before .before .before .before .before .effective-depth .ensures, ← c .before .before .before .before .before .before .before .before .before .before .before .look-by .ensures, ← c .before .before .before .before .before .before .before .before .before .before .liquid-told .ensures, c .before .before .before .before .before .before .before .before .other .given .1, ← c .before .before .before .before .before .before .are-alike .ensures, c .before .before .before .before .before .if1 .left, ← c .before .before .before .before .blocks-liquid-flow .ensures, c .before .before .stopped .given .1, c .if2 .taken)
+returns-2 c =
+    let at-stopped = c .before .before in
+    let at-blocks-liquid-flow = at-stopped .before .before in
+    let at-if1 = at-blocks-liquid-flow .before in
+    let at-are-alike = at-if1 .before in
+    let at-other = at-are-alike .before .before in
+    let at-liquid-told = at-other .before .before in
+    let at-look-by = at-liquid-told .before in
+    let at-effective-depth = at-look-by .before in
+    let at-step-beside = at-effective-depth .before in
+    rw (← at-step-beside .step-beside .ensures, ← at-effective-depth .effective-depth .ensures, ← at-look-by .look-by .ensures, ← at-liquid-told .liquid-told .ensures, at-other .other .given .1, ← at-are-alike .are-alike .ensures, at-if1 .if1 .left, ← at-blocks-liquid-flow .blocks-liquid-flow .ensures, at-stopped .stopped .given .1, c .if2 .taken)
 
 step-below-requires : tie.Need-step-below-requires
 step-below-requires c κs = search needs
@@ -76,23 +94,83 @@ difference-below-requires c κs = search needs
 
 returns-3 : tie.Need-returns-3
 unfolding difference liquidHeld choose
-returns-3 c = rw (← c .before .before .before .before .before .before .before .before .before .before .before .before .before .before .before .before .before .before .before .before .before .before .before .step-beside .ensures, ← c .before .before .before .before .before .before .before .before .before .before .before .before .before .before .before .before .before .before .before .before .before .before .effective-depth .ensures, ← c .before .before .before .before .before .before .before .before .before .before .before .before .before .before .before .before .before .before .before .before .before .look-by .ensures, ← c .before .before .before .before .before .before .before .before .before .before .before .before .before .before .before .before .before .before .before .before .liquid-told .ensures, c .before .before .before .before .before .before .before .before .before .before .before .before .before .before .before .before .before .before .other .given .1, ← c .before .before .before .before .before .before .before .before .before .before .before .before .before .before .before .before .are-alike .ensures, c .before .before .before .before .before .before .before .before .before .before .before .before .before .before .before .if1 .left, ← c .before .before .before .before .before .before .before .before .before .before .before .before .before .before .blocks-liquid-flow .ensures, c .before .before .before .before .before .before .before .before .before .before .before .before .stopped .given .1, c .before .before .before .before .before .before .before .before .before .before .if2 .left, ← c .before .before .before .before .before .before .before .before .before .step-below .ensures, ← c .before .before .before .before .before .before .before .before .look-by2 .ensures, ← c .before .before .before .before .before .before .before .liquid-told2 .ensures, c .before .before .before .before .before .under .given .1, ← c .before .before .before .are-alike2 .ensures, c .before .before .if3 .taken, ← c .before .effective-depth3 .ensures, ← c .difference-below .ensures)
+returns-3 c =
+    let at-if3 = c .before .before in
+    let at-are-alike2 = at-if3 .before in
+    let at-under = at-are-alike2 .before .before in
+    let at-liquid-told2 = at-under .before .before in
+    let at-look-by2 = at-liquid-told2 .before in
+    let at-step-below = at-look-by2 .before in
+    let at-if2 = at-step-below .before in
+    let at-stopped = at-if2 .before .before in
+    let at-blocks-liquid-flow = at-stopped .before .before in
+    let at-if1 = at-blocks-liquid-flow .before in
+    let at-are-alike = at-if1 .before in
+    let at-other = at-are-alike .before .before in
+    let at-liquid-told = at-other .before .before in
+    let at-look-by = at-liquid-told .before in
+    let at-effective-depth = at-look-by .before in
+    let at-step-beside = at-effective-depth .before in
+    rw (← at-step-beside .step-beside .ensures, ← at-effective-depth .effective-depth .ensures, ← at-look-by .look-by .ensures, ← at-liquid-told .liquid-told .ensures, at-other .other .given .1, ← at-are-alike .are-alike .ensures, at-if1 .if1 .left, ← at-blocks-liquid-flow .blocks-liquid-flow .ensures, at-stopped .stopped .given .1, at-if2 .if2 .left, ← at-step-below .step-below .ensures, ← at-look-by2 .look-by2 .ensures, ← at-liquid-told2 .liquid-told2 .ensures, at-under .under .given .1, ← at-are-alike2 .are-alike2 .ensures, at-if3 .if3 .taken, ← c .before .effective-depth3 .ensures, ← c .difference-below .ensures)
 
 returns-4 : tie.Need-returns-4
 unfolding difference liquidHeld choose
-returns-4 c = rw (← c .before .before .before .before .before .before .step-beside .ensures, ← c .before .before .before .before .before .effective-depth .ensures, ← c .before .before .before .before .look-by .ensures, ← c .before .before .before .liquid-told .ensures, c .before .n .given .1)
+returns-4 c =
+    let at-liquid-told = c .before .before .before in
+    let at-look-by = at-liquid-told .before in
+    let at-effective-depth = at-look-by .before in
+    let at-step-beside = at-effective-depth .before in
+    rw (← at-step-beside .step-beside .ensures, ← at-effective-depth .effective-depth .ensures, ← at-look-by .look-by .ensures, ← at-liquid-told .liquid-told .ensures, c .before .n .given .1)
 
 returns-5 : tie.Need-returns-5
 unfolding difference liquidHeld choose
-returns-5 c = rw (← c .before .before .before .before .before .before .before .before .before .before .before .before .step-beside .ensures, ← c .before .before .before .before .before .before .before .before .before .before .before .effective-depth .ensures, ← c .before .before .before .before .before .before .before .before .before .before .look-by .ensures, ← c .before .before .before .before .before .before .before .before .before .liquid-told .ensures, c .before .before .before .before .before .before .before .other .given .1, ← c .before .before .before .before .before .are-alike .ensures, c .before .before .before .before .if1 .left, ← c .before .before .before .blocks-liquid-flow .ensures, c .before .n2 .given .1)
+returns-5 c =
+    let at-blocks-liquid-flow = c .before .before .before in
+    let at-if1 = at-blocks-liquid-flow .before in
+    let at-are-alike = at-if1 .before in
+    let at-other = at-are-alike .before .before in
+    let at-liquid-told = at-other .before .before in
+    let at-look-by = at-liquid-told .before in
+    let at-effective-depth = at-look-by .before in
+    let at-step-beside = at-effective-depth .before in
+    rw (← at-step-beside .step-beside .ensures, ← at-effective-depth .effective-depth .ensures, ← at-look-by .look-by .ensures, ← at-liquid-told .liquid-told .ensures, at-other .other .given .1, ← at-are-alike .are-alike .ensures, at-if1 .if1 .left, ← at-blocks-liquid-flow .blocks-liquid-flow .ensures, c .before .n2 .given .1)
 
 returns-6 : tie.Need-returns-6
 unfolding difference liquidHeld choose
-returns-6 c = rw (← c .before .before .before .before .before .before .before .before .before .before .before .before .before .before .before .before .before .before .before .step-beside .ensures, ← c .before .before .before .before .before .before .before .before .before .before .before .before .before .before .before .before .before .before .effective-depth .ensures, ← c .before .before .before .before .before .before .before .before .before .before .before .before .before .before .before .before .before .look-by .ensures, ← c .before .before .before .before .before .before .before .before .before .before .before .before .before .before .before .before .liquid-told .ensures, c .before .before .before .before .before .before .before .before .before .before .before .before .before .before .other .given .1, ← c .before .before .before .before .before .before .before .before .before .before .before .before .are-alike .ensures, c .before .before .before .before .before .before .before .before .before .before .before .if1 .left, ← c .before .before .before .before .before .before .before .before .before .before .blocks-liquid-flow .ensures, c .before .before .before .before .before .before .before .before .stopped .given .1, c .before .before .before .before .before .before .if2 .left, ← c .before .before .before .before .before .step-below .ensures, ← c .before .before .before .before .look-by2 .ensures, ← c .before .before .before .liquid-told2 .ensures, c .before .n3 .given .1)
+returns-6 c =
+    let at-liquid-told2 = c .before .before .before in
+    let at-look-by2 = at-liquid-told2 .before in
+    let at-step-below = at-look-by2 .before in
+    let at-if2 = at-step-below .before in
+    let at-stopped = at-if2 .before .before in
+    let at-blocks-liquid-flow = at-stopped .before .before in
+    let at-if1 = at-blocks-liquid-flow .before in
+    let at-are-alike = at-if1 .before in
+    let at-other = at-are-alike .before .before in
+    let at-liquid-told = at-other .before .before in
+    let at-look-by = at-liquid-told .before in
+    let at-effective-depth = at-look-by .before in
+    let at-step-beside = at-effective-depth .before in
+    rw (← at-step-beside .step-beside .ensures, ← at-effective-depth .effective-depth .ensures, ← at-look-by .look-by .ensures, ← at-liquid-told .liquid-told .ensures, at-other .other .given .1, ← at-are-alike .are-alike .ensures, at-if1 .if1 .left, ← at-blocks-liquid-flow .blocks-liquid-flow .ensures, at-stopped .stopped .given .1, at-if2 .if2 .left, ← at-step-below .step-below .ensures, ← at-look-by2 .look-by2 .ensures, ← at-liquid-told2 .liquid-told2 .ensures, c .before .n3 .given .1)
 
 returns-7 : tie.Need-returns-7
 unfolding difference liquidHeld choose
-returns-7 c = rw (← c .before .before .before .before .before .before .before .before .before .before .before .before .before .before .before .before .before .before .before .before .before .step-beside .ensures, ← c .before .before .before .before .before .before .before .before .before .before .before .before .before .before .before .before .before .before .before .before .effective-depth .ensures, ← c .before .before .before .before .before .before .before .before .before .before .before .before .before .before .before .before .before .before .before .look-by .ensures, ← c .before .before .before .before .before .before .before .before .before .before .before .before .before .before .before .before .before .before .liquid-told .ensures, c .before .before .before .before .before .before .before .before .before .before .before .before .before .before .before .before .other .given .1, ← c .before .before .before .before .before .before .before .before .before .before .before .before .before .before .are-alike .ensures, c .before .before .before .before .before .before .before .before .before .before .before .before .before .if1 .left, ← c .before .before .before .before .before .before .before .before .before .before .before .before .blocks-liquid-flow .ensures, c .before .before .before .before .before .before .before .before .before .before .stopped .given .1, c .before .before .before .before .before .before .before .before .if2 .left, ← c .before .before .before .before .before .before .before .step-below .ensures, ← c .before .before .before .before .before .before .look-by2 .ensures, ← c .before .before .before .before .before .liquid-told2 .ensures, c .before .before .before .under .given .1, ← c .before .are-alike2 .ensures, c .if3 .left)
+returns-7 c =
+    let at-under = c .before .before .before in
+    let at-liquid-told2 = at-under .before .before in
+    let at-look-by2 = at-liquid-told2 .before in
+    let at-step-below = at-look-by2 .before in
+    let at-if2 = at-step-below .before in
+    let at-stopped = at-if2 .before .before in
+    let at-blocks-liquid-flow = at-stopped .before .before in
+    let at-if1 = at-blocks-liquid-flow .before in
+    let at-are-alike = at-if1 .before in
+    let at-other = at-are-alike .before .before in
+    let at-liquid-told = at-other .before .before in
+    let at-look-by = at-liquid-told .before in
+    let at-effective-depth = at-look-by .before in
+    let at-step-beside = at-effective-depth .before in
+    rw (← at-step-beside .step-beside .ensures, ← at-effective-depth .effective-depth .ensures, ← at-look-by .look-by .ensures, ← at-liquid-told .liquid-told .ensures, at-other .other .given .1, ← at-are-alike .are-alike .ensures, at-if1 .if1 .left, ← at-blocks-liquid-flow .blocks-liquid-flow .ensures, at-stopped .stopped .given .1, at-if2 .if2 .left, ← at-step-below .step-below .ensures, ← at-look-by2 .look-by2 .ensures, ← at-liquid-told2 .liquid-told2 .ensures, at-under .under .given .1, ← c .before .are-alike2 .ensures, c .if3 .left)
 
 pub difference-at-spec : {M : Type 1} → statement M
 difference-at-spec =

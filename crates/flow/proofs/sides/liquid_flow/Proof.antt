@@ -31,7 +31,12 @@ enum-known-n : tie.Need-enum-known-n Inv-loop μ-loop
 enum-known-n c = search needs
 
 returns : tie.Need-returns Inv-loop μ-loop
-returns c = no-difference _ _ _ _ (c .before .before .before .before .before .before .loop .inv) _ (c .before .before .before .before .before .loop-test .taken) (c .before .before .before .before .side-of .ensures) _ (sym (ap gapAsked (c .before .n .given .1)) ∙ c .before .before .before .difference-at .ensures)
+returns c =
+    let at-difference-at = c .before .before .before in
+    let at-side-of = at-difference-at .before in
+    let at-loop-test = at-side-of .before in
+    let at-loop = at-loop-test .before in
+    no-difference _ _ _ _ (at-loop .loop .inv) _ (at-loop-test .loop-test .taken) (at-side-of .side-of .ensures) _ (sym (ap gapAsked (c .before .n .given .1)) ∙ at-difference-at .difference-at .ensures)
 
 enum-known-g : tie.Need-enum-known-g Inv-loop μ-loop
 enum-known-g c = search needs
@@ -43,7 +48,14 @@ enum-known-n-2 : tie.Need-enum-known-n-2 Inv-loop μ-loop
 enum-known-n-2 c = search needs
 
 returns-2 : tie.Need-returns-2 Inv-loop μ-loop
-returns-2 c = no-wall _ _ _ _ (c .before .before .before .before .before .before .before .before .before .before .loop .inv) _ (c .before .before .before .before .before .before .before .before .before .loop-test .taken) (c .before .before .before .before .before .before .before .before .side-of .ensures) _ (sym (ap gapAsked (c .before .before .before .before .before .g .given .1)) ∙ c .before .before .before .before .before .before .before .difference-at .ensures) _ (sym (ap boolAsked (c .before .n2 .given .1)) ∙ c .before .before .before .walled-by .ensures)
+returns-2 c =
+    let at-walled-by = c .before .before .before in
+    let at-g = at-walled-by .before .before in
+    let at-difference-at = at-g .before .before in
+    let at-side-of = at-difference-at .before in
+    let at-loop-test = at-side-of .before in
+    let at-loop = at-loop-test .before in
+    no-wall _ _ _ _ (at-loop .loop .inv) _ (at-loop-test .loop-test .taken) (at-side-of .side-of .ensures) _ (sym (ap gapAsked (at-g .g .given .1)) ∙ at-difference-at .difference-at .ensures) _ (sym (ap boolAsked (c .before .n2 .given .1)) ∙ at-walled-by .walled-by .ensures)
 
 enum-known-b : tie.Need-enum-known-b Inv-loop μ-loop
 enum-known-b c = search needs
@@ -58,7 +70,15 @@ loop-less : tie.Need-loop-less Inv-loop μ-loop
 loop-less c = let h : _ < 4 = c .before .before .before .before .before .before .before .before .before .before .loop-test .taken in omega arith
 
 loop-again : tie.Need-loop-again Inv-loop μ-loop
-loop-again c = sides-next _ _ _ _ (c .before .before .before .before .before .before .before .before .before .before .before .loop .inv) _ (c .before .before .before .before .before .before .before .before .before .before .loop-test .taken) (c .before .before .before .before .before .before .before .before .before .side-of .ensures) _ (sym (ap gapAsked (c .before .before .before .before .before .before .g .given .1)) ∙ c .before .before .before .before .before .before .before .before .difference-at .ensures) _ _ (sym (ap boolAsked (c .before .before .b .given .1)) ∙ c .before .before .before .before .walled-by .ensures) (c .flow-by .ensures)
+loop-again c =
+    let at-b = c .before .before in
+    let at-walled-by = at-b .before .before in
+    let at-g = at-walled-by .before .before in
+    let at-difference-at = at-g .before .before in
+    let at-side-of = at-difference-at .before in
+    let at-loop-test = at-side-of .before in
+    let at-loop = at-loop-test .before in
+    sides-next _ _ _ _ (at-loop .loop .inv) _ (at-loop-test .loop-test .taken) (at-side-of .side-of .ensures) _ (sym (ap gapAsked (at-g .g .given .1)) ∙ at-difference-at .difference-at .ensures) _ _ (sym (ap boolAsked (at-b .b .given .1)) ∙ at-walled-by .walled-by .ensures) (c .flow-by .ensures)
 
 normalised-flow-requires : tie.Need-normalised-flow-requires Inv-loop μ-loop
 normalised-flow-requires c κs = search needs

@@ -22,7 +22,12 @@ normalize-or-zero-requires-2 c κs = search needs
 
 returns : tie.Need-returns
 unfolding normalisedFlow choose
-returns c = rw (c .normalize-or-zero2 .ensures, c .before .subtract .ensures, c .before .before .scale .ensures, c .before .before .before .unit-y .ensures, c .before .before .before .before .normalize-or-zero .ensures, c .before .before .before .before .before .if1 .taken)
+returns c =
+    let at-scale = c .before .before in
+    let at-unit-y = at-scale .before in
+    let at-normalize-or-zero = at-unit-y .before in
+    let at-if1 = at-normalize-or-zero .before in
+    rw (c .normalize-or-zero2 .ensures, c .before .subtract .ensures, at-scale .scale .ensures, at-unit-y .unit-y .ensures, at-normalize-or-zero .normalize-or-zero .ensures, at-if1 .if1 .taken)
 
 normalize-or-zero-requires-3 : tie.Need-normalize-or-zero-requires-3
 normalize-or-zero-requires-3 c κs = search needs

@@ -22,7 +22,13 @@ enum-known-stopped c = search needs
 
 returns : tie.Need-returns
 unfolding walledBy choose
-returns c = rw (← c .before .before .before .before .before .before .before .asks-walls .ensures, c .before .before .before .before .before .before .if1 .taken, ← c .before .before .before .before .before .step-beside .ensures, ← c .before .before .before .before .blocks-liquid-flow .ensures, c .before .before .stopped .given .1, c .if2 .taken)
+returns c =
+    let at-stopped = c .before .before in
+    let at-blocks-liquid-flow = at-stopped .before .before in
+    let at-step-beside = at-blocks-liquid-flow .before in
+    let at-if1 = at-step-beside .before in
+    let at-asks-walls = at-if1 .before in
+    rw (← at-asks-walls .asks-walls .ensures, at-if1 .if1 .taken, ← at-step-beside .step-beside .ensures, ← at-blocks-liquid-flow .blocks-liquid-flow .ensures, at-stopped .stopped .given .1, c .if2 .taken)
 
 step-above-requires : tie.Need-step-above-requires
 step-above-requires c κs = search needs
@@ -32,11 +38,23 @@ blocks-liquid-flow-requires-2 c κs = search needs
 
 returns-2 : tie.Need-returns-2
 unfolding walledBy choose
-returns-2 c = rw (← c .before .before .before .before .before .before .asks-walls .ensures, c .before .before .before .before .before .if1 .taken, ← c .before .before .before .before .step-beside .ensures, ← c .before .before .before .blocks-liquid-flow .ensures, c .before .n .given .1)
+returns-2 c =
+    let at-blocks-liquid-flow = c .before .before .before in
+    let at-step-beside = at-blocks-liquid-flow .before in
+    let at-if1 = at-step-beside .before in
+    let at-asks-walls = at-if1 .before in
+    rw (← at-asks-walls .asks-walls .ensures, at-if1 .if1 .taken, ← at-step-beside .step-beside .ensures, ← at-blocks-liquid-flow .blocks-liquid-flow .ensures, c .before .n .given .1)
 
 returns-3 : tie.Need-returns-3
 unfolding walledBy choose
-returns-3 c = rw (← c .before .before .before .before .before .before .before .before .before .asks-walls .ensures, c .before .before .before .before .before .before .before .before .if1 .taken, ← c .before .before .before .before .before .before .before .step-beside .ensures, ← c .before .before .before .before .before .before .blocks-liquid-flow .ensures, c .before .before .before .before .stopped .given .1, c .before .before .if2 .left, ← c .before .step-above .ensures, ← c .blocks-liquid-flow2 .ensures)
+returns-3 c =
+    let at-if2 = c .before .before in
+    let at-stopped = at-if2 .before .before in
+    let at-blocks-liquid-flow = at-stopped .before .before in
+    let at-step-beside = at-blocks-liquid-flow .before in
+    let at-if1 = at-step-beside .before in
+    let at-asks-walls = at-if1 .before in
+    rw (← at-asks-walls .asks-walls .ensures, at-if1 .if1 .taken, ← at-step-beside .step-beside .ensures, ← at-blocks-liquid-flow .blocks-liquid-flow .ensures, at-stopped .stopped .given .1, at-if2 .if2 .left, ← c .before .step-above .ensures, ← c .blocks-liquid-flow2 .ensures)
 
 returns-4 : tie.Need-returns-4
 unfolding walledBy choose

@@ -18,15 +18,26 @@ returns c = rw (← c .before .before .lent-fit .ensures, ← c .before .mover-r
 
 returns-2 : tie.Need-returns-2
 unfolding listRefusal choose
-returns-2 c = rw (← c .before .before .before .lent-fit .ensures, ← c .before .before .mover-refusal .ensures, eq-eqb _ _ (c .before .if1 .left), lt-ltb _ _ (c .if2 .taken))
+returns-2 c =
+    let at-mover-refusal = c .before .before in
+    let at-lent-fit = at-mover-refusal .before in
+    rw (← at-lent-fit .lent-fit .ensures, ← at-mover-refusal .mover-refusal .ensures, eq-eqb _ _ (c .before .if1 .left), lt-ltb _ _ (c .if2 .taken))
 
 returns-3 : tie.Need-returns-3
 unfolding listRefusal choose
-returns-3 c = rw (← c .before .before .before .before .lent-fit .ensures, ← c .before .before .before .mover-refusal .ensures, eq-eqb _ _ (c .before .before .if1 .left), le-ltb _ _ (c .before .if2 .left), lt-ltb _ _ (c .if3 .taken))
+returns-3 c =
+    let at-if1 = c .before .before in
+    let at-mover-refusal = at-if1 .before in
+    let at-lent-fit = at-mover-refusal .before in
+    rw (← at-lent-fit .lent-fit .ensures, ← at-mover-refusal .mover-refusal .ensures, eq-eqb _ _ (at-if1 .if1 .left), le-ltb _ _ (c .before .if2 .left), lt-ltb _ _ (c .if3 .taken))
 
 returns-4 : tie.Need-returns-4
 unfolding listRefusal choose
-returns-4 c = rw (← c .before .before .before .before .lent-fit .ensures, ← c .before .before .before .mover-refusal .ensures, eq-eqb _ _ (c .before .before .if1 .left), le-ltb _ _ (c .before .if2 .left), le-ltb _ _ (c .if3 .left))
+returns-4 c =
+    let at-if1 = c .before .before in
+    let at-mover-refusal = at-if1 .before in
+    let at-lent-fit = at-mover-refusal .before in
+    rw (← at-lent-fit .lent-fit .ensures, ← at-mover-refusal .mover-refusal .ensures, eq-eqb _ _ (at-if1 .if1 .left), le-ltb _ _ (c .before .if2 .left), le-ltb _ _ (c .if3 .left))
 
 pub list-refusal-spec : {M : Type 1} → statement M
 list-refusal-spec =

@@ -14,11 +14,19 @@ mover-fits-requires c κs = search needs
 
 returns : tie.Need-returns
 unfolding moverRefusal choose
-returns c = rw (lt-ltb _ _ (c .before .before .before .before .if1 .taken), ← c .before .before .before .is-step .ensures, c .before .before .if2 .taken, ← c .before .mover-fits .ensures, c .if3 .taken)
+returns c =
+    let at-if2 = c .before .before in
+    let at-is-step = at-if2 .before in
+    let at-if1 = at-is-step .before in
+    rw (lt-ltb _ _ (at-if1 .if1 .taken), ← at-is-step .is-step .ensures, at-if2 .if2 .taken, ← c .before .mover-fits .ensures, c .if3 .taken)
 
 returns-2 : tie.Need-returns-2
 unfolding moverRefusal choose
-returns-2 c = rw (lt-ltb _ _ (c .before .before .before .before .if1 .taken), ← c .before .before .before .is-step .ensures, c .before .before .if2 .taken, ← c .before .mover-fits .ensures, c .if3 .left)
+returns-2 c =
+    let at-if2 = c .before .before in
+    let at-is-step = at-if2 .before in
+    let at-if1 = at-is-step .before in
+    rw (lt-ltb _ _ (at-if1 .if1 .taken), ← at-is-step .is-step .ensures, at-if2 .if2 .taken, ← c .before .mover-fits .ensures, c .if3 .left)
 
 returns-3 : tie.Need-returns-3
 unfolding moverRefusal choose

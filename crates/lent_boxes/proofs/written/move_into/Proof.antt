@@ -19,7 +19,10 @@ same-length c = search needs
 
 returns-2 : tie.Need-returns-2
 unfolding writtenBy choose
-returns-2 c = (sym (c .before .before .before .before .if1 .left), rw (eq-eqb _ _ (c .before .before .before .before .if1 .left), c .before .before .put-result .ensures))
+returns-2 c =
+    let at-put-result = c .before .before in
+    let at-if1 = at-put-result .before .before in
+    (sym (at-if1 .if1 .left), rw (eq-eqb _ _ (at-if1 .if1 .left), at-put-result .put-result .ensures))
 
 pub move-into-spec : {M : Type 1} → statement M
 move-into-spec = tie.close (tie.spec returns put-result-requires same-length returns-2)

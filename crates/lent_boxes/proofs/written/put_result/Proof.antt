@@ -25,7 +25,13 @@ same-length c = search needs
 
 returns : tie.Need-returns
 unfolding stored numbersOf
-returns c = rw (c .before .before .put .ensures, c .before .before .before .flag-of .ensures, c .before .before .before .before .before .before .before .put-vec3 .ensures, c .before .before .before .before .before .before .before .before .before .before .before .put-vec2 .ensures, c .before .before .before .before .before .before .before .before .before .before .before .before .before .before .before .put-vec .ensures)
+returns c =
+    let at-put = c .before .before in
+    let at-flag-of = at-put .before in
+    let at-put-vec3 = at-flag-of .before .before .before .before in
+    let at-put-vec2 = at-put-vec3 .before .before .before .before in
+    let at-put-vec = at-put-vec2 .before .before .before .before in
+    rw (at-put .put .ensures, at-flag-of .flag-of .ensures, at-put-vec3 .put-vec3 .ensures, at-put-vec2 .put-vec2 .ensures, at-put-vec .put-vec .ensures)
 
 pub put-result-spec : {M : Type 1} → statement M
 put-result-spec =

@@ -15,7 +15,10 @@ carry-requires-2 c κs = search needs
 
 returns : tie.Need-returns
 unfolding currentOf
-returns c = rw (← c .before .before .before .zero .ensures, ← c .before .before .carry .ensures, ← c .before .carry2 .ensures)
+returns c =
+    let at-carry = c .before .before in
+    let at-zero = at-carry .before in
+    rw (← at-zero .zero .ensures, ← at-carry .carry .ensures, ← c .before .carry2 .ensures)
 
 pub current-of-spec : {M : Type 1} → statement M
 current-of-spec = tie.close (tie.spec zero-requires carry-requires carry-requires-2 returns)

@@ -21,7 +21,10 @@ liquid-told-requires c κs = search needs
 
 returns-2 : tie.Need-returns-2
 unfolding liquidKnown liquidHeld choose
-returns-2 c = rw (← c .before .before .before .same-pos .ensures, c .before .before .if1 .left, ← c .before .look .ensures, ← c .liquid-told .ensures)
+returns-2 c =
+    let at-if1 = c .before .before in
+    let at-same-pos = at-if1 .before in
+    rw (← at-same-pos .same-pos .ensures, at-if1 .if1 .left, ← c .before .look .ensures, ← c .liquid-told .ensures)
 
 pub liquid-known-spec : {M : Type 1} → statement M
 liquid-known-spec =

@@ -15,7 +15,11 @@ surface-at-requires c κs = search needs
 
 returns : tie.Need-returns
 unfolding underWater
-returns c = rw (← c .before .before .before .before .is-water .ensures, c .before .before .before .if1 .taken, ← c .before .before .cell-holding .ensures, ← c .before .surface-at .ensures)
+returns c =
+    let at-cell-holding = c .before .before in
+    let at-if1 = at-cell-holding .before in
+    let at-is-water = at-if1 .before in
+    rw (← at-is-water .is-water .ensures, at-if1 .if1 .taken, ← at-cell-holding .cell-holding .ensures, ← c .before .surface-at .ensures)
 
 returns-2 : tie.Need-returns-2
 unfolding underWater

@@ -27,15 +27,30 @@ enum-known-kind c = search needs
 
 returns-2 : tie.Need-returns-2
 unfolding livingEntry choose
-returns-2 c = rw (← c .before .before .before .before .before .before .before .check-lent .ensures, eq-eqb _ _ (c .before .before .before .before .before .before .if1 .left), ← c .before .before .before .before .before .is-box .ensures, c .before .before .before .before .if2 .taken, ← c .before .before .before .living-liquid-in .ensures, c .before .n .given .1)
+returns-2 c =
+    let at-living-liquid-in = c .before .before .before in
+    let at-if2 = at-living-liquid-in .before in
+    let at-is-box = at-if2 .before in
+    let at-if1 = at-is-box .before in
+    let at-check-lent = at-if1 .before in
+    rw (← at-check-lent .check-lent .ensures, eq-eqb _ _ (at-if1 .if1 .left), ← at-is-box .is-box .ensures, at-if2 .if2 .taken, ← at-living-liquid-in .living-liquid-in .ensures, c .before .n .given .1)
 
 returns-3 : tie.Need-returns-3
 unfolding livingEntry choose
-returns-3 c = rw (← c .before .before .before .before .before .before .before .check-lent .ensures, eq-eqb _ _ (c .before .before .before .before .before .before .if1 .left), ← c .before .before .before .before .before .is-box .ensures, c .before .before .before .before .if2 .taken, ← c .before .before .before .living-liquid-in .ensures, c .before .kind .given .1)
+returns-3 c =
+    let at-living-liquid-in = c .before .before .before in
+    let at-if2 = at-living-liquid-in .before in
+    let at-is-box = at-if2 .before in
+    let at-if1 = at-is-box .before in
+    let at-check-lent = at-if1 .before in
+    rw (← at-check-lent .check-lent .ensures, eq-eqb _ _ (at-if1 .if1 .left), ← at-is-box .is-box .ensures, at-if2 .if2 .taken, ← at-living-liquid-in .living-liquid-in .ensures, c .before .kind .given .1)
 
 returns-4 : tie.Need-returns-4
 unfolding livingEntry choose
-returns-4 c = rw (← c .before .before .before .check-lent .ensures, eq-eqb _ _ (c .before .before .if1 .left), ← c .before .is-box .ensures, c .if2 .left)
+returns-4 c =
+    let at-if1 = c .before .before in
+    let at-check-lent = at-if1 .before in
+    rw (← at-check-lent .check-lent .ensures, eq-eqb _ _ (at-if1 .if1 .left), ← c .before .is-box .ensures, c .if2 .left)
 
 pub living-liquid-spec : {M : Type 1} → statement M
 living-liquid-spec =

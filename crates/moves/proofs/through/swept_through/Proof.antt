@@ -217,7 +217,13 @@ loop6-less : tie.Need-loop6-less Inv-loop4 μ-loop4 Inv-loop3 μ-loop3 Inv-loop2
 loop6-less c = omega arith
 
 loop6-again : tie.Need-loop6-again Inv-loop4 μ-loop4 Inv-loop3 μ-loop3 Inv-loop2 μ-loop2 Inv-loop μ-loop Inv-loop6 μ-loop6 Inv-loop5 μ-loop5
-loop6-again c = clip-turn (c .before .before .before .before .before .before .before .before .before .before .before .before .loop .list .boxes) (c .before .before .before .before .before .before .before .before .before .before .before .before .loop .list .count) room (c .before .before .before .before .before .before .before .before .before .before .before .before .loop .inv .0 .whole) _ (c .before .before .before .loop6 .i) (fully room _ _ (c .before .before .before .before .before .before .before .before .before .before .before .before .loop .inv .0)) (clipAlong (c .before .before .before .before .before .before .before .axis-of .result)) (c .before .before .before .before .before .before .before .before .before .loop5 .s .now .aabb) _ (c .before .before .before .loop6 .d) _ _ (c .before .before .loop6-test .taken) (c .clip-along .ensures) (c .before .before .before .loop6 .inv)
+loop6-again c =
+    let at-loop6-test = c .before .before in
+    let at-loop6 = at-loop6-test .before in
+    let at-axis-of = at-loop6 .before .before .before .before in
+    let at-loop5 = at-axis-of .before .before in
+    let at-loop = at-loop5 .before .before .before in
+    clip-turn (at-loop .loop .list .boxes) (at-loop .loop .list .count) room (at-loop .loop .inv .0 .whole) _ (at-loop6 .loop6 .i) (fully room _ _ (at-loop .loop .inv .0)) (clipAlong (at-axis-of .axis-of .result)) (at-loop5 .loop5 .s .now .aabb) _ (at-loop6 .loop6 .d) _ _ (at-loop6-test .loop6-test .taken) (c .clip-along .ensures) (at-loop6 .loop6 .inv)
 
 gone-requires : tie.Need-gone-requires Inv-loop4 μ-loop4 Inv-loop3 μ-loop3 Inv-loop2 μ-loop2 Inv-loop μ-loop Inv-loop6 μ-loop6 Inv-loop5 μ-loop5
 gone-requires c κs = search needs
@@ -229,7 +235,20 @@ ended-requires : tie.Need-ended-requires Inv-loop4 μ-loop4 Inv-loop3 μ-loop3 I
 ended-requires c κs = search needs
 
 returns-3 : tie.Need-returns-3 Inv-loop4 μ-loop4 Inv-loop3 μ-loop3 Inv-loop2 μ-loop2 Inv-loop μ-loop Inv-loop6 μ-loop6 Inv-loop5 μ-loop5
-returns-3 c = moved _ _ _ _ _ _ (c .before .before .before .before .before .before .before .before .before .before .before .before .before .before .before .before .before .before .swept-area .ensures) _ (c .before .before .before .before .before .before .before .before .before .before .before .before .before .before .before .before .before .range-of .ensures) _ (sym (layers-end (push room) _ _ _ _ _ _ _ (c .before .before .before .before .before .before .before .before .before .before .before .before .before .before .loop-test .left)) ∙ c .before .before .before .before .before .before .before .before .before .before .before .before .before .before .before .loop .inv .1) _ (pass-over _ _ (c .before .before .before .before .before .before .before .before .before .before .before .before .loop5 .pass) (c .before .before .before .before .before .before .before .before .before .before .before .before .loop5 .s) (c .before .before .next .result) _ (made (c .before .before .before .before .before .before .before .before .before .before .before .before .before .before .before .loop .list .boxes) (c .before .before .before .before .before .before .before .before .before .before .before .before .before .before .before .loop .list .count) room (c .before .before .before .before .before .before .before .before .before .before .before .before .before .before .before .loop .inv .0 .whole) _ _ (fully room _ _ (c .before .before .before .before .before .before .before .before .before .before .before .before .before .before .before .loop .inv .0)) _ (c .before .before .before .before .before .before .before .before .before .before .before .before .loop5 .pass) (c .before .before .before .before .before .before .before .before .before .before .before .before .loop5 .s) _ _ _ _ (c .before .before .before .before .before .before .loop6 .d) (c .before .before .before .before .before .before .before .before .before .before .axis-of .ensures) (c .before .before .before .before .before .before .before .wanted .ensures) (c .before .before .before .before .before .loop6-test .left) (c .before .before .before .before .before .before .loop6 .inv) (c .before .before .before .gone .ensures) (c .before .before .next .ensures)) (c .before .before .before .before .before .before .before .before .before .before .before .loop5-test .taken) (c .before .if3 .taken) (c .before .before .before .before .before .before .before .before .before .before .before .before .loop5 .inv)) _ (c .ended .ensures)
+returns-3 c =
+    let at-next = c .before .before in
+    let at-gone = at-next .before in
+    let at-loop6-test = at-gone .before .before in
+    let at-loop6 = at-loop6-test .before in
+    let at-wanted = at-loop6 .before in
+    let at-axis-of = at-wanted .before .before .before in
+    let at-loop5-test = at-axis-of .before in
+    let at-loop5 = at-loop5-test .before in
+    let at-loop-test = at-loop5 .before .before in
+    let at-loop = at-loop-test .before in
+    let at-range-of = at-loop .before .before in
+    let at-swept-area = at-range-of .before in
+    moved _ _ _ _ _ _ (at-swept-area .swept-area .ensures) _ (at-range-of .range-of .ensures) _ (sym (layers-end (push room) _ _ _ _ _ _ _ (at-loop-test .loop-test .left)) ∙ at-loop .loop .inv .1) _ (pass-over _ _ (at-loop5 .loop5 .pass) (at-loop5 .loop5 .s) (at-next .next .result) _ (made (at-loop .loop .list .boxes) (at-loop .loop .list .count) room (at-loop .loop .inv .0 .whole) _ _ (fully room _ _ (at-loop .loop .inv .0)) _ (at-loop5 .loop5 .pass) (at-loop5 .loop5 .s) _ _ _ _ (at-loop6 .loop6 .d) (at-axis-of .axis-of .ensures) (at-wanted .wanted .ensures) (at-loop6-test .loop6-test .left) (at-loop6 .loop6 .inv) (at-gone .gone .ensures) (at-next .next .ensures)) (at-loop5-test .loop5-test .taken) (c .before .if3 .taken) (at-loop5 .loop5 .inv)) _ (c .ended .ensures)
 
 add-pass : tie.Need-add-pass Inv-loop4 μ-loop4 Inv-loop3 μ-loop3 Inv-loop2 μ-loop2 Inv-loop μ-loop Inv-loop6 μ-loop6 Inv-loop5 μ-loop5
 add-pass c = omega arith
@@ -238,14 +257,29 @@ loop5-less : tie.Need-loop5-less Inv-loop4 μ-loop4 Inv-loop3 μ-loop3 Inv-loop2
 loop5-less c = omega arith
 
 loop5-again : tie.Need-loop5-again Inv-loop4 μ-loop4 Inv-loop3 μ-loop3 Inv-loop2 μ-loop2 Inv-loop μ-loop Inv-loop6 μ-loop6 Inv-loop5 μ-loop5
-loop5-again c = pass-on _ _ (c .before .before .before .before .before .before .before .before .before .before .before .loop5 .pass) (c .before .before .before .before .before .before .before .before .before .before .before .loop5 .s) (c .before .next .result) _ (made (c .before .before .before .before .before .before .before .before .before .before .before .before .before .before .loop .list .boxes) (c .before .before .before .before .before .before .before .before .before .before .before .before .before .before .loop .list .count) room (c .before .before .before .before .before .before .before .before .before .before .before .before .before .before .loop .inv .0 .whole) _ _ (fully room _ _ (c .before .before .before .before .before .before .before .before .before .before .before .before .before .before .loop .inv .0)) _ (c .before .before .before .before .before .before .before .before .before .before .before .loop5 .pass) (c .before .before .before .before .before .before .before .before .before .before .before .loop5 .s) _ _ _ _ (c .before .before .before .before .before .loop6 .d) (c .before .before .before .before .before .before .before .before .before .axis-of .ensures) (c .before .before .before .before .before .before .wanted .ensures) (c .before .before .before .before .loop6-test .left) (c .before .before .before .before .before .loop6 .inv) (c .before .before .gone .ensures) (c .before .next .ensures)) (c .before .before .before .before .before .before .before .before .before .before .loop5-test .taken) (c .if3 .left) (c .before .before .before .before .before .before .before .before .before .before .before .loop5 .inv)
+loop5-again c =
+    let at-gone = c .before .before in
+    let at-loop6-test = at-gone .before .before in
+    let at-loop6 = at-loop6-test .before in
+    let at-wanted = at-loop6 .before in
+    let at-axis-of = at-wanted .before .before .before in
+    let at-loop5-test = at-axis-of .before in
+    let at-loop5 = at-loop5-test .before in
+    let at-loop = at-loop5 .before .before .before in
+    pass-on _ _ (at-loop5 .loop5 .pass) (at-loop5 .loop5 .s) (c .before .next .result) _ (made (at-loop .loop .list .boxes) (at-loop .loop .list .count) room (at-loop .loop .inv .0 .whole) _ _ (fully room _ _ (at-loop .loop .inv .0)) _ (at-loop5 .loop5 .pass) (at-loop5 .loop5 .s) _ _ _ _ (at-loop6 .loop6 .d) (at-axis-of .axis-of .ensures) (at-wanted .wanted .ensures) (at-loop6-test .loop6-test .left) (at-loop6 .loop6 .inv) (at-gone .gone .ensures) (c .before .next .ensures)) (at-loop5-test .loop5-test .taken) (c .if3 .left) (at-loop5 .loop5 .inv)
 
 ended-requires-2 :
     tie.Need-ended-requires-2 Inv-loop4 μ-loop4 Inv-loop3 μ-loop3 Inv-loop2 μ-loop2 Inv-loop μ-loop Inv-loop6 μ-loop6 Inv-loop5 μ-loop5
 ended-requires-2 c κs = search needs
 
 returns-4 : tie.Need-returns-4 Inv-loop4 μ-loop4 Inv-loop3 μ-loop3 Inv-loop2 μ-loop2 Inv-loop μ-loop Inv-loop6 μ-loop6 Inv-loop5 μ-loop5
-returns-4 c = moved _ _ _ _ _ _ (c .before .before .before .before .before .before .before .before .swept-area .ensures) _ (c .before .before .before .before .before .before .before .range-of .ensures) _ (sym (layers-end (push room) _ _ _ _ _ _ _ (c .before .before .before .before .loop-test .left)) ∙ c .before .before .before .before .before .loop .inv .1) _ (passes-end _ _ (c .before .before .loop5 .pass) (c .before .before .loop5 .s) _ (c .before .loop5-test .left) (c .before .before .loop5 .inv)) _ (c .ended2 .ensures)
+returns-4 c =
+    let at-loop5 = c .before .before in
+    let at-loop-test = at-loop5 .before .before in
+    let at-loop = at-loop-test .before in
+    let at-range-of = at-loop .before .before in
+    let at-swept-area = at-range-of .before in
+    moved _ _ _ _ _ _ (at-swept-area .swept-area .ensures) _ (at-range-of .range-of .ensures) _ (sym (layers-end (push room) _ _ _ _ _ _ _ (at-loop-test .loop-test .left)) ∙ at-loop .loop .inv .1) _ (passes-end _ _ (at-loop5 .loop5 .pass) (at-loop5 .loop5 .s) _ (c .before .loop5-test .left) (at-loop5 .loop5 .inv)) _ (c .ended2 .ensures)
 
 pub swept-through-spec : {M : Type 1} → statement M
 swept-through-spec =

@@ -39,7 +39,10 @@ loop-less : tie.Need-loop-less Inv-loop μ-loop
 loop-less c = search needs
 
 loop-again : tie.Need-loop-again Inv-loop μ-loop
-loop-again c = (search needs, simp length-set (c .before .before .loop .inv .1), turn (bodyFloat (c .before .before .before .before .args .file .now)) 19 (c .before .before .loop .k) (c .before .before .loop .numbers) _ (c .body-float .result) (c .body-float .ensures) (search needs) (search needs) (c .before .before .loop .inv .2))
+loop-again c =
+    let at-loop = c .before .before in
+    let start = at-loop .before .before in
+    (search needs, simp length-set (at-loop .loop .inv .1), turn (bodyFloat (start .args .file .now)) 19 (at-loop .loop .k) (at-loop .loop .numbers) _ (c .body-float .result) (c .body-float .ensures) (search needs) (search needs) (at-loop .loop .inv .2))
 
 returns : tie.Need-returns Inv-loop μ-loop
 returns c = filled (bodyFloat (c .before .before .before .args .file .now)) 19 (c .before .loop .k) (c .before .loop .numbers) (c .before .loop .inv .1) (c .before .loop .inv .0) (search needs) (c .before .loop .inv .2)

@@ -45,7 +45,10 @@ loop-less : tie.Need-loop-less Inv-loop μ-loop
 loop-less c = search needs
 
 loop-again : tie.Need-loop-again Inv-loop μ-loop
-loop-again c = (search needs, simp length-set (c .before .before .loop .inv .1), turn (lateWord (c .before .before .before .before .args .file .now)) 6 (c .before .before .loop .k) (c .before .before .loop .words) _ (c .body-word .result) (c .body-word .ensures) (search needs) (search needs) (c .before .before .loop .inv .2))
+loop-again c =
+    let at-loop = c .before .before in
+    let start = at-loop .before .before in
+    (search needs, simp length-set (at-loop .loop .inv .1), turn (lateWord (start .args .file .now)) 6 (at-loop .loop .k) (at-loop .loop .words) _ (c .body-word .result) (c .body-word .ensures) (search needs) (search needs) (at-loop .loop .inv .2))
 
 returns : tie.Need-returns Inv-loop μ-loop
 returns c = filled (lateWord (c .before .before .before .args .file .now)) 6 (c .before .loop .k) (c .before .loop .words) (c .before .loop .inv .1) (c .before .loop .inv .0) (search needs) (c .before .loop .inv .2)

@@ -46,7 +46,11 @@ loop-less : tie.Need-loop-less Inv-loop μ-loop
 loop-less c = search needs
 
 loop-again : tie.Need-loop-again Inv-loop μ-loop
-loop-again c = (search needs, search needs, simp length-set (c .before .before .loop .inv .2), turn (partWord (c .before .before .before .before .before .before .args .file .now) (c .before .before .before .before .before .before .args .p)) (c .before .before .before .before .held .result) (c .before .before .loop .i) (c .before .before .loop .words) _ (c .part-word .result) (c .part-word .ensures) (search needs) (search needs) (c .before .before .loop .inv .3))
+loop-again c =
+    let at-loop = c .before .before in
+    let at-held = at-loop .before .before in
+    let start = at-held .before .before in
+    (search needs, search needs, simp length-set (at-loop .loop .inv .2), turn (partWord (start .args .file .now) (start .args .p)) (at-held .held .result) (at-loop .loop .i) (at-loop .loop .words) _ (c .part-word .result) (c .part-word .ensures) (search needs) (search needs) (at-loop .loop .inv .3))
 
 returns : tie.Need-returns Inv-loop μ-loop
 returns c =

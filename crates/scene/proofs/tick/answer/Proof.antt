@@ -13,7 +13,10 @@ same-length : tie.Need-same-length
 same-length c = search needs
 
 returns : tie.Need-returns
-returns c = rw (← c .before .before .before .before .tick-of .ensures) (c .before .before .write-answer .ensures)
+returns c =
+    let at-write-answer = c .before .before in
+    let at-tick-of = at-write-answer .before .before in
+    rw (← at-tick-of .tick-of .ensures) (at-write-answer .write-answer .ensures)
 
 pub answer-spec : {M : Type 1} → statement M
 answer-spec = tie.close (tie.spec tick-of-requires write-answer-requires same-length returns)

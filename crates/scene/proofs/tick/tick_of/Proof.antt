@@ -25,7 +25,10 @@ returns : tie.Need-returns
 returns c = c .refused-scene .ensures ∙ no-tick _ (ap countsAsked (sym (c .before .enum-told .given .1)) ∙ c .before .before .before .counts-of .ensures)
 
 returns-2 : tie.Need-returns-2
-returns-2 c = tick-by _ _ _ (ap countsAsked (sym (c .before .before .n .given .1)) ∙ c .before .before .before .before .counts-of .ensures) (c .step-in .ensures)
+returns-2 c =
+    let at-n = c .before .before in
+    let at-counts-of = at-n .before .before in
+    tick-by _ _ _ (ap countsAsked (sym (at-n .n .given .1)) ∙ at-counts-of .counts-of .ensures) (c .step-in .ensures)
 
 pub tick-of-spec : {M : Type 1} → statement M
 tick-of-spec =

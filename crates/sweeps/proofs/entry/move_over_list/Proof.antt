@@ -17,14 +17,20 @@ move-over-requires c κs = search needs
 
 returns : tie.Need-returns
 unfolding moveOverList choose
-returns c = rw (← c .before .before .before .are-boxes .ensures, ← c .before .before .refusal-of .ensures, eq-eqb _ _ (c .before .if1 .taken), ← c .move-over .ensures)
+returns c =
+    let at-refusal-of = c .before .before in
+    let at-are-boxes = at-refusal-of .before in
+    rw (← at-are-boxes .are-boxes .ensures, ← at-refusal-of .refusal-of .ensures, eq-eqb _ _ (c .before .if1 .taken), ← c .move-over .ensures)
 
 refused-requires : tie.Need-refused-requires
 refused-requires c κs = search needs
 
 returns-2 : tie.Need-returns-2
 unfolding moveOverList choose
-returns-2 c = rw (← c .before .before .before .are-boxes .ensures, ← c .before .before .refusal-of .ensures, ne-eqb _ _ (c .before .if1 .left), ← c .refused .ensures)
+returns-2 c =
+    let at-refusal-of = c .before .before in
+    let at-are-boxes = at-refusal-of .before in
+    rw (← at-are-boxes .are-boxes .ensures, ← at-refusal-of .refusal-of .ensures, ne-eqb _ _ (c .before .if1 .left), ← c .refused .ensures)
 
 pub move-over-list-spec : {M : Type 1} → statement M
 move-over-list-spec =

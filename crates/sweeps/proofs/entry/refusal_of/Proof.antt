@@ -16,23 +16,51 @@ is-delta-requires c κs = search needs
 
 returns : tie.Need-returns
 unfolding choose
-returns c = rw (← c .before .before .before .before .before .before .before .is-step .ensures, c .before .before .before .before .before .before .if1 .taken, ← c .before .before .before .before .before .is-box .ensures, c .before .before .before .before .if2 .taken, ← c .before .before .before .is-delta .ensures, c .before .before .if3 .taken, c .before .if4 .taken, lt-ltb _ _ (c .if5 .taken))
+returns c =
+    let at-if3 = c .before .before in
+    let at-is-delta = at-if3 .before in
+    let at-if2 = at-is-delta .before in
+    let at-is-box = at-if2 .before in
+    let at-if1 = at-is-box .before in
+    let at-is-step = at-if1 .before in
+    rw (← at-is-step .is-step .ensures, at-if1 .if1 .taken, ← at-is-box .is-box .ensures, at-if2 .if2 .taken, ← at-is-delta .is-delta .ensures, at-if3 .if3 .taken, c .before .if4 .taken, lt-ltb _ _ (c .if5 .taken))
 
 returns-2 : tie.Need-returns-2
 unfolding choose
-returns-2 c = rw (← c .before .before .before .before .before .before .before .is-step .ensures, c .before .before .before .before .before .before .if1 .taken, ← c .before .before .before .before .before .is-box .ensures, c .before .before .before .before .if2 .taken, ← c .before .before .before .is-delta .ensures, c .before .before .if3 .taken, c .before .if4 .taken, le-ltb _ _ (c .if5 .left))
+returns-2 c =
+    let at-if3 = c .before .before in
+    let at-is-delta = at-if3 .before in
+    let at-if2 = at-is-delta .before in
+    let at-is-box = at-if2 .before in
+    let at-if1 = at-is-box .before in
+    let at-is-step = at-if1 .before in
+    rw (← at-is-step .is-step .ensures, at-if1 .if1 .taken, ← at-is-box .is-box .ensures, at-if2 .if2 .taken, ← at-is-delta .is-delta .ensures, at-if3 .if3 .taken, c .before .if4 .taken, le-ltb _ _ (c .if5 .left))
 
 returns-3 : tie.Need-returns-3
 unfolding choose
-returns-3 c = rw (← c .before .before .before .before .before .before .is-step .ensures, c .before .before .before .before .before .if1 .taken, ← c .before .before .before .before .is-box .ensures, c .before .before .before .if2 .taken, ← c .before .before .is-delta .ensures, c .before .if3 .taken, c .if4 .left)
+returns-3 c =
+    let at-is-delta = c .before .before in
+    let at-if2 = at-is-delta .before in
+    let at-is-box = at-if2 .before in
+    let at-if1 = at-is-box .before in
+    let at-is-step = at-if1 .before in
+    rw (← at-is-step .is-step .ensures, at-if1 .if1 .taken, ← at-is-box .is-box .ensures, at-if2 .if2 .taken, ← at-is-delta .is-delta .ensures, c .before .if3 .taken, c .if4 .left)
 
 returns-4 : tie.Need-returns-4
 unfolding choose
-returns-4 c = rw (← c .before .before .before .before .before .is-step .ensures, c .before .before .before .before .if1 .taken, ← c .before .before .before .is-box .ensures, c .before .before .if2 .taken, ← c .before .is-delta .ensures, c .if3 .left)
+returns-4 c =
+    let at-if2 = c .before .before in
+    let at-is-box = at-if2 .before in
+    let at-if1 = at-is-box .before in
+    let at-is-step = at-if1 .before in
+    rw (← at-is-step .is-step .ensures, at-if1 .if1 .taken, ← at-is-box .is-box .ensures, at-if2 .if2 .taken, ← c .before .is-delta .ensures, c .if3 .left)
 
 returns-5 : tie.Need-returns-5
 unfolding choose
-returns-5 c = rw (← c .before .before .before .is-step .ensures, c .before .before .if1 .taken, ← c .before .is-box .ensures, c .if2 .left)
+returns-5 c =
+    let at-if1 = c .before .before in
+    let at-is-step = at-if1 .before in
+    rw (← at-is-step .is-step .ensures, at-if1 .if1 .taken, ← c .before .is-box .ensures, c .if2 .left)
 
 returns-6 : tie.Need-returns-6
 unfolding choose

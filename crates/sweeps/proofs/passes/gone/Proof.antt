@@ -17,7 +17,10 @@ new-requires-2 c κs = search needs
 
 returns : tie.Need-returns
 unfolding goneOf choose
-returns c = rw (eq-eqb _ _ (c .before .before .before .if1 .taken), c .new2 .ensures, c .before .offset .ensures, c .before .before .new .ensures)
+returns c =
+    let at-new = c .before .before in
+    let at-if1 = at-new .before in
+    rw (eq-eqb _ _ (at-if1 .if1 .taken), c .new2 .ensures, c .before .offset .ensures, at-new .new .ensures)
 
 new-requires-3 : tie.Need-new-requires-3
 new-requires-3 c κs = search needs
@@ -30,7 +33,11 @@ new-requires-4 c κs = search needs
 
 returns-2 : tie.Need-returns-2
 unfolding goneOf choose
-returns-2 c = rw (ne-eqb _ _ (c .before .before .before .before .if1 .left), eq-eqb _ _ (c .before .before .before .if2 .taken), c .new4 .ensures, c .before .offset2 .ensures, c .before .before .new3 .ensures)
+returns-2 c =
+    let at-new3 = c .before .before in
+    let at-if2 = at-new3 .before in
+    let at-if1 = at-if2 .before in
+    rw (ne-eqb _ _ (at-if1 .if1 .left), eq-eqb _ _ (at-if2 .if2 .taken), c .new4 .ensures, c .before .offset2 .ensures, at-new3 .new3 .ensures)
 
 new-requires-5 : tie.Need-new-requires-5
 new-requires-5 c κs = search needs
@@ -43,7 +50,12 @@ new-requires-6 c κs = search needs
 
 returns-3 : tie.Need-returns-3
 unfolding goneOf choose
-returns-3 c = rw (ne-eqb _ _ (c .before .before .before .before .before .if1 .left), ne-eqb _ _ (c .before .before .before .before .if2 .left), lt-ltb _ _ (c .before .before .before .if3 .taken), c .new6 .ensures, c .before .offset3 .ensures, c .before .before .new5 .ensures)
+returns-3 c =
+    let at-new5 = c .before .before in
+    let at-if3 = at-new5 .before in
+    let at-if2 = at-if3 .before in
+    let at-if1 = at-if2 .before in
+    rw (ne-eqb _ _ (at-if1 .if1 .left), ne-eqb _ _ (at-if2 .if2 .left), lt-ltb _ _ (at-if3 .if3 .taken), c .new6 .ensures, c .before .offset3 .ensures, at-new5 .new5 .ensures)
 
 new-requires-7 : tie.Need-new-requires-7
 new-requires-7 c κs = search needs
@@ -56,7 +68,13 @@ new-requires-8 c κs = search needs
 
 returns-4 : tie.Need-returns-4
 unfolding goneOf choose
-returns-4 c = rw (ne-eqb _ _ (c .before .before .before .before .before .before .if1 .left), ne-eqb _ _ (c .before .before .before .before .before .if2 .left), le-ltb _ _ (c .before .before .before .before .if3 .left), c .new8 .ensures, c .before .before .offset4 .ensures, c .before .before .before .new7 .ensures)
+returns-4 c =
+    let at-offset4 = c .before .before in
+    let at-new7 = at-offset4 .before in
+    let at-if3 = at-new7 .before in
+    let at-if2 = at-if3 .before in
+    let at-if1 = at-if2 .before in
+    rw (ne-eqb _ _ (at-if1 .if1 .left), ne-eqb _ _ (at-if2 .if2 .left), le-ltb _ _ (at-if3 .if3 .left), c .new8 .ensures, at-offset4 .offset4 .ensures, at-new7 .new7 .ensures)
 
 pub gone-spec : {M : Type 1} → statement M
 gone-spec =

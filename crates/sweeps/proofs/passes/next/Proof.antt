@@ -11,7 +11,11 @@ tries-step-requires c κs = search needs
 
 returns : tie.Need-returns
 unfolding nextSweep choose
-returns c = rw (eq-eqb _ _ (c .before .before .before .before .if1 .taken), ← c .before .before .before .tries-step .ensures, c .before .before .if2 .taken)
+returns c =
+    let at-if2 = c .before .before in
+    let at-tries-step = at-if2 .before in
+    let at-if1 = at-tries-step .before in
+    rw (eq-eqb _ _ (at-if1 .if1 .taken), ← at-tries-step .tries-step .ensures, at-if2 .if2 .taken)
 
 returns-2 : tie.Need-returns-2
 unfolding nextSweep choose

@@ -19,11 +19,18 @@ blocked-horizontally-requires-2 c κs = search needs
 
 returns-2 : tie.Need-returns-2
 unfolding choose
-returns-2 c = rw (c .before .before .before .before .if1 .taken, c .before .before .before .if2 .left, ← c .before .before .stopped-falling .ensures, c .before .if3 .taken, ← c .blocked-horizontally2 .ensures)
+returns-2 c =
+    let at-stopped-falling = c .before .before in
+    let at-if2 = at-stopped-falling .before in
+    let at-if1 = at-if2 .before in
+    rw (at-if1 .if1 .taken, at-if2 .if2 .left, ← at-stopped-falling .stopped-falling .ensures, c .before .if3 .taken, ← c .blocked-horizontally2 .ensures)
 
 returns-3 : tie.Need-returns-3
 unfolding choose
-returns-3 c = rw (c .before .before .before .if1 .taken, c .before .before .if2 .left, ← c .before .stopped-falling .ensures, c .if3 .left)
+returns-3 c =
+    let at-if2 = c .before .before in
+    let at-if1 = at-if2 .before in
+    rw (at-if1 .if1 .taken, at-if2 .if2 .left, ← c .before .stopped-falling .ensures, c .if3 .left)
 
 returns-4 : tie.Need-returns-4
 unfolding choose

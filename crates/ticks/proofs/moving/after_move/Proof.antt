@@ -22,7 +22,10 @@ returns c = rw (← c .before .before .before .support-after .ensures, c .before
 
 returns-2 : tie.Need-returns-2
 unfolding afterMove
-returns-2 c = rw (← c .before .before .before .before .support-after .ensures, c .before .before .told2 .given .1, ← c .tick-after .ensures)
+returns-2 c =
+    let at-told2 = c .before .before in
+    let at-support-after = at-told2 .before .before in
+    rw (← at-support-after .support-after .ensures, at-told2 .told2 .given .1, ← c .tick-after .ensures)
 
 pub after-move-spec : {M : Type 1} → statement M
 after-move-spec =

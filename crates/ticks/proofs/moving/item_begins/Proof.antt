@@ -15,7 +15,10 @@ enum-known-n c = search needs
 
 returns : tie.Need-returns
 unfolding itemBegins
-returns c = rw (← c .before .before .before .before .cell-holding .ensures, ← c .before .before .before .liquid-at .ensures, c .before .n .given .1)
+returns c =
+    let at-liquid-at = c .before .before .before in
+    let at-cell-holding = at-liquid-at .before in
+    rw (← at-cell-holding .cell-holding .ensures, ← at-liquid-at .liquid-at .ensures, c .before .n .given .1)
 
 enum-known-s : tie.Need-enum-known-s
 enum-known-s c = search needs
@@ -28,7 +31,12 @@ enum-known-n-2 c = search needs
 
 returns-2 : tie.Need-returns-2
 unfolding itemBegins
-returns-2 c = rw (← c .before .before .before .before .before .before .before .before .cell-holding .ensures, ← c .before .before .before .before .before .before .before .liquid-at .ensures, c .before .before .before .before .before .s .given .1, ← c .before .before .before .item-current .ensures, c .before .n2 .given .1)
+returns-2 c =
+    let at-item-current = c .before .before .before in
+    let at-s = at-item-current .before .before in
+    let at-liquid-at = at-s .before .before in
+    let at-cell-holding = at-liquid-at .before in
+    rw (← at-cell-holding .cell-holding .ensures, ← at-liquid-at .liquid-at .ensures, at-s .s .given .1, ← at-item-current .item-current .ensures, c .before .n2 .given .1)
 
 enum-known-c : tie.Need-enum-known-c
 enum-known-c c = search needs
@@ -41,7 +49,14 @@ enum-known-n-3 c = search needs
 
 returns-3 : tie.Need-returns-3
 unfolding itemBegins
-returns-3 c = rw (← c .before .before .before .before .before .before .before .before .before .before .before .before .cell-holding .ensures, ← c .before .before .before .before .before .before .before .before .before .before .before .liquid-at .ensures, c .before .before .before .before .before .before .before .before .before .s .given .1, ← c .before .before .before .before .before .before .before .item-current .ensures, c .before .before .before .before .before .c .given .1, ← c .before .before .before .item-flotation .ensures, c .before .n3 .given .1)
+returns-3 c =
+    let at-item-flotation = c .before .before .before in
+    let at-c = at-item-flotation .before .before in
+    let at-item-current = at-c .before .before in
+    let at-s = at-item-current .before .before in
+    let at-liquid-at = at-s .before .before in
+    let at-cell-holding = at-liquid-at .before in
+    rw (← at-cell-holding .cell-holding .ensures, ← at-liquid-at .liquid-at .ensures, at-s .s .given .1, ← at-item-current .item-current .ensures, at-c .c .given .1, ← at-item-flotation .item-flotation .ensures, c .before .n3 .given .1)
 
 enum-known-kind : tie.Need-enum-known-kind
 enum-known-kind c = search needs
@@ -57,7 +72,16 @@ rests-now-requires c κs = search needs
 
 returns-4 : tie.Need-returns-4
 unfolding itemBegins
-returns-4 c = rw (← c .before .before .before .before .before .before .before .before .before .before .before .before .before .before .before .before .before .cell-holding .ensures, ← c .before .before .before .before .before .before .before .before .before .before .before .before .before .before .before .before .liquid-at .ensures, c .before .before .before .before .before .before .before .before .before .before .before .before .before .before .s .given .1, ← c .before .before .before .before .before .before .before .before .before .before .before .before .item-current .ensures, c .before .before .before .before .before .before .before .before .before .before .c .given .1, ← c .before .before .before .before .before .before .before .before .item-flotation .ensures, c .before .before .before .before .before .before .kind .given .1, ← c .before .before .add .ensures, ← c .before .floated .ensures, ← c .rests-now .ensures)
+returns-4 c =
+    let at-add = c .before .before in
+    let at-kind = at-add .before .before .before .before in
+    let at-item-flotation = at-kind .before .before in
+    let at-c = at-item-flotation .before .before in
+    let at-item-current = at-c .before .before in
+    let at-s = at-item-current .before .before in
+    let at-liquid-at = at-s .before .before in
+    let at-cell-holding = at-liquid-at .before in
+    rw (← at-cell-holding .cell-holding .ensures, ← at-liquid-at .liquid-at .ensures, at-s .s .given .1, ← at-item-current .item-current .ensures, at-c .c .given .1, ← at-item-flotation .item-flotation .ensures, at-kind .kind .given .1, ← at-add .add .ensures, ← c .before .floated .ensures, ← c .rests-now .ensures)
 
 pub item-begins-spec : {M : Type 1} → statement M
 item-begins-spec =

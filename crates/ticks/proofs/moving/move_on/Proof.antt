@@ -27,11 +27,19 @@ after-move-requires c κs = search needs
 
 returns : tie.Need-returns
 unfolding moveOn
-returns c = rw (← c .before .before .before .before .pulled .ensures, ← c .before .before .before .move-through .ensures, c .before .told .given .1)
+returns c =
+    let at-move-through = c .before .before .before in
+    let at-pulled = at-move-through .before in
+    rw (← at-pulled .pulled .ensures, ← at-move-through .move-through .ensures, c .before .told .given .1)
 
 returns-2 : tie.Need-returns-2
 unfolding moveOn
-returns-2 c = rw (← c .before .before .before .before .before .before .before .pulled .ensures, ← c .before .before .before .before .before .before .move-through .ensures, c .before .before .before .before .told2 .given .1, ← c .before .before .kept-after .ensures, ← c .before .feet .ensures, ← c .after-move .ensures)
+returns-2 c =
+    let at-kept-after = c .before .before in
+    let at-told2 = at-kept-after .before .before in
+    let at-move-through = at-told2 .before .before in
+    let at-pulled = at-move-through .before in
+    rw (← at-pulled .pulled .ensures, ← at-move-through .move-through .ensures, at-told2 .told2 .given .1, ← at-kept-after .kept-after .ensures, ← c .before .feet .ensures, ← c .after-move .ensures)
 
 pub move-on-spec : {M : Type 1} → statement M
 move-on-spec =

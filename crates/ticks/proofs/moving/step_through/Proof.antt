@@ -16,7 +16,10 @@ enum-known-n c = search needs
 
 returns : tie.Need-returns
 unfolding stepBodySensed choose
-returns c = rw (← c .before .before .before .before .from-feet .ensures, ← c .before .before .before .tick-begins .ensures, c .before .n .given .1)
+returns c =
+    let at-tick-begins = c .before .before .before in
+    let at-from-feet = at-tick-begins .before in
+    rw (← at-from-feet .from-feet .ensures, ← at-tick-begins .tick-begins .ensures, c .before .n .given .1)
 
 enum-known-b : tie.Need-enum-known-b
 enum-known-b c = search needs
@@ -26,7 +29,12 @@ tick-to-requires c κs = search needs
 
 returns-2 : tie.Need-returns-2
 unfolding stepBodySensed choose
-returns-2 c = rw (← c .before .before .before .before .before .before .before .from-feet .ensures, ← c .before .before .before .before .before .before .tick-begins .ensures, c .before .before .before .before .b .given .1, c .before .before .if1 .taken, ← c .tick-to .ensures)
+returns-2 c =
+    let at-if1 = c .before .before in
+    let at-b = at-if1 .before .before in
+    let at-tick-begins = at-b .before .before in
+    let at-from-feet = at-tick-begins .before in
+    rw (← at-from-feet .from-feet .ensures, ← at-tick-begins .tick-begins .ensures, at-b .b .given .1, at-if1 .if1 .taken, ← c .tick-to .ensures)
 
 senses-requires : tie.Need-senses-requires
 senses-requires c κs = search needs
@@ -36,7 +44,13 @@ enum-known-n-2 c = search needs
 
 returns-3 : tie.Need-returns-3
 unfolding stepBodySensed choose
-returns-3 c = rw (← c .before .before .before .before .before .before .before .before .before .from-feet .ensures, ← c .before .before .before .before .before .before .before .before .tick-begins .ensures, c .before .before .before .before .before .before .b .given .1, c .before .before .before .before .if1 .left, ← c .before .before .before .senses .ensures, c .before .n2 .given .1)
+returns-3 c =
+    let at-senses = c .before .before .before in
+    let at-if1 = at-senses .before in
+    let at-b = at-if1 .before .before in
+    let at-tick-begins = at-b .before .before in
+    let at-from-feet = at-tick-begins .before in
+    rw (← at-from-feet .from-feet .ensures, ← at-tick-begins .tick-begins .ensures, at-b .b .given .1, at-if1 .if1 .left, ← at-senses .senses .ensures, c .before .n2 .given .1)
 
 enum-known-kind : tie.Need-enum-known-kind
 enum-known-kind c = search needs
@@ -46,7 +60,14 @@ move-on-requires c κs = search needs
 
 returns-4 : tie.Need-returns-4
 unfolding stepBodySensed choose
-returns-4 c = rw (← c .before .before .before .before .before .before .before .before .before .before .before .from-feet .ensures, ← c .before .before .before .before .before .before .before .before .before .before .tick-begins .ensures, c .before .before .before .before .before .before .before .before .b .given .1, c .before .before .before .before .before .before .if1 .left, ← c .before .before .before .before .before .senses .ensures, c .before .before .before .kind .given .1, ← c .move-on .ensures)
+returns-4 c =
+    let at-kind = c .before .before .before in
+    let at-senses = at-kind .before .before in
+    let at-if1 = at-senses .before in
+    let at-b = at-if1 .before .before in
+    let at-tick-begins = at-b .before .before in
+    let at-from-feet = at-tick-begins .before in
+    rw (← at-from-feet .from-feet .ensures, ← at-tick-begins .tick-begins .ensures, at-b .b .given .1, at-if1 .if1 .left, ← at-senses .senses .ensures, at-kind .kind .given .1, ← c .move-on .ensures)
 
 pub step-through-spec : {M : Type 1} → statement M
 step-through-spec =
