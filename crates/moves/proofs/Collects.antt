@@ -27,9 +27,9 @@ use Rattle.window.specs.declared.Window.{Window}
 use Rattle.window.specs.Look.{Block, lookAt}
 use Rattle.ranges.specs.declared.Range.{Range}
 use Rattle.ranges.specs.declared.At.{At}
-use Rattle.ranges.specs.Ranges.{placeAt, placeOf, startOf, nextOf}
+use Rattle.ranges.specs.Ranges.{placeAt, placeOf, startOf, nextOf, trimmed}
 use Rattle.ranges.specs.Walk.{line, layer, walk}
-use Rattle.ranges.proofs.Walks.{rest, rest-start, rest-turn, rest-end, Within, start-within, next-within, left, next-less}
+use Rattle.ranges.proofs.Walks.{walk-trimmed, rest, rest-start, rest-turn, rest-end, Within, start-within, next-within, left, next-less}
 use Rattle.moves.specs.Collect.{cellShape, offer, offerAll, visit, push, rangeOf, collectUpTo}
 use Rattle.tables.specs.Tables.{boxesAt}
 use Rattle.solids.specs.declared.Shape.{Shape}
@@ -220,15 +220,15 @@ pub empty-list : (l : BoxList) → l ≡ emptyList → Room room (l .boxes) (l .
 unfolding emptyList
 empty-list l e = rw e (record { whole = length-replicate 128 noBox; counts = omega arith }, refl)
 
--- ---- the answers, for r the range of the area
-module _ (cap : ℕ) (look : Pos → Ask Block) (records : List ℕ) (shapes : List Float) (area : Aabb) (r : Range) (e : r ≡ rangeOf area) where
+-- ---- the answers, for r the range of the area as `range_of` answers it
+module _ (cap : ℕ) (look : Pos → Ask Block) (records : List ℕ) (shapes : List Float) (area : Aabb) (r : Range) (e : r ≡ trimmed (rangeOf area)) where
   pub was-collected : (bs : List Aabb) → found (next bs) ≡ all (push cap) look records shapes area r [] → collectUpTo cap look records shapes area ≡ found bs
   unfolding collectUpTo
-  was-collected bs h = rw (← e, ← h)
+  was-collected bs h = rw (← walk-trimmed (visiting (push cap) look records shapes area) (rangeOf area) [], ← e, ← h)
 
   pub was-refused : (k : ℕ) → refused k ≡ all (push cap) look records shapes area r [] → collectUpTo cap look records shapes area ≡ refused k
   unfolding collectUpTo
-  was-refused k h = rw (← e, ← h)
+  was-refused k h = rw (← walk-trimmed (visiting (push cap) look records shapes area) (rangeOf area) [], ← e, ← h)
 
   pub collected : (most : ℕ) (bs : List Aabb) (i : ℕ) → Room most bs i → found (next (take i bs)) ≡ all (push cap) look records shapes area r [] → record { refusal = 0; count = i; boxes = take i bs } ≡ heldAsked (collectUpTo cap look records shapes area)
   collected most bs i has h = rw (was-collected (take i bs) h, counted most bs i has)
@@ -241,10 +241,10 @@ module _ (cells : List ℕ) (w : Window) (records : List ℕ) (shapes : List Flo
   abbrev whole-move : Ask MoveResult
   whole-move = moveAabb (lookAt cells w) records shapes (q .aabb) (q .delta) (q .step) (q .ground)
 
-  pub moved : (r : Range) → r ≡ rangeOf area → (bs : List Aabb) → found (next bs) ≡ all (push room) (lookAt cells w) records shapes area r [] → (s : Sweep) → s ≡ sweepOf bs q → (m : MoveResult) → m ≡ endOfMove q s → found m ≡ whole-move
+  pub moved : (r : Range) → r ≡ trimmed (rangeOf area) → (bs : List Aabb) → found (next bs) ≡ all (push room) (lookAt cells w) records shapes area r [] → (s : Sweep) → s ≡ sweepOf bs q → (m : MoveResult) → m ≡ endOfMove q s → found m ≡ whole-move
   unfolding moveAabb
   moved r er bs h s es m em = rw (← e, was-collected room (lookAt cells w) records shapes area r er bs h, em, moves bs q s es)
 
-  pub not-moved : (r : Range) → r ≡ rangeOf area → (k : ℕ) → refused k ≡ all (push room) (lookAt cells w) records shapes area r [] → refused k ≡ whole-move
+  pub not-moved : (r : Range) → r ≡ trimmed (rangeOf area) → (k : ℕ) → refused k ≡ all (push room) (lookAt cells w) records shapes area r [] → refused k ≡ whole-move
   unfolding moveAabb
   not-moved r er k h = rw (← e, was-refused room (lookAt cells w) records shapes area r er k h)

@@ -17,6 +17,7 @@ ghost use mathlib.Core.Path.{_≡_};
 ghost use Prim.Native.Nat.{_≤_};
 ghost use Rattle.sweeps.specs.Lists.{room, heldIn};
 ghost use Rattle.tables.specs.Tables.{boxesAt};
+ghost use Rattle.ranges.specs.Ranges.{trimmed};
 ghost use Rattle.solids.specs.Parts.{countOf, nthAabb};
 ghost use Rattle.window.specs.Look.{lookAt};
 ghost use Rattle.moves.specs.Collect.{rangeOf, collectUpTo, collectBlockBoxes, collidesWithBlocks};
@@ -42,13 +43,14 @@ pub struct HitAnswer {
     pub hit: bool,
 }
 
+// The cells that the area reaches.
 fn range_of(area: Aabb) -> Range
-    ensures { λ r. ⌜ r ≡ rangeOf area ⌝ }
+    ensures { λ r. ⌜ r ≡ trimmed (rangeOf area) ⌝ }
 {
     let x = ranges::cells_between(area.min.x, area.max.x);
     let y = ranges::layers_between(area.min.y, area.max.y);
     let z = ranges::cells_between(area.min.z, area.max.z);
-    Range { x, y, z }
+    ranges::trim(Range { x, y, z })
 }
 
 // How many boxes a cell has of which `part_at` answered this.
