@@ -16,7 +16,10 @@ trim-requires : tie.Need-trim-requires
 trim-requires c κs = search needs
 
 returns : tie.Need-returns
-returns c = rw (← c .before .before .before .cells-between .ensures, ← c .before .before .layers-between .ensures, ← c .before .cells-between2 .ensures, c .trim .ensures)
+returns c =
+    let at-layers-between = c .before .before in
+    let at-cells-between = at-layers-between .before in
+    rw (← at-cells-between .cells-between .ensures, ← at-layers-between .layers-between .ensures, ← c .before .cells-between2 .ensures, c .trim .ensures)
 
 pub range-of-spec : {M : Type 1} → statement M
 range-of-spec =
