@@ -19,6 +19,7 @@ use Rattle.window.specs.Look.{lookAt}
 use Rattle.moves.specs.Collect.{collectBlockBoxes}
 use Rattle.moves.specs.Answers.{heldAsked, sweptArea}
 
+-- the area that the move sweeps: its delta, and up by the step height
 abbrev pub sweptBy : List Float → Float → Aabb
 sweptBy mover step = sweptArea (aabbAt mover 0) (vecAt mover 6) step
 

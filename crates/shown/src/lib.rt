@@ -23,6 +23,7 @@ fn swept_by(mover: &[f64], step: f64) -> Aabb
     aabb.expand_towards(delta).expand_towards(Vec3::new(0.0, step, 0.0))
 }
 
+// What the move collects, or its refusal: 1 to 4 and 11 before any cell is asked for.
 fn collected(records: &[u32], shapes: &[f32], cells: &[u32], w: Window, mover: &[f64], step: f64, places: usize) -> Collected
     ensures { λ r. ⌜ heldIn r ≡ collectedAt (now (records .entry)) (now (shapes .entry)) (now (cells .entry)) w (now (mover .entry)) step places ⌝ }
 {
