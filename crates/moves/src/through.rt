@@ -19,7 +19,8 @@ fn swept_area(q: Request) -> Aabb
     q.aabb.expand_towards(q.delta).expand_towards(Vec3::new(0.0, q.step, 0.0))
 }
 
-// Collection and passes stand in one function, so that the list is read where it was built: handed on by value, it would be copied.
+// Collection and passes stand in one function, so that the list is read where it was built: handed on by value, it would be copied. Three loops
+// go through the cells, and not one as in `collect_up_to`, so that what the cells of a line share is worked out once for the line.
 fn swept_through(records: &[u32], shapes: &[f32], cells: &[u32], w: Window, q: Request) -> AskedMove
     ensures { λ r. ⌜ movedAsked r ≡ moveAabb (lookAt (now (cells .entry)) w) (now (records .entry)) (now (shapes .entry)) (q .aabb) (q .delta) (q .step) (q .ground) ⌝ }
 {
