@@ -1,14 +1,15 @@
-//! Collection of block boxes: ours (the native static library of crates/timed) against the original Rust, whose text bench/original takes out
-//! of its files when the bench is built. Both look into the same window over the same tables, which were checked before; every answer is
-//! compared bit for bit first. What is handed back is the top of one box of the list, so that neither side can leave the list out.
+//! Collection of block boxes, by the move that collects them: ours (`moves::move_through`, which a step calls, in the native static library of
+//! crates/timed) against the original Rust's `move_aabb`, whose text bench/original takes out of its files when the bench is built. Both look
+//! into the same window over the same tables, which were checked before; every answer is compared bit for bit first. No step is tried, so that a
+//! move is its collection and three passes. What is handed back is the way along one axis. Passes of ours and of the Rust alternate.
 use std::hint::black_box;
 use std::time::Instant;
 
 unsafe extern "C" {
-    fn boltjuniper_collected_top(
+    fn boltjuniper_way(
         records: *const u32, records_len: usize, shapes: *const f32, shapes_len: usize, cells: *const u32, cells_len: usize,
         ox: i32, oy: i32, oz: i32, sx: u32, sy: u32, sz: u32,
-        x0: f64, y0: f64, z0: f64, x1: f64, y1: f64, z1: f64, k: u32,
+        x0: f64, y0: f64, z0: f64, x1: f64, y1: f64, z1: f64, dx: f64, dy: f64, dz: f64, step: f64, ground: u32, k: u32,
     ) -> f64;
 }
 
@@ -127,51 +128,64 @@ mod original {
 
     include!("../target/bench/collection.rs");
 }
-use original::{collect_block_boxes, plain_registry, Aabb, BlockRegistry, DVec3, IVec3, Window, SHAPES};
+use original::{collect_block_boxes, move_aabb, plain_registry, Aabb, BlockRegistry, DVec3, IVec3, Window, SHAPES};
 
 const SIZE: i32 = 8;
 
 struct Scene {
     cells: Vec<u32>,
-    area: [f64; 6],
+    mover: [f64; 6],
+    delta: [f64; 3],
+}
+impl Scene {
+    fn window<'a>(&'a self, registry: &'a BlockRegistry) -> Window<'a> {
+        Window { registry, cells: &self.cells, origin: IVec3::new(-4, -4, -4), sizes: IVec3::new(SIZE, SIZE, SIZE) }
+    }
+    fn aabb(&self) -> Aabb {
+        let a = self.mover;
+        Aabb::new(DVec3::new(a[0], a[1], a[2]), DVec3::new(a[3], a[4], a[5]))
+    }
+    fn delta(&self) -> DVec3 {
+        DVec3::new(self.delta[0], self.delta[1], self.delta[2])
+    }
 }
 
 #[inline(never)]
 fn ours(records: &[u32], shapes: &[f32], s: &Scene, k: u32) -> f64 {
-    let a = s.area;
+    let (a, d) = (s.mover, s.delta);
     unsafe {
-        boltjuniper_collected_top(
+        boltjuniper_way(
             records.as_ptr(), records.len(), shapes.as_ptr(), shapes.len(), s.cells.as_ptr(), s.cells.len(),
-            -4, -4, -4, SIZE as u32, SIZE as u32, SIZE as u32, a[0], a[1], a[2], a[3], a[4], a[5], k,
+            -4, -4, -4, SIZE as u32, SIZE as u32, SIZE as u32, a[0], a[1], a[2], a[3], a[4], a[5], d[0], d[1], d[2], 0.0, 0, k,
         )
     }
 }
 
 #[inline(never)]
 fn rusts(registry: &BlockRegistry, s: &Scene, k: u32) -> f64 {
-    let a = s.area;
-    let w = Window { registry, cells: &s.cells, origin: IVec3::new(-4, -4, -4), sizes: IVec3::new(SIZE, SIZE, SIZE) };
-    let mut out = Vec::new();
-    collect_block_boxes(&w, Aabb::new(DVec3::new(a[0], a[1], a[2]), DVec3::new(a[3], a[4], a[5])), &mut out);
-    out.get(k as usize).map_or(0.0, |b| b.max.y)
+    let way = move_aabb(&s.window(registry), s.aabb(), s.delta(), 0.0, false).moved;
+    [way.x, way.y, way.z][k as usize]
 }
 
 fn count(registry: &BlockRegistry, s: &Scene) -> usize {
-    let a = s.area;
-    let w = Window { registry, cells: &s.cells, origin: IVec3::new(-4, -4, -4), sizes: IVec3::new(SIZE, SIZE, SIZE) };
     let mut out = Vec::new();
-    collect_block_boxes(&w, Aabb::new(DVec3::new(a[0], a[1], a[2]), DVec3::new(a[3], a[4], a[5])), &mut out);
+    collect_block_boxes(&s.window(registry), s.aabb().expand_towards(s.delta()), &mut out);
     out.len()
 }
 
-fn time(n: usize, mut f: impl FnMut(usize) -> f64) -> f64 {
-    let mut best = f64::MAX;
-    for _ in 0..400 {
+/// The least of many passes over the scenes, ours and the Rust's by turns.
+fn time(n: usize, mut ours: impl FnMut(usize) -> f64, mut rusts: impl FnMut(usize) -> f64) -> (f64, f64) {
+    let mut best = (f64::MAX, f64::MAX);
+    let pass = |f: &mut dyn FnMut(usize) -> f64, best: &mut f64| {
         let begun = Instant::now();
         for i in 0..n {
             black_box(f(black_box(i)));
         }
-        best = best.min(begun.elapsed().as_nanos() as f64 / n as f64);
+        *best = best.min(begun.elapsed().as_nanos() as f64 / n as f64);
+    };
+    for _ in 0..400 {
+        pass(&mut ours, &mut best.0);
+        pass(&mut rusts, &mut best.1);
     }
     best
 }
@@ -203,9 +217,9 @@ fn main() {
         seed ^= seed << 17;
         seed
     };
-    // An area of 3 by 3 columns and, with the layer below, 4 layers: 36 cells. The lower layers are filled, so that some 15 boxes overlap; and
+    // A move that sweeps 3 by 3 columns and, with the layer below, 4 layers: 36 cells. The lower layers are filled, so that some 15 boxes overlap; and
     // the same with more filled.
-    for (what, filled) in [("36 cells, about 15 boxes", 12), ("36 cells, about 27 boxes", 27)] {
+    for (what, filled) in [("36 cells, about 15 boxes", 12), ("36 cells, about 33 boxes", 27)] {
         let scenes: Vec<Scene> = (0..200)
             .map(|_| {
                 let mut cells = vec![0u32; (SIZE * SIZE * SIZE) as usize];
@@ -214,19 +228,18 @@ fn main() {
                     let (i, j, k) = (n % 3, n / 9, n / 3 % 3);
                     cells[(((j + 4) * SIZE + (k + 3)) * SIZE + (i + 3)) as usize] = 1 + (next() % 3) as u32;
                 }
-                Scene { cells, area: [x, 0.05, z, x + 2.5, 2.4, z + 2.5] }
+                Scene { cells, mover: [x, 1.2, z, x + 2.0, 2.4, z + 2.0], delta: [0.5, -1.15, 0.5] }
             })
             .collect();
         let mut boxes = 0;
         for s in &scenes {
             boxes += count(&registry, s);
-            for k in 0..40 {
+            for k in 0..3 {
                 assert_eq!(ours(&records, &shapes, s, k).to_bits(), rusts(&registry, s, k).to_bits());
             }
         }
         let n = scenes.len();
-        let a = time(n, |i| ours(&records, &shapes, &scenes[i], 5));
-        let b = time(n, |i| rusts(&registry, &scenes[i], 5));
+        let (a, b) = time(n, |i| ours(&records, &shapes, &scenes[i], 0), |i| rusts(&registry, &scenes[i], 0));
         println!("{what} ({:.1}): ours {a:7.1} ns   Rust {b:7.1} ns   ratio {:.2}", boxes as f64 / n as f64, a / b);
     }
 }

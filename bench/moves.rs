@@ -1,7 +1,7 @@
 //! One move over a list of boxes: ours (the native static library of crates/exports) against the original Rust, whose text bench/original takes
 //! out of its files when the bench is built. The same inputs, in one run; every answer is compared bit for bit first.
 //!
-//! Ours is handed six numbers to a box and fills its capped list from them. The Rust is called in two ways: with its list as it stands in memory
+//! Ours is handed six numbers to a box and reads them where they lie. The Rust is called in two ways: with its list as it stands in memory
 //! (`given`), and filling its `Vec` from the same numbers, box by box, as `move_aabb` has its boxes collected (`filled`).
 use std::hint::black_box;
 use std::time::Instant;

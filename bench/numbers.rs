@@ -1,10 +1,11 @@
-//! Floor, the cell of a coordinate and the square root: ours (the native static library of crates/exports) against Rust's own f64 methods,
+//! Floor, ceiling, the cell of a coordinate and the square root: ours (the native static library of crates/exports) against Rust's own f64 methods,
 //! on the same inputs, in one run. Both sides are called through a function that is not inlined.
 use std::hint::black_box;
 use std::time::Instant;
 
 unsafe extern "C" {
     fn boltjuniper_floor(x: f64) -> f64;
+    fn boltjuniper_ceil(x: f64) -> f64;
     fn boltjuniper_cell(x: f64) -> i32;
     fn boltjuniper_root(x: f64) -> f64;
 }
@@ -12,6 +13,10 @@ unsafe extern "C" {
 #[inline(never)]
 extern "C" fn rust_floor(x: f64) -> f64 {
     x.floor()
+}
+#[inline(never)]
+extern "C" fn rust_ceil(x: f64) -> f64 {
+    x.ceil()
 }
 #[inline(never)]
 extern "C" fn rust_cell(x: f64) -> i32 {
@@ -35,21 +40,31 @@ impl Random {
     }
 }
 
-/// Nanoseconds for one call: the least of 200 passes over the inputs, since other work on the machine can only add to a pass.
-fn time<R>(inputs: &[f64], f: impl Fn(f64) -> R) -> f64 {
-    let mut best = f64::MAX;
-    for _ in 0..200 {
-        let begun = Instant::now();
-        for &x in inputs {
-            black_box(f(black_box(x)));
-        }
-        best = best.min(begun.elapsed().as_nanos() as f64 / inputs.len() as f64);
+/// Nanoseconds for one call over all inputs, in one pass.
+fn pass<R>(inputs: &[f64], f: impl Fn(f64) -> R) -> f64 {
+    let begun = Instant::now();
+    for &x in inputs {
+        black_box(f(black_box(x)));
     }
-    best
+    begun.elapsed().as_nanos() as f64 / inputs.len() as f64
 }
 
-fn line(what: &str, ours: f64, rusts: f64) {
-    println!("{what:<34} ours {ours:6.2} ns   Rust {rusts:6.2} ns   ratio {:5.2}", ours / rusts);
+/// The least of 200 passes of ours and of Rust's, one after the other in turn: other work on the machine can only add to a pass, and what lasts
+/// longer than a pass adds to both.
+fn line<R, S>(what: &str, inputs: &[f64], ours: impl Fn(f64) -> R, rusts: impl Fn(f64) -> S) {
+    let (mut a, mut b) = (f64::MAX, f64::MAX);
+    for _ in 0..200 {
+        a = a.min(pass(inputs, &ours));
+        b = b.min(pass(inputs, &rusts));
+    }
+    println!("{what:<34} ours {a:6.2} ns   Rust {b:6.2} ns   ratio {:5.2}", a / b);
+}
+
+/// The processor's name, as Linux has it.
+fn machine() -> String {
+    let text = std::fs::read_to_string("/proc/cpuinfo").unwrap_or_default();
+    let name = text.lines().find_map(|l| l.strip_prefix("model name")?.split_once(": "));
+    name.map_or(String::from("a machine that tells no name"), |(_, n)| n.to_string())
 }
 
 fn main() {
@@ -64,6 +79,8 @@ fn main() {
         unsafe {
             assert_eq!(boltjuniper_floor(x).to_bits(), x.floor().to_bits(), "floor {x:e}");
             assert_eq!(boltjuniper_floor(-x).to_bits(), (-x).floor().to_bits(), "floor -{x:e}");
+            assert_eq!(boltjuniper_ceil(x).to_bits(), x.ceil().to_bits(), "ceil {x:e}");
+            assert_eq!(boltjuniper_ceil(-x).to_bits(), (-x).ceil().to_bits(), "ceil -{x:e}");
             if x.abs() < 67_108_864.0 {
                 assert_eq!(boltjuniper_cell(x), x.floor() as i32, "cell {x:e}");
                 assert_eq!(boltjuniper_cell(-x), (-x).floor() as i32, "cell -{x:e}");
@@ -75,8 +92,10 @@ fn main() {
         compared += 1;
     }
     println!("{compared} inputs: every answer has Rust's bits");
-    line("floor, coordinates", time(&coordinates, |x| unsafe { boltjuniper_floor(x) }), time(&coordinates, |x| rust_floor(x)));
-    line("cell of a coordinate", time(&coordinates, |x| unsafe { boltjuniper_cell(x) }), time(&coordinates, |x| rust_cell(x)));
-    line("root, 0 to 128", time(&squares, |x| unsafe { boltjuniper_root(x) }), time(&squares, |x| rust_root(x)));
-    line("root, any f64 above zero", time(&any, |x| unsafe { boltjuniper_root(x) }), time(&any, |x| rust_root(x)));
+    println!("machine: {}", machine());
+    line("floor, coordinates", &coordinates, |x| unsafe { boltjuniper_floor(x) }, |x| rust_floor(x));
+    line("ceil, coordinates", &coordinates, |x| unsafe { boltjuniper_ceil(x) }, |x| rust_ceil(x));
+    line("cell of a coordinate", &coordinates, |x| unsafe { boltjuniper_cell(x) }, |x| rust_cell(x));
+    line("root, 0 to 128", &squares, |x| unsafe { boltjuniper_root(x) }, |x| rust_root(x));
+    line("root, any f64 above zero", &any, |x| unsafe { boltjuniper_root(x) }, |x| rust_root(x));
 }

@@ -1,9 +1,11 @@
-/* Boltjuniper for hosts in C: the functions of crates/exports that a host calls. Link target/staticlib/libexports.a (`rt staticlib exports`)
-   and libm.
+/* Boltjuniper for hosts in C: the functions of crates/exports that a host calls, and that of crates/shown. Link
+   target/staticlib/libexports.a (`rt staticlib exports`) and libm; for boltjuniper_collected also target/staticlib/libshown.a (`rt staticlib
+   shown`).
 
    A slice is a pointer and its number of elements, aligned as its type asks. Nothing beyond that number is read or written, what is handed
    in is only read, and `out` must not overlap it. Every call ends, and every input gets an answer: 0, or the number of a refusal
-   (docs/REFUSALS.md). A refusal writes nothing. */
+   (docs/REFUSALS.md). A refusal writes nothing. A slice of another length than said here is refused as what it holds would be, and an `out`
+   with less room than is written to it is 11: after 1 to 4, and before any cell is asked for. An `out` may be longer; the rest of it stays. */
 #ifndef BOLTJUNIPER_H
 #define BOLTJUNIPER_H
 
@@ -33,13 +35,14 @@ extern "C" {
       3   ground friction: 0 none, 1 of the block
       4   flap present, 0 or 1
       5   air state
-   A number or a word that is not there is 0. */
+   Other than 19 numbers or 6 words are refused with 3. */
 
 /* Takes tables; writes nothing. Returns 0 where they keep every rule, and else 1. */
 uint32_t boltjuniper_check_tables(const uint32_t *records, size_t records_len, const float *shapes, size_t shapes_len);
 
 /* One tick of a body: takes tables, a window, a body and its age in ticks. Writes eight numbers to `out`: feet x y z, velocity x y z, ground
-   (0 or 1), and the liquid that it is in (0 none, 1 water, 2 lava). Returns 0; or 1, 2, 3, 4, then 5, 6 or 7 at the first such event, then 9. */
+   (0 or 1), and the liquid that it is in (0 none, 1 water, 2 lava). Returns 0; or 1, 2, 3, 4, 11, then 5, 6 or 7 at the first such event, then
+   9. */
 uint32_t boltjuniper_step(const uint32_t *records, size_t records_len, const float *shapes, size_t shapes_len, const uint32_t *cells,
                           size_t cells_len, int32_t ox, int32_t oy, int32_t oz, uint32_t sx, uint32_t sy, uint32_t sz, const double *numbers,
                           size_t numbers_len, const uint32_t *words, size_t words_len, uint64_t age, double *out, size_t out_len);
@@ -50,19 +53,32 @@ uint32_t boltjuniper_step_checked(const uint32_t *records, size_t records_len, c
                                   const double *numbers, size_t numbers_len, const uint32_t *words, size_t words_len, uint64_t age, double *out,
                                   size_t out_len);
 
+/* One tick of the scene in `file` (blocks of 512 bytes, as onetick reads them; no alignment is asked for). Writes the same eight numbers to `out`.
+   Returns 0; or 8 where the file is no scene, 1, 2, 3, 4, 11, then 5, 6 or 7 at the first such event, then 9. It keeps three arrays of 15,744
+   words of the file on the stack, some 190 KB: call it from a thread that has them. */
+uint32_t boltjuniper_tick(const uint8_t *file, size_t file_len, double *out, size_t out_len);
+
 /* The move of a box through a window: takes tables, a window, `mover` (the box x0 y0 z0 x1 y1 z1, then its delta x y z: nine numbers), the
-   step height, and whether the body was on the ground (not 0). Writes ten numbers to `out`: the box after the move, the way that it went
-   x y z, and 1 where it came to stand on the ground, else 0. Returns 0; or 1, 2, 3 (the step height), 4 (the box or the delta), then 5 or 6
-   at the first such event. */
+   step height, and whether the body was on the ground (0 or 1). Writes ten numbers to `out`: the box after the move, the way that it went
+   x y z, and 1 where it came to stand on the ground, else 0. Returns 0; or 1, 2, 3 (the step height, or a ground above 1), 4 (the box or the
+   delta, or other than nine numbers), 11, then 5 or 6 at the first such event. */
 uint32_t boltjuniper_move(const uint32_t *records, size_t records_len, const float *shapes, size_t shapes_len, const uint32_t *cells,
                           size_t cells_len, int32_t ox, int32_t oy, int32_t oz, uint32_t sx, uint32_t sy, uint32_t sz, const double *mover,
                           size_t mover_len, double step, uint32_t ground, double *out, size_t out_len);
 
-/* The move of a box over boxes of the host's own: takes `boxes`, six numbers to a box (numbers left over are no box), and the rest as
-   boltjuniper_move does, and writes the same ten numbers. Returns 0; or 3 (the step height), 4 (the box, the delta, or one of the first 128
-   boxes), then 6 (more than 128 boxes). */
+/* The move of a box over boxes of the host's own: takes `boxes`, six numbers to a box, and the rest as boltjuniper_move does, and writes the
+   same ten numbers. Returns 0; or 3 (the step height or the ground), 4 (the mover, any of the boxes, or numbers left over), 11, then 6 (more
+   than 128 boxes). */
 uint32_t boltjuniper_move_over_list(const double *boxes, size_t boxes_len, const double *mover, size_t mover_len, double step, uint32_t ground,
                                     double *out, size_t out_len);
+
+/* For pictures: the boxes that the move of a box through a window collects, one at a call. It takes what boltjuniper_move does, without the
+   ground, and k, which box is asked for. Writes seven numbers to `out`: how many boxes there are, at most 128, and box k, zeros where k is not
+   below that. Returns 0; or 1, 2, 3 (the step height), 4 (the box or the delta, or other than nine numbers), 11, then 5 or 6 at the first such
+   event. */
+uint32_t boltjuniper_collected(const uint32_t *records, size_t records_len, const float *shapes, size_t shapes_len, const uint32_t *cells,
+                               size_t cells_len, int32_t ox, int32_t oy, int32_t oz, uint32_t sx, uint32_t sy, uint32_t sz, const double *mover,
+                               size_t mover_len, double step, uint32_t k, double *out, size_t out_len);
 
 #ifdef __cplusplus
 }

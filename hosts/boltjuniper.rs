@@ -1,5 +1,6 @@
-//! Boltjuniper for hosts in Rust: safe wrappers around what hosts/boltjuniper.h declares. Link target/staticlib/libexports.a. An answer is
-//! what was written, or the number of the refusal (docs/REFUSALS.md).
+//! Boltjuniper for hosts in Rust: safe wrappers around what hosts/boltjuniper.h declares of crates/exports. Link target/staticlib/libexports.a.
+//! An answer is what was written, or the number of the refusal (docs/REFUSALS.md). Lengths and flags are right by their types, so neither they
+//! nor 11 are ever the reason.
 
 mod linked {
     unsafe extern "C" {
@@ -14,6 +15,7 @@ mod linked {
             oz: i32, sx: u32, sy: u32, sz: u32, numbers: *const f64, numbers_len: usize, words: *const u32, words_len: usize, age: u64,
             out: *mut f64, out_len: usize,
         ) -> u32;
+        pub fn boltjuniper_tick(file: *const u8, file_len: usize, out: *mut f64, out_len: usize) -> u32;
         pub fn boltjuniper_move(
             records: *const u32, records_len: usize, shapes: *const f32, shapes_len: usize, cells: *const u32, cells_len: usize, ox: i32, oy: i32,
             oz: i32, sx: u32, sy: u32, sz: u32, mover: *const f64, mover_len: usize, step: f64, ground: u32, out: *mut f64, out_len: usize,
@@ -89,7 +91,7 @@ impl Mover {
     }
 }
 
-fn tick(refusal: u32, out: [f64; 8]) -> Result<Tick, Refusal> {
+fn ticked(refusal: u32, out: [f64; 8]) -> Result<Tick, Refusal> {
     let [a, b, c, x, y, z, ground, liquid] = out;
     let liquid = if liquid == 0.0 { Liquid::None } else if liquid == 1.0 { Liquid::Water } else { Liquid::Lava };
     if refusal == 0 { Ok(Tick { feet: [a, b, c], velocity: [x, y, z], ground: ground != 0.0, liquid }) } else { Err(refusal) }
@@ -119,7 +121,7 @@ pub fn step(t: Tables, w: Window, b: &Body) -> Result<Tick, Refusal> {
             b.numbers.as_ptr(), b.numbers.len(), b.words.as_ptr(), b.words.len(), b.age, out.as_mut_ptr(), out.len(),
         )
     };
-    tick(refusal, out)
+    ticked(refusal, out)
 }
 
 /// The same for tables and a window that were checked before: it looks for neither 1 nor 2, and is as safe.
@@ -131,7 +133,14 @@ pub fn step_checked(t: Tables, w: Window, b: &Body) -> Result<Tick, Refusal> {
             b.numbers.as_ptr(), b.numbers.len(), b.words.as_ptr(), b.words.len(), b.age, out.as_mut_ptr(), out.len(),
         )
     };
-    tick(refusal, out)
+    ticked(refusal, out)
+}
+
+/// The tick of a scene file. It keeps some 190 KB of the file on the stack: call it from a thread that has them.
+pub fn tick(file: &[u8]) -> Result<Tick, Refusal> {
+    let mut out = [0.0; 8];
+    let refusal = unsafe { linked::boltjuniper_tick(file.as_ptr(), file.len(), out.as_mut_ptr(), out.len()) };
+    ticked(refusal, out)
 }
 
 /// The move of a box through a window.

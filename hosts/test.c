@@ -7,14 +7,15 @@
 
 enum { WORDS = 128 * 128, ROOM = 1 << 16 };
 
-static uint32_t file[WORDS], body[48], records[WORDS], boxes[WORDS], window[6], cells[WORDS];
+static uint32_t file[2 * WORDS], body[48], records[WORDS], window[6], cells[WORDS];
 static float shapes[WORDS];
 static char line[ROOM];
-static int block, blocks;
+static size_t block;
 
 struct count { const char *what; int agree, differ; };
-static struct count steps = {"step", 0, 0}, malformed = {"files that are no scenes", 0, 0}, checked = {"step_checked", 0, 0},
-                    tables = {"check_tables", 0, 0}, moves = {"move", 0, 0}, lists = {"move_over_list", 0, 0};
+static struct count ticks = {"tick", 0, 0}, steps = {"step", 0, 0}, checked = {"step_checked", 0, 0}, tables = {"check_tables", 0, 0},
+                    moves = {"move", 0, 0}, lists = {"move_over_list", 0, 0}, collects = {"collected", 0, 0},
+                    lengths = {"lengths, ground and room", 0, 0};
 
 static void add(struct count *c, const char *ours, const char *theirs) {
     if (strcmp(ours, theirs) == 0) {
@@ -30,43 +31,30 @@ static int tell(const struct count *c) {
     return c->differ != 0;
 }
 
-/* The words of the next part, `per` to a block: 0 where a block is missing or has more. */
-static int part(uint32_t kind, size_t per, size_t words, uint32_t *to) {
-    for (size_t at = 0; at < words; at += per, block++) {
-        if (block == blocks) return 0;
-        const uint32_t *w = file + 128 * block;
-        size_t used = words - at < per ? words - at : per;
-        if (w[1] != kind) return 0;
-        for (size_t k = 3 + used; k < 126; k++)
-            if (w[k]) return 0;
-        memcpy(to + at, w + 3, 4 * used);
-    }
-    return 1;
+/* The words of the next part, `per` to a block, of a file that is a scene, so that every block is there. */
+static void part(size_t per, size_t words, void *to) {
+    uint32_t *next = to;
+    for (; words > per; words -= per, next += per, block++) memcpy(next, file + 128 * block + 3, 4 * per);
+    if (words) memcpy(next, file + 128 * block++ + 3, 4 * words);
 }
 
-/* Reads a scene file (the machine is little-endian): 0 where it is malformed. */
-static int scene(const char *path) {
+static void parts(void) {
+    block = 0;
+    part(48, 48, body);
+    part(120, 20 * (size_t)body[46], records);
+    part(120, 6 * (size_t)body[47], shapes);
+    part(6, 6, window);
+    part(123, (size_t)window[3] * window[4] * window[5], cells);
+}
+
+/* Reads a file whole (the machine is little-endian). */
+static size_t read_file(const char *path) {
     FILE *f = fopen(path, "rb");
     if (!f) exit(2);
     size_t n = fread(file, 1, sizeof file, f);
-    int more = fgetc(f) != EOF;
+    if (n == sizeof file) exit(2);
     fclose(f);
-    if (more || n == 0 || n % 512) return 0;
-    block = 0, blocks = (int)(n / 512);
-    for (int b = 0; b < blocks; b++) {
-        const uint32_t *w = file + 128 * b;
-        uint32_t sum = 0;
-        for (int k = 0; k < 127; k++) sum += w[k];
-        if (memcmp(w, "SCN1", 4) || w[2] != (uint32_t)b || w[126] || w[127] != sum) return 0;
-    }
-    if (!part(1, 48, 48, body)) return 0;
-    if (body[46] < 1 || body[46] > 4096 || body[47] > 16384 || (!body[44] && (body[24] || body[25]))) return 0;
-    if (!part(2, 120, 20 * (size_t)body[46], records) || !part(3, 120, 6 * (size_t)body[47], boxes) || !part(4, 6, 6, window)) return 0;
-    for (int k = 3; k < 6; k++)
-        if (window[k] < 1 || window[k] > 64) return 0;
-    if (!part(5, 123, (size_t)window[3] * window[4] * window[5], cells)) return 0;
-    memcpy(shapes, boxes, sizeof shapes);
-    return block == blocks;
+    return n;
 }
 
 static char *put(char *to, const char *what, const double *x, int n) {
@@ -115,14 +103,23 @@ static void step(struct count *c, step_function *f, const char *theirs) {
     add(c, ours, theirs);
 }
 
+static void tick(size_t bytes, size_t room, struct count *c, const char *theirs) {
+    double out[8] = {-1, -1, -1, -1, -1, -1, -1, -1};
+    char ours[512];
+    tick_text(ours, boltjuniper_tick((const uint8_t *)file, bytes, out, room), out);
+    add(c, ours, theirs);
+}
+
 static void one_scene(char *theirs) {
     char path[64], ours[64];
     sprintf(path, "crates/replay/data/%.4s.scn", theirs);
     theirs += 5;
-    if (!scene(path)) {
-        add(&malformed, "refused 8", theirs);
-        return;
-    }
+    size_t bytes = read_file(path);
+    int first = !strncmp(theirs, "refused ", 8) && strchr("81234", theirs[8]);
+    tick(bytes, 8, &ticks, theirs);
+    tick(bytes, 7, &lengths, first ? theirs : "refused 11");
+    if (!strcmp(theirs, "refused 8")) return;
+    parts();
     int bad = !strcmp(theirs, "refused 1"), early = bad || !strcmp(theirs, "refused 2");
     size_t n = 20 * (size_t)body[46], m = 6 * (size_t)body[47], k = (size_t)window[3] * window[4] * window[5];
     step(&steps, boltjuniper_step, theirs);
@@ -158,15 +155,83 @@ static void one_list(char *call) {
 }
 
 /* Case A of the requirements: what its step does to the box. */
+static const uint32_t states[40] = {[0] = 1, [20] = 3, [28] = 1, [39] = 15}, ground[16] = {1, 1, 1, 1, 1, 1, 1, 1};
+static const float cube[6] = {0, 0, 0, 1, 1, 1};
+static const double mover[9] = {0, 1.25, 0, 1, 2.25, 1, 0.25, -0.5, 0};
+
 static void case_a(void) {
-    static const uint32_t states[40] = {[0] = 1, [20] = 3, [28] = 1, [39] = 15}, ground[16] = {1, 1, 1, 1, 1, 1, 1, 1};
-    static const float cube[6] = {0, 0, 0, 1, 1, 1};
-    static const double mover[9] = {0, 1.25, 0, 1, 2.25, 1, 0.25, -0.5, 0}, theirs[10] = {0.25, 1, 0, 1.25, 2, 1, 0.25, -0.25, 0, 1};
+    static const double theirs[10] = {0.25, 1, 0, 1.25, 2, 1, 0.25, -0.25, 0, 1};
     double out[10];
     char a[512], b[512];
     move_text(a, boltjuniper_move(states, 40, cube, 6, ground, 16, 0, -1, 0, 2, 4, 2, mover, 9, 0, 0, out, 10), out);
     move_text(b, 0, theirs);
     add(&moves, a, b);
+}
+
+/* The boxes that it collects: two cubes of the ground, and no third. */
+static void collected(void) {
+    static const double theirs[3][7] = {{2, 0, 0, 0, 1, 1, 1}, {2, 1, 0, 0, 2, 1, 1}, {2}};
+    for (uint32_t k = 0; k < 3; k++) {
+        double out[7];
+        char a[512], b[512];
+        uint32_t refusal = boltjuniper_collected(states, 40, cube, 6, ground, 16, 0, -1, 0, 2, 4, 2, mover, 9, 0, k, out, 7);
+        if (refusal) sprintf(a, "refused %" PRIu32, refusal);
+        else put(a, "boxes", out, 7);
+        put(b, "boxes", theirs[k], 7);
+        add(&collects, a, b);
+    }
+}
+
+/* Slices of other lengths than their page says, a ground above 1, and too little room: what is refused, and that nothing is written. */
+static void refuses(uint32_t ours, uint32_t theirs, double *out) {
+    char a[64], b[64];
+    int n = sprintf(a, "refused %" PRIu32, ours);
+    for (int k = 0; theirs && k < 10; k++)
+        if (out[k] != -1) sprintf(a + n, ", and something written");
+    sprintf(b, "refused %" PRIu32, theirs);
+    add(&lengths, a, b);
+    for (int k = 0; k < 10; k++) out[k] = -1;
+}
+
+static void a_step(uint32_t theirs, size_t state_words, size_t numbers_len, size_t words_len, double gravity, size_t room) {
+    double numbers[20] = {0.5, 1.25, 0.5, 0.25, 0, 0, 1, 1, 0, gravity, 0.5, 0.5}, out[10] = {-1, -1, -1, -1, -1, -1, -1, -1, -1, -1};
+    static const uint32_t words[7] = {0, 3};
+    refuses(boltjuniper_step(states, state_words, cube, 6, ground, 16, 0, -1, 0, 2, 4, 2, numbers, numbers_len, words, words_len, 0, out, room),
+            theirs, out);
+    if (state_words == 40)
+        refuses(boltjuniper_step_checked(states, 40, cube, 6, ground, 16, 0, -1, 0, 2, 4, 2, numbers, numbers_len, words, words_len, 0, out, room),
+                theirs, out);
+}
+
+static void a_move(uint32_t theirs, size_t state_words, size_t mover_len, double step_height, uint32_t on_ground, size_t room) {
+    double out[10] = {-1, -1, -1, -1, -1, -1, -1, -1, -1, -1};
+    refuses(boltjuniper_move(states, state_words, cube, 6, ground, 16, 0, -1, 0, 2, 4, 2, mover, mover_len, step_height, on_ground, out, room),
+            theirs, out);
+}
+
+static void a_collection(uint32_t theirs, size_t state_words, size_t mover_len, double step_height, size_t room) {
+    double out[10] = {-1, -1, -1, -1, -1, -1, -1, -1, -1, -1};
+    refuses(boltjuniper_collected(states, state_words, cube, 6, ground, 16, 0, -1, 0, 2, 4, 2, mover, mover_len, step_height, 0, out, room),
+            theirs, out);
+}
+
+static void a_list(uint32_t theirs, size_t boxes_len, double last, size_t mover_len, uint32_t on_ground, size_t room) {
+    static double many[6 * 130];
+    double out[10] = {-1, -1, -1, -1, -1, -1, -1, -1, -1, -1};
+    if (boxes_len) many[boxes_len - 1] = last;
+    refuses(boltjuniper_move_over_list(many, boxes_len, mover, mover_len, 0, on_ground, out, room), theirs, out);
+    if (boxes_len) many[boxes_len - 1] = 0;
+}
+
+static void all_lengths(void) {
+    a_step(0, 40, 19, 6, 0.5, 8), a_step(3, 40, 18, 6, 0.5, 8), a_step(3, 40, 20, 6, 0.5, 8), a_step(3, 40, 19, 5, 0.5, 8);
+    a_step(3, 40, 19, 7, 0.5, 8), a_step(11, 40, 19, 6, 0.5, 7), a_step(3, 40, 19, 6, 17, 0), a_step(1, 39, 18, 6, 0.5, 0);
+    a_move(0, 40, 9, 0, 0, 10), a_move(4, 40, 8, 0, 0, 10), a_move(3, 40, 9, 0, 2, 10), a_move(3, 40, 8, 5, 0, 0);
+    a_move(11, 40, 9, 0, 1, 9), a_move(4, 40, 8, 0, 1, 0), a_move(1, 39, 8, 5, 2, 0);
+    a_collection(0, 40, 9, 0, 7), a_collection(4, 40, 8, 0, 7), a_collection(3, 40, 8, 5, 0), a_collection(11, 40, 9, 0, 6);
+    a_collection(1, 39, 8, 5, 0);
+    a_list(0, 6, 0, 9, 1, 10), a_list(4, 7, 0, 9, 0, 10), a_list(3, 6, 0, 9, 2, 10), a_list(4, 6, 0, 8, 0, 10), a_list(11, 6, 0, 9, 0, 9);
+    a_list(4, 6 * 130, -1, 9, 0, 0), a_list(11, 6 * 130, 0, 9, 0, 0), a_list(6, 6 * 130, 0, 9, 0, 10), a_list(0, 6 * 128, 0, 9, 0, 10);
 }
 
 int main(void) {
@@ -179,8 +244,10 @@ int main(void) {
     }
     fclose(f);
     case_a();
-    const struct count *all[] = {&steps, &malformed, &checked, &tables, &moves, &lists};
+    collected();
+    all_lengths();
+    const struct count *all[] = {&ticks, &steps, &checked, &tables, &moves, &lists, &collects, &lengths};
     int bad = 0;
-    for (int k = 0; k < 6; k++) bad |= tell(all[k]);
+    for (size_t k = 0; k < sizeof all / sizeof *all; k++) bad |= tell(all[k]);
     return bad;
 }

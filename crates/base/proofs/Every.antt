@@ -1,11 +1,11 @@
--- What `every` and `some` say, number by number, and how a loop shows them. Assumes nothing.
+-- What `every` and `any` say, number by number, and how a loop shows them. Assumes nothing.
 use mathlib.Core.Bool.{Bool, true, false, _&&_, _||_, true≢false, false≢true}
 use mathlib.Core.Path.{_≡_, refl, sym, _∙_, subst}
 use Prim.Native.Nat.{ℕ, zero, suc, _<_}
 use native.Mathlib.Nat.{not-suc-le-zero}
 use native.Mathlib.Decide.{decLt}
 use native.Mathlib.Omega.{arith}
-use Rattle.base.specs.Every.{every, some}
+use Rattle.base.specs.Every.{every, any}
 
 -- ---- conjunctions of tests
 pub record Both (a b : Bool) : Type 0 where
@@ -55,8 +55,8 @@ pub every-not : (n : ℕ) (p : ℕ → Bool) (k : ℕ) → k < n → p k ≡ fal
 every-not n p k l h = is-false (every n p) (λ (e : every n p ≡ true). true≢false (sym (every-at n p e k l) ∙ h))
 
 -- ---- some
-pub some-none : (n : ℕ) (p : ℕ → Bool) → ((k : ℕ) → k < n → p k ≡ false) → some n p ≡ false
-unfolding some
+pub some-none : (n : ℕ) (p : ℕ → Bool) → ((k : ℕ) → k < n → p k ≡ false) → any n p ≡ false
+unfolding any
 some-none zero p h = refl
 some-none (suc n) p h = rw (some-none n p (λ k l. h k (omega arith))) (h n (omega arith))
 
@@ -64,16 +64,16 @@ or-right : (a b : Bool) → b ≡ true → a || b ≡ true
 or-right true b h = refl
 or-right false b h = h
 
-pub some-at : (n : ℕ) (p : ℕ → Bool) (k : ℕ) → k < n → p k ≡ true → some n p ≡ true
-unfolding some
+pub some-at : (n : ℕ) (p : ℕ → Bool) (k : ℕ) → k < n → p k ≡ true → any n p ≡ true
+unfolding any
 some-at zero p k l h = absurd (not-suc-le-zero l)
 some-at (suc n) p k l h = go (λ q. some-at n p k q h) (decLt k n)
   where
-    go : (k < n → some n p ≡ true) → Dec (k < n) → some n p || p n ≡ true
+    go : (k < n → any n p ≡ true) → Dec (k < n) → any n p || p n ≡ true
     go again (yes q) = rw (again q)
-    go again (no q) = let e : k ≡ n = last k n q l in or-right (some n p) (p n) (subst (λ (z : ℕ). p z ≡ true) e h)
+    go again (no q) = let e : k ≡ n = last k n q l in or-right (any n p) (p n) (subst (λ (z : ℕ). p z ≡ true) e h)
 
-pub none-at : (n : ℕ) (p : ℕ → Bool) → some n p ≡ false → (k : ℕ) → k < n → p k ≡ false
+pub none-at : (n : ℕ) (p : ℕ → Bool) → any n p ≡ false → (k : ℕ) → k < n → p k ≡ false
 none-at n p h k l = is-false (p k) (λ (e : p k ≡ true). true≢false (sym (some-at n p k l e) ∙ h))
 
 pub record Found (n : ℕ) (p : ℕ → Bool) : Type 0 where
@@ -81,10 +81,10 @@ pub record Found (n : ℕ) (p : ℕ → Bool) : Type 0 where
   pub below : at < n
   pub there : p at ≡ true
 
-pub find : (n : ℕ) (p : ℕ → Bool) → some n p ≡ true → Found n p
-unfolding some
+pub find : (n : ℕ) (p : ℕ → Bool) → any n p ≡ true → Found n p
+unfolding any
 find zero p h = absurd (false≢true h)
-find (suc n) p h = go (some n p) (λ e. find n p e) h
+find (suc n) p h = go (any n p) (λ e. find n p e) h
   where
     go : (b : Bool) → (b ≡ true → Found n p) → b || p n ≡ true → Found (suc n) p
     go true again g = let r = again refl in record { at = r .at; below = omega arith; there = r .there }

@@ -1,7 +1,9 @@
 -- the laws that every crate shares
 pub mod Cases
-pub mod Loops
 pub mod Asks
 pub mod Values
 pub mod Every
 pub mod Fill
+pub mod Tests
+pub mod Differences
+pub mod Members

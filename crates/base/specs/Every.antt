@@ -8,6 +8,6 @@ every zero p = true
 every (suc n) p = every n p && p n
 
 -- p is true of at least one
-unfoldable pub some : ℕ → (ℕ → Bool) → Bool
-some zero p = false
-some (suc n) p = some n p || p n
+unfoldable pub any : ℕ → (ℕ → Bool) → Bool
+any zero p = false
+any (suc n) p = any n p || p n

@@ -9,8 +9,8 @@ use lib.Dec.{T, eqb, eqb→eq}
 use lib.ListN.{length, take, drop, length-take}
 use borrow.Author.Tests.{lt-ltb, le-ltb}
 use Rattle.base.specs.Choose.{choose}
-use Rattle.idents.specs.Bytes.{bytes}
-use Rattle.idents.proofs.Bytes.{unequal}
+use Rattle.suffixes.specs.Bytes.{bytes}
+use Rattle.suffixes.proofs.Bytes.{unequal}
 use Rattle.blocks.specs.declared.Part.{Part}
 use Rattle.blocks.specs.Blocks.{blockOf, marked, sumOf, perBlock, blocksOf, endOf, bodyPart, recordPart, boxPart, windowPart}
 

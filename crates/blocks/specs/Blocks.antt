@@ -6,7 +6,7 @@ use lib.Dec.{eqb, ltb}
 use lib.ListN.{length, getD, take, drop}
 use Rattle.base.specs.Choose.{choose}
 use Rattle.base.specs.Every.{every}
-use Rattle.idents.specs.Bytes.{bytes, equal}
+use Rattle.suffixes.specs.Bytes.{bytes, equal}
 use Rattle.blocks.specs.declared.Part.{Part}
 
 -- ---- blocks: "blocks of 512 bytes, little-endian words"
@@ -16,8 +16,8 @@ unfoldable pub blockOf : List ℕ → ℕ → List ℕ
 blockOf file b = choose (ltb b (length file / 512)) (take 512 (drop (b * 512) file)) []
 
 -- word k of a block; a byte that is not there is 0
-unfoldable pub wordAt : List ℕ → ℕ → ℕ
-wordAt block k =
+unfoldable pub fileWord : List ℕ → ℕ → ℕ
+fileWord block k =
     getD block (k * 4) 0 + getD block (k * 4 + 1) 0 * 256 + getD block (k * 4 + 2) 0 * 65536 + getD block (k * 4 + 3) 0 * 16777216
 
 -- "Word 0 is the four bytes 53 43 4E 31"
@@ -31,20 +31,20 @@ sumOf f (suc n) = sumOf f n + f n
 
 -- "the check: the sum of words 0 to 126, wrapping at 2^32"
 unfoldable pub checkOf : List ℕ → ℕ
-checkOf block = sumOf (wordAt block) 127 % 4294967296
+checkOf block = sumOf (fileWord block) 127 % 4294967296
 
 -- "3 to 125 payload; 126 zero" and "unused words zero": each word from 3 to 126 is one of those in use, or zero
 unfoldable pub restZero : List ℕ → ℕ → Bool
-restZero block used = every 124 (λ i. ltb i used || eqb (wordAt block (3 + i)) 0)
+restZero block used = every 124 (λ i. ltb i used || eqb (fileWord block (3 + i)) 0)
 
 -- "word 1 the kind; word 2 the block's number from 0", and "127 the check"
 unfoldable pub blockFits : List ℕ → ℕ → ℕ → ℕ → Bool
 blockFits block number kind used =
     marked block
-    && eqb (wordAt block 1) kind
-    && eqb (wordAt block 2) number
+    && eqb (fileWord block 1) kind
+    && eqb (fileWord block 2) number
     && restZero block used
-    && eqb (wordAt block 127) (checkOf block)
+    && eqb (fileWord block 127) (checkOf block)
 
 -- ---- parts: the blocks of one kind, one after the other
 
@@ -67,9 +67,9 @@ usedIn p j = choose (ltb j (p .words / perBlock (p .kind))) (perBlock (p .kind))
 unfoldable pub partFits : List ℕ → Part → Bool
 partFits file p = every (blocksOf p) (λ j. blockFits (blockOf file (p .first + j)) (p .first + j) (p .kind) (usedIn p j))
 
--- word i of a part
+-- word i of a part; 0 where the part has no such word
 unfoldable pub partWord : List ℕ → Part → ℕ → ℕ
-partWord file p i = wordAt (blockOf file (p .first + i / perBlock (p .kind))) (3 + i % perBlock (p .kind))
+partWord file p i = choose (ltb i (p .words)) (fileWord (blockOf file (p .first + i / perBlock (p .kind))) (3 + i % perBlock (p .kind))) 0
 
 -- ---- "Kinds in order: one 1 (body), 2, 3, one 4, 5"
 

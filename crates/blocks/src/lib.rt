@@ -4,7 +4,7 @@ ghost use mathlib.Core.Bool.{_||_};
 ghost use Prim.Native.Nat.{_+_};
 ghost use lib.Dec.{eqb, ltb};
 ghost use lib.ListN.{getD};
-ghost use Rattle.blocks.specs.Blocks.{blockOf, wordAt, marked, checkOf, restZero, blockFits, perBlock, blocksOf, endOf, usedIn, partFits, partWord, bodyPart, recordPart, boxPart, windowPart, cellPart};
+ghost use Rattle.blocks.specs.Blocks.{blockOf, fileWord, marked, checkOf, restZero, blockFits, perBlock, blocksOf, endOf, usedIn, partFits, partWord, bodyPart, recordPart, boxPart, windowPart, cellPart};
 
 // The blocks of one kind, one after the other: the first of them, the kind, and how many payload words there are in all.
 pub struct Part {
@@ -31,7 +31,7 @@ fn byte(block: &[u8], i: usize) -> u8
 
 // Word k of a block.
 fn word(block: &[u8], k: u32) -> u32
-    ensures { λ r. ⌜ r ≡ wordAt (now (block .entry)) k ⌝ }
+    ensures { λ r. ⌜ r ≡ fileWord (now (block .entry)) k ⌝ }
 {
     let i = k as usize * 4;
     let a = byte(block, i);
@@ -47,7 +47,7 @@ fn is_marked(block: &[u8]) -> bool
     if block.len() < 4 {
         return false;
     }
-    idents::equals(&block[..4], b"SCN1")
+    suffixes::equals(&block[..4], b"SCN1")
 }
 
 // The sum of words 0 to 126, wrapping at 2^32.
@@ -65,7 +65,7 @@ fn check_of(block: &[u8]) -> u32
 
 // Word 3 + i is one of those in use, or zero.
 fn used_or_zero(block: &[u8], used: u32, i: u8) -> bool
-    ensures { λ r. ⌜ r ≡ (ltb i used || eqb (wordAt (now (block .entry)) (3 + i)) 0) ⌝ }
+    ensures { λ r. ⌜ r ≡ (ltb i used || eqb (fileWord (now (block .entry)) (3 + i)) 0) ⌝ }
 {
     if (i as u32) < used {
         return true;
@@ -166,13 +166,16 @@ pub fn part_fits(file: &[u8], p: Part) -> bool
     true
 }
 
-// Word i of a part.
+// Word i of a part: 0 where the part has no such word.
 pub fn part_word(file: &[u8], p: Part, i: u32) -> u32
     ensures { λ r. ⌜ r ≡ partWord (now (file .entry)) p i ⌝ }
 {
-    let per = per_block(p.kind);
-    let b = p.first as usize + (i / per) as usize;
-    word(block_of(file, b), 3 + i % per)
+    if i < p.words {
+        let per = per_block(p.kind);
+        let b = p.first as usize + (i / per) as usize;
+        return word(block_of(file, b), 3 + i % per);
+    }
+    0
 }
 
 pub fn body_part() -> Part

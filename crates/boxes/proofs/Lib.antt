@@ -1,8 +1,4 @@
 -- Laws of this crate's definitions, on plain values.
-pub mod Lists
-pub mod Turns
-pub mod Shape
-pub mod Limits
-pub mod Beyond
 pub mod Numbers
 pub mod Clips
+pub mod Constants

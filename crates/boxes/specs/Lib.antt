@@ -1,8 +1,5 @@
--- The definitions of module 2, of the capped list, and of the move over a list.
+-- The definitions of module 2, of vectors, and of the limits on boxes.
 pub mod Boxes
+pub mod Vectors
 pub mod Sides
-pub mod Lists
-pub mod Move
-pub mod Passes
 pub mod Limits
-pub mod Entry

@@ -1,24 +1,12 @@
-// Boxes, and the move over a list. This file has the records, overlap and clipping, from collision.rs: every function takes any numbers.
-// list.rt has the capped list, passes.rt the move, and entry.rt the limits and the move that a host calls.
-mod entry;
-mod list;
-mod passes;
+// Vectors and boxes by value. This file has the records, overlap and clipping, from collision.rs: every function takes any numbers. vectors.rt has
+// the sums and products of vectors, and limits.rt the limits on what is handed in.
+mod limits;
+pub mod vectors;
 
-pub use entry::are_within;
-pub use entry::is_box;
-pub use entry::is_delta;
-pub use entry::is_step;
-pub use entry::move_over_list;
-pub use entry::refusal_of;
-pub use passes::axis_of;
-pub use passes::begun;
-pub use passes::clip_along;
-pub use passes::clip_sequence;
-pub use passes::ended;
-pub use passes::gone;
-pub use passes::move_over;
-pub use passes::next;
-pub use passes::wanted;
+pub use limits::are_within;
+pub use limits::is_box;
+pub use limits::is_delta;
+pub use limits::is_step;
 ghost use mathlib.Core.Path.{_≡_};
 ghost use Rattle.boxes.specs.Boxes.{vec, box, fromFeet, offsetBy, below0, above0, downOf, upOf, expandTowards, inflateBy, meet, overlap, feetOf, clipX, clipY, clipZ};
 ghost use Rattle.boxes.specs.Sides.{onX, onY, onZ, apartOn, clipOn};
@@ -35,52 +23,6 @@ pub struct Vec3 {
 pub struct Aabb {
     pub min: Vec3,
     pub max: Vec3,
-}
-
-// The capped list: room for 128 boxes and a count.
-pub struct BoxList {
-    pub boxes: [Aabb; 128],
-    pub count: usize,
-}
-
-// A list, or the number of a refusal and an empty list. The list is the first field, so that handing it on moves nothing.
-pub struct Collected {
-    pub list: BoxList,
-    pub refusal: u32,
-}
-
-// A box that has moved, and by how much.
-pub struct Swept {
-    pub aabb: Aabb,
-    pub moved: Vec3,
-}
-
-// What a move comes to: the box after it, the way that it went, and whether a downward move was stopped.
-pub struct MoveResult {
-    pub aabb: Aabb,
-    pub moved: Vec3,
-    pub ground: bool,
-}
-
-// A move that is handed in may be refused: refusal 0 and the move, or a refusal, the box given, moved zero, and ground false.
-pub struct MoveAnswer {
-    pub refusal: u32,
-    pub result: MoveResult,
-}
-
-// What a move is asked for.
-pub struct Request {
-    pub aabb: Aabb,
-    pub delta: Vec3,
-    pub step: f64,
-    pub ground: bool,
-}
-
-// Where a move stands between two passes: the attempt at hand, the first attempt, and whether the move is over.
-pub struct Sweep {
-    pub now: Swept,
-    pub first: Swept,
-    pub over: bool,
 }
 
 // A box and a mover on one axis: the box from lo to hi, the mover from `from` to `to`.

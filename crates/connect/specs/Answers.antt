@@ -2,28 +2,24 @@
 use mathlib.Core.Bool.{Bool}
 use mathlib.Core.List.{List}
 use Prim.Native.Nat.{ℕ}
-use lib.Dec.{eqb}
 use lib.Ieee.{Float}
-use lib.ListN.{length}
-use Rattle.base.specs.Choose.{choose}
 use Rattle.base.specs.Ask.{Ask, refused, found}
-use Rattle.tables.specs.Check.{tableRefusal}
 use Rattle.window.specs.declared.Pos.{Pos}
 use Rattle.window.specs.declared.Window.{Window}
-use Rattle.window.specs.Window.{windowRefusal}
 use Rattle.window.specs.Look.{lookAt}
-use Rattle.connect.specs.declared.Told.{Told}
-use Rattle.connect.specs.declared.Told.the-variants.{Is, Refused as ToldRefused}
-use Rattle.connect.specs.declared.Connected.{Connected}
-use Rattle.connect.specs.declared.Connected.the-variants.{State, Refused}
+use Rattle.lent.specs.Lent.{sound}
+use Rattle.connect.specs.declared.AskedBool.{AskedBool}
+use Rattle.connect.specs.declared.AskedBool.the-variants.{Is, Refused as BoolRefused}
+use Rattle.connect.specs.declared.AskedState.{AskedState}
+use Rattle.connect.specs.declared.AskedState.the-variants.{State, Refused}
 use Rattle.connect.specs.declared.StateAnswer.{StateAnswer}
 use Rattle.connect.specs.Connect.{connectedState}
 
-abbrev pub yesOrNo : Told → Ask Bool
-yesOrNo (Is b) = found b
-yesOrNo (ToldRefused n) = refused n
+abbrev pub boolAsked : AskedBool → Ask Bool
+boolAsked (Is b) = found b
+boolAsked (BoolRefused n) = refused n
 
-abbrev pub stateAsked : Connected → Ask ℕ
+abbrev pub stateAsked : AskedState → Ask ℕ
 stateAsked (State s) = found s
 stateAsked (Refused n) = refused n
 
@@ -35,8 +31,4 @@ stateAnswer (found s) = record { refusal = 0; state = s }
 -- 1, then 2, before any cell is asked for; then 5
 unfoldable pub connectedEntry : List ℕ → List Float → List ℕ → Window → Pos → ℕ → StateAnswer
 connectedEntry records shapes cells w p state =
-    choose (eqb (tableRefusal records shapes) 0)
-    (choose (eqb (windowRefusal (length cells) w) 0)
-    (stateAnswer (connectedState (lookAt cells w) records p state))
-    (stateAnswer (refused 2)))
-    (stateAnswer (refused 1))
+    stateAnswer (sound records shapes cells w (connectedState (lookAt cells w) records p state))

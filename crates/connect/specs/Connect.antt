@@ -11,19 +11,19 @@ use Rattle.cover.specs.declared.Side.{Side}
 use Rattle.cover.specs.declared.Side.the-variants.{North, East, South, West}
 use Rattle.tables.specs.Tables.{wordAt, isRegistered}
 use Rattle.window.specs.declared.Pos.{Pos}
-use Rattle.window.specs.declared.Step.{Step}
+use Rattle.window.specs.declared.CellStep.{CellStep}
 use Rattle.window.specs.Look.{Block, none, some, stepped}
 use Rattle.connect.specs.declared.Joined.{Joined}
 
 -- ---- sides
 
-abbrev pub wayTo : Side → Step
+abbrev pub wayTo : Side → CellStep
 wayTo North = record { x = pos 0; y = pos 0; z = negsuc 0 }
 wayTo East = record { x = pos 1; y = pos 0; z = pos 0 }
 wayTo South = record { x = pos 0; y = pos 0; z = pos 1 }
 wayTo West = record { x = negsuc 0; y = pos 0; z = pos 0 }
 
-abbrev pub upwards : Step
+abbrev pub upwards : CellStep
 upwards = record { x = pos 0; y = pos 1; z = pos 0 }
 
 abbrev pub alongX : Side → Bool
@@ -35,8 +35,8 @@ alongX West = true
 -- ---- connects
 
 -- word 4: 0 nothing, 1 fence, 2 nether brick fence, 3 thin, 4 wall; an unregistered state connects as nothing
-unfoldable pub connectsAs : List ℕ → ℕ → ℕ
-connectsAs records state = choose (isRegistered records state) (wordAt records state 4) 0
+unfoldable pub connectKind : List ℕ → ℕ → ℕ
+connectKind records state = choose (isRegistered records state) (wordAt records state 4) 0
 
 unfoldable pub isFence : ℕ → Bool
 isFence kind = choose (eqb kind 1) true (eqb kind 2)
@@ -146,4 +146,4 @@ besideNeighbours look records p kind state = do
 -- what connects as nothing stays as it is, and asks for no cell
 unfoldable pub connectedState : (Pos → Ask Block) → List ℕ → Pos → ℕ → Ask ℕ
 connectedState look records p state =
-    choose (eqb (connectsAs records state) 0) (found state) (besideNeighbours look records p (connectsAs records state) state)
+    choose (eqb (connectKind records state) 0) (found state) (besideNeighbours look records p (connectKind records state) state)

@@ -2,13 +2,13 @@
 use cover::Side;
 use window::Cell;
 use window::Pos;
-use window::Step;
+use window::CellStep;
 use window::Window;
 ghost use mathlib.Core.Path.{_≡_};
 ghost use mathlib.Core.Bool.{_&&_};
 ghost use Rattle.window.specs.Look.{lookAt, asked, some};
-ghost use Rattle.connect.specs.Connect.{wayTo, alongX, connectsAs, isFence, isThinOrWall, oppositeFace, gateDecides, gateJoins, registeredConnects, joins, sideWord, transition, transitions, straight, raises, raisedBy, post, postTransition, besideNeighbours, connectedState};
-ghost use Rattle.connect.specs.Answers.{yesOrNo, stateAsked, connectedEntry};
+ghost use Rattle.connect.specs.Connect.{wayTo, alongX, connectKind, isFence, isThinOrWall, oppositeFace, gateDecides, gateJoins, registeredConnects, joins, sideWord, transition, transitions, straight, raises, raisedBy, post, postTransition, besideNeighbours, connectedState};
+ghost use Rattle.connect.specs.Answers.{boolAsked, stateAsked, connectedEntry};
 
 // Which sides join.
 pub struct Joined {
@@ -19,13 +19,13 @@ pub struct Joined {
 }
 
 // What a cell tells, or the number of a refusal.
-enum Told {
+enum AskedBool {
     Is(bool),
     Refused(u32),
 }
 
 // A state, or the number of a refusal.
-pub enum Connected {
+pub enum AskedState {
     State(u32),
     Refused(u32),
 }
@@ -36,14 +36,14 @@ pub struct StateAnswer {
     pub state: u32,
 }
 
-fn way_to(side: Side) -> Step
+fn way_to(side: Side) -> CellStep
     ensures { λ r. ⌜ r ≡ wayTo side ⌝ }
 {
     match side {
-        Side::North => Step { x: 0, y: 0, z: -1 },
-        Side::East => Step { x: 1, y: 0, z: 0 },
-        Side::South => Step { x: 0, y: 0, z: 1 },
-        Side::West => Step { x: -1, y: 0, z: 0 },
+        Side::North => CellStep { x: 0, y: 0, z: -1 },
+        Side::East => CellStep { x: 1, y: 0, z: 0 },
+        Side::South => CellStep { x: 0, y: 0, z: 1 },
+        Side::West => CellStep { x: -1, y: 0, z: 0 },
     }
 }
 
@@ -59,7 +59,7 @@ fn along_x(side: Side) -> bool
 }
 
 fn connects_as(records: &[u32], state: u32) -> u32
-    ensures { λ r. ⌜ r ≡ connectsAs (now (records .entry)) state ⌝ }
+    ensures { λ r. ⌜ r ≡ connectKind (now (records .entry)) state ⌝ }
 {
     if tables::is_registered(records, state) {
         return tables::word(records, state, 4);
@@ -156,15 +156,15 @@ pub fn connects(records: &[u32], kind: u32, side: Side, state: u32) -> bool
 }
 
 // Asks for the neighbour on a side.
-fn joins_at(records: &[u32], cells: &[u32], w: Window, p: Pos, kind: u32, side: Side) -> Told
-    ensures { λ r. ⌜ yesOrNo r ≡ joins (lookAt (now (cells .entry)) w) (now (records .entry)) p kind side ⌝ }
+fn joins_at(records: &[u32], cells: &[u32], w: Window, p: Pos, kind: u32, side: Side) -> AskedBool
+    ensures { λ r. ⌜ boolAsked r ≡ joins (lookAt (now (cells .entry)) w) (now (records .entry)) p kind side ⌝ }
 {
     let way = way_to(side);
     let neighbour = window::look_by(cells, w, p, way);
     match neighbour {
-        Cell::Outside => Told::Refused(5), // never taken for unloaded
-        Cell::Unloaded => Told::Is(true),
-        Cell::State(s) => Told::Is(connects(records, kind, side, s)),
+        Cell::Outside => AskedBool::Refused(5), // never taken for unloaded
+        Cell::Unloaded => AskedBool::Is(true),
+        Cell::State(s) => AskedBool::Is(connects(records, kind, side, s)),
     }
 }
 
@@ -232,23 +232,23 @@ fn raised_by(records: &[u32], j: Joined, above: u32) -> bool
 }
 
 // Asks for the cell above: whether the post stands.
-fn post_at(records: &[u32], cells: &[u32], w: Window, p: Pos, j: Joined) -> Told
-    ensures { λ r. ⌜ yesOrNo r ≡ post (lookAt (now (cells .entry)) w) (now (records .entry)) p j ⌝ }
+fn post_at(records: &[u32], cells: &[u32], w: Window, p: Pos, j: Joined) -> AskedBool
+    ensures { λ r. ⌜ boolAsked r ≡ post (lookAt (now (cells .entry)) w) (now (records .entry)) p j ⌝ }
 {
-    let above = window::look_by(cells, w, p, Step { x: 0, y: 1, z: 0 });
+    let above = window::look_by(cells, w, p, CellStep { x: 0, y: 1, z: 0 });
     match above {
-        Cell::Outside => Told::Refused(5),
+        Cell::Outside => AskedBool::Refused(5),
         Cell::Unloaded => {
             if is_straight(j) {
-                return Told::Is(false);
+                return AskedBool::Is(false);
             }
-            Told::Is(true)
+            AskedBool::Is(true)
         }
         Cell::State(s) => {
             if is_straight(j) {
-                return Told::Is(raised_by(records, j, s));
+                return AskedBool::Is(raised_by(records, j, s));
             }
-            Told::Is(true)
+            AskedBool::Is(true)
         }
     }
 }
@@ -263,24 +263,24 @@ fn posted(records: &[u32], state: u32, on: bool) -> u32
 }
 
 // The state at p of what connects as this kind. It stands by itself, so that a cell that connects as nothing pays for none of it.
-fn beside_neighbours(records: &[u32], cells: &[u32], w: Window, p: Pos, kind: u32, state: u32) -> Connected
+fn beside_neighbours(records: &[u32], cells: &[u32], w: Window, p: Pos, kind: u32, state: u32) -> AskedState
     ensures { λ r. ⌜ stateAsked r ≡ besideNeighbours (lookAt (now (cells .entry)) w) (now (records .entry)) p kind state ⌝ }
 {
     let north = match joins_at(records, cells, w, p, kind, Side::North) {
-        Told::Refused(n) => return Connected::Refused(n),
-        Told::Is(b) => b,
+        AskedBool::Refused(n) => return AskedState::Refused(n),
+        AskedBool::Is(b) => b,
     };
     let east = match joins_at(records, cells, w, p, kind, Side::East) {
-        Told::Refused(n) => return Connected::Refused(n),
-        Told::Is(b) => b,
+        AskedBool::Refused(n) => return AskedState::Refused(n),
+        AskedBool::Is(b) => b,
     };
     let south = match joins_at(records, cells, w, p, kind, Side::South) {
-        Told::Refused(n) => return Connected::Refused(n),
-        Told::Is(b) => b,
+        AskedBool::Refused(n) => return AskedState::Refused(n),
+        AskedBool::Is(b) => b,
     };
     let west = match joins_at(records, cells, w, p, kind, Side::West) {
-        Told::Refused(n) => return Connected::Refused(n),
-        Told::Is(b) => b,
+        AskedBool::Refused(n) => return AskedState::Refused(n),
+        AskedBool::Is(b) => b,
     };
     let j = Joined {
         north,
@@ -291,20 +291,20 @@ fn beside_neighbours(records: &[u32], cells: &[u32], w: Window, p: Pos, kind: u3
     let resolved = turn_all(records, j, state);
     if kind == 4 {
         match post_at(records, cells, w, p, j) {
-            Told::Refused(n) => return Connected::Refused(n),
-            Told::Is(on) => return Connected::State(posted(records, resolved, on)),
+            AskedBool::Refused(n) => return AskedState::Refused(n),
+            AskedBool::Is(on) => return AskedState::State(posted(records, resolved, on)),
         }
     }
-    Connected::State(resolved)
+    AskedState::State(resolved)
 }
 
 // The state that a record at p has beside its neighbours. It refuses 5 alone, at the first cell that lies outside.
-pub fn connected_state(records: &[u32], cells: &[u32], w: Window, p: Pos, state: u32) -> Connected
+pub fn connected_state(records: &[u32], cells: &[u32], w: Window, p: Pos, state: u32) -> AskedState
     ensures { λ r. ⌜ stateAsked r ≡ connectedState (lookAt (now (cells .entry)) w) (now (records .entry)) p state ⌝ }
 {
     let kind = connects_as(records, state);
     if kind == 0 {
-        return Connected::State(state);
+        return AskedState::State(state);
     }
     beside_neighbours(records, cells, w, p, kind, state)
 }
@@ -313,15 +313,13 @@ pub fn connected_state(records: &[u32], cells: &[u32], w: Window, p: Pos, state:
 pub fn connected_state_at(records: &[u32], shapes: &[f32], cells: &[u32], w: Window, p: Pos, state: u32) -> StateAnswer
     ensures { λ r. ⌜ r ≡ connectedEntry (now (records .entry)) (now (shapes .entry)) (now (cells .entry)) w p state ⌝ }
 {
-    if tables::check_tables(records, shapes) != 0 {
-        return StateAnswer { refusal: 1, state: 0 };
-    }
-    if window::check_window(cells, w) != 0 {
-        return StateAnswer { refusal: 2, state: 0 };
+    let bad = lent::check_lent(records, shapes, cells, w);
+    if bad != 0 {
+        return StateAnswer { refusal: bad, state: 0 };
     }
     let told = connected_state(records, cells, w, p, state);
     match told {
-        Connected::Refused(n) => StateAnswer { refusal: n, state: 0 },
-        Connected::State(s) => StateAnswer { refusal: 0, state: s },
+        AskedState::Refused(n) => StateAnswer { refusal: n, state: 0 },
+        AskedState::State(s) => StateAnswer { refusal: 0, state: s },
     }
 }

@@ -1,5 +1,5 @@
 -- The search for a gap answers what `coversFace` says: it finds one exactly when a cell is in no rectangle. Assumes nothing.
-use mathlib.Core.Bool.{Bool, true, false, not, _&&_, _||_, true≢false}
+use mathlib.Core.Bool.{Bool, true, false, not, _&&_, _||_, true≢false, and-comm}
 use mathlib.Core.Path.{_≡_, refl, sym, _∙_}
 use mathlib.Core.List.{List, []}
 use Prim.Native.Nat.{ℕ, zero, suc, _<_, _≤_}
@@ -10,10 +10,10 @@ use lib.ListN.{getD}
 use lib.Dec.{T, leb, ltb}
 use lib.Ieee.{Float, nan, binary32, lt, fits}
 use borrow.Author.Tests.{not-true, not-false, leb-true, ltb-true, ltb-false, le-leb, lt-leb, lt-ltb}
-use Rattle.base.specs.Every.{every, some}
+use Rattle.base.specs.Every.{every, any}
 use Rattle.base.proofs.Every.{both, with-last, every-from, every-not, some-none, some-at, none-at, Found, find}
 use Rattle.cover.specs.declared.Side.{Side}
-use Rattle.cover.specs.Cover.{unit, boxCount, cellsBefore, zero32, onFace, u0, u1, v0, v1, hasCell, hasNan, allCells, coversFace}
+use Rattle.cover.specs.Cover.{unitCells, boxCount, cellsBefore, zero32, onFace, u0, u1, v0, v1, hasCell, hasNan, allCells, coversFace}
 use Rattle.cover.specs.Gaps.{spans, hasPoint, isInner, gapAt, gapPast, anyGap, gapOnLine, gapOnFace, coversBySearch}
 use Rattle.cover.proofs.Cells.{Point, at-zero, unit-pos, lt-cells, inner-point, point-inner}
 
@@ -97,7 +97,7 @@ module _ (counts : ℕ → Bool) (edge : ℕ → Float) (gap : Float → Bool) (
   unfolding anyGap gapPast
   open-at n h = go (gap zero32) refl h
     where
-      go : (b : Bool) → gap zero32 ≡ b → b || some n (gapPast counts edge gap) ≡ true → Open gap
+      go : (b : Bool) → gap zero32 ≡ b → b || any n (gapPast counts edge gap) ≡ true → Open gap
       go true e g = record { pt = zero32; at = 0; point = at-zero; gapped = e }
       go false e g =
           let r = find n (gapPast counts edge gap) g in
@@ -106,7 +106,7 @@ module _ (counts : ℕ → Bool) (edge : ℕ → Float) (gap : Float → Bool) (
           let b = both (isInner (edge k)) (counts k) (a .one) in
           record { pt = edge k; at = cellsBefore (edge k); point = inner-point (edge k) (held k) (b .one); gapped = a .two }
 
-  module _ (i : ℕ) (small : i < unit) (zero-clear : gap zero32 ≡ false) where
+  module _ (i : ℕ) (small : i < unitCells) (zero-clear : gap zero32 ≡ false) where
     keep : (n : ℕ) (b : Best counts edge gap i n) → (counts n ≡ true → cellsBefore (edge n) ≤ i → cellsBefore (edge n) ≤ b .at) → Best counts edge gap i (suc n)
     keep n b h = record { pt = b .pt; at = b .at; point = b .point; under = b .under; clear = b .clear; most = with-last _ n (b .most) h }
 
@@ -139,19 +139,13 @@ module _ (counts : ℕ → Bool) (edge : ℕ → Float) (gap : Float → Bool) (
     climb zero ok = record { pt = zero32; at = 0; point = at-zero; under = omega arith; clear = zero-clear; most = λ k h. absurd (not-suc-le-zero h) }
     climb (suc n) ok = more n (ok n (omega arith)) (climb n (λ k h. ok k (omega arith)))
 
-  best : (n i : ℕ) → i < unit → anyGap counts edge gap n ≡ false → Best counts edge gap i n
+  best : (n i : ℕ) → i < unitCells → anyGap counts edge gap n ≡ false → Best counts edge gap i n
   unfolding anyGap
   best n i s h =
-      let o = or-false (gap zero32) (some n (gapPast counts edge gap)) h in
+      let o = or-false (gap zero32) (any n (gapPast counts edge gap)) h in
       climb i s (o .0) n (λ k l p q. past-false k p q (none-at n (gapPast counts edge gap) (o .1) k l))
 
 -- ---- the face
-and-comm : (a b : Bool) → a && b ≡ b && a
-and-comm true true = refl
-and-comm true false = refl
-and-comm false true = refl
-and-comm false false = refl
-
 past-end : (i a e : ℕ) → a < e → (e ≤ i → e ≤ a) → i < e
 past-end i a e h g = go (decLe e i)
   where
@@ -162,17 +156,17 @@ past-end i a e h g = go (decLe e i)
 module _ (l : List Float) (f : Side) (held : (i : ℕ) → T (fits binary32 (getD l i nan))) where
   point-clear : (u v : Float) → gapAt l f u v ≡ false → Found (boxCount l) (hasPoint l f u v)
   unfolding gapAt
-  point-clear u v h = find (boxCount l) (hasPoint l f u v) (not-false (some (boxCount l) (hasPoint l f u v)) h)
+  point-clear u v h = find (boxCount l) (hasPoint l f u v) (not-false (any (boxCount l) (hasPoint l f u v)) h)
 
-  point-gap : (u v : Float) (i j : ℕ) → Point u i → Point v j → gapAt l f u v ≡ true → some (boxCount l) (hasCell l f i j) ≡ false
+  point-gap : (u v : Float) (i j : ℕ) → Point u i → Point v j → gapAt l f u v ≡ true → any (boxCount l) (hasCell l f i j) ≡ false
   unfolding gapAt
   point-gap u v i j p q h =
-      let g = not-true (some (boxCount l) (hasPoint l f u v)) h in
+      let g = not-true (any (boxCount l) (hasPoint l f u v)) h in
       some-none (boxCount l) (hasCell l f i j)
       (λ k b. sym (point-cell l f held u v i j k p q) ∙ none-at (boxCount l) (hasPoint l f u v) g k b)
 
   -- no gap among the points tried: a cell lies in the rectangle of the point at or before it
-  clear-cell : gapOnFace l f ≡ false → (i j : ℕ) → i < unit → j < unit → some (boxCount l) (hasCell l f i j) ≡ true
+  clear-cell : gapOnFace l f ≡ false → (i j : ℕ) → i < unitCells → j < unitCells → any (boxCount l) (hasCell l f i j) ≡ true
   unfolding gapOnFace gapOnLine
   clear-cell h i j p q =
       let n : ℕ = boxCount l in
@@ -198,18 +192,18 @@ module _ (l : List Float) (f : Side) (held : (i : ℕ) → T (fits binary32 (get
       let n : ℕ = boxCount l in
       let a = open-at (onFace l f) (u1 l f) (gapOnLine l f) (λ k. held _) n h in
       let b = open-at (spans l f (a .pt)) (v1 l) (gapAt l f (a .pt)) (λ k. held _) n (a .gapped) in
-      every-not unit _ (a .at) (a .point .small)
-      (every-not unit _ (b .at) (b .point .small) (point-gap (a .pt) (b .pt) (a .at) (b .at) (a .point) (b .point) (b .gapped)))
+      every-not unitCells _ (a .at) (a .point .small)
+      (every-not unitCells _ (b .at) (b .point .small) (point-gap (a .pt) (b .pt) (a .at) (b .at) (a .point) (b .point) (b .gapped)))
 
   cells-search : (g : Bool) → gapOnFace l f ≡ g → allCells l f ≡ not g
   cells-search true h = gap-cell h
-  cells-search false h = every-from unit _ (λ i p. every-from unit _ (λ j q. clear-cell h i j p q))
+  cells-search false h = every-from unitCells _ (λ i p. every-from unitCells _ (λ j q. clear-cell h i j p q))
 
   pub covers-search : coversFace l f ≡ coversBySearch l f
   unfolding coversFace coversBySearch
-  covers-search = rw (cells-search (gapOnFace l f) refl) (and-comm (not (gapOnFace l f)) (not (some (boxCount l) (hasNan l f))))
+  covers-search = rw (cells-search (gapOnFace l f) refl) (and-comm (not (gapOnFace l f)) (not (any (boxCount l) (hasNan l f))))
 
 -- ---- no box covers nothing
 pub none-covers : (f : Side) → coversFace [] f ≡ false
-unfolding coversFace some
-none-covers f = rw (every-not unit (λ i. every unit (λ j. some 0 (hasCell [] f i j))) 0 unit-pos (every-not unit (λ j. some 0 (hasCell [] f 0 j)) 0 unit-pos refl))
+unfolding coversFace any
+none-covers f = rw (every-not unitCells (λ i. every unitCells (λ j. any 0 (hasCell [] f i j))) 0 unit-pos (every-not unitCells (λ j. any 0 (hasCell [] f 0 j)) 0 unit-pos refl))

@@ -9,7 +9,7 @@ use lib.Dec.{T}
 use lib.Ieee.{Float, nan, binary32, ofBits, fits, isNan, lt, eq, le}
 use lib.Ieee.Fits.{and-l, and-r}
 use Rattle.base.specs.Choose.{choose}
-use Rattle.base.specs.Every.{some}
+use Rattle.base.specs.Every.{any}
 use Rattle.cover.specs.declared.Side.the-variants.{North, East, South, West}
 use Rattle.cover.specs.Cover.{zero32, one32, onFace, uPlace, fullFaces}
 use Rattle.cover.specs.Gaps.{spans, hasPoint, isInner, gapAt, gapPast, anyGap, gapOnLine, gapOnFace, coversBySearch}
@@ -50,7 +50,7 @@ pub record Small : Type 0 where
   pub no-box : fullFaces [] ≡ 0
 
 pub small : Small
-unfolding allFit fits gapOnFace gapOnLine anyGap gapAt gapPast some hasPoint spans isInner onFace uPlace coversBySearch choose lt eq le isNan ofBits
+unfolding allFit fits gapOnFace gapOnLine anyGap gapAt gapPast any hasPoint spans isInner onFace uPlace coversBySearch choose lt eq le isNan ofBits
 small = record {
   cube = full-search (upTo zero32 one32 one32 []) tt;
   slab = full-search (upTo zero32 one32 half []) tt;

@@ -6,7 +6,7 @@ use mathlib.Core.Bool.{Bool, not, _&&_, _||_}
 use mathlib.Core.List.{List}
 use Prim.Native.Nat.{ℕ}
 use lib.Ieee.{Float, lt}
-use Rattle.base.specs.Every.{some}
+use Rattle.base.specs.Every.{any}
 use Rattle.cover.specs.declared.Side.{Side}
 use Rattle.cover.specs.Cover.{boxCount, zero32, one32, onFace, u0, u1, v0, v1, hasNan}
 
@@ -24,7 +24,7 @@ isInner e = lt zero32 e && lt e one32
 
 -- no rectangle has the point
 unfoldable pub gapAt : List Float → Side → Float → Float → Bool
-gapAt l f u v = not (some (boxCount l) (hasPoint l f u v))
+gapAt l f u v = not (any (boxCount l) (hasPoint l f u v))
 
 -- the test of a gap at box k's edge, where that is inside and the box counts
 unfoldable pub gapPast : (ℕ → Bool) → (ℕ → Float) → (Float → Bool) → ℕ → Bool
@@ -32,7 +32,7 @@ gapPast counts edge gap k = isInner (edge k) && counts k && gap (edge k)
 
 -- the test of a gap at 0 or at one of the edges
 unfoldable pub anyGap : (ℕ → Bool) → (ℕ → Float) → (Float → Bool) → ℕ → Bool
-anyGap counts edge gap n = gap zero32 || some n (gapPast counts edge gap)
+anyGap counts edge gap n = gap zero32 || any n (gapPast counts edge gap)
 
 -- on the upright line at u
 unfoldable pub gapOnLine : List Float → Side → Float → Bool
@@ -43,4 +43,4 @@ gapOnFace l f = anyGap (onFace l f) (u1 l f) (gapOnLine l f) (boxCount l)
 
 -- what the program answers
 unfoldable pub coversBySearch : List Float → Side → Bool
-coversBySearch l f = not (some (boxCount l) (hasNan l f)) && not (gapOnFace l f)
+coversBySearch l f = not (any (boxCount l) (hasNan l f)) && not (gapOnFace l f)

@@ -3,8 +3,8 @@ ghost use mathlib.Core.Path.{_≡_};
 ghost use Prim.Native.Nat.{_<_, _≤_};
 ghost use lib.Ieee.{isNan};
 ghost use Rattle.base.specs.Choose.{choose};
-ghost use Rattle.base.specs.Every.{some};
-ghost use Rattle.cover.specs.Cover.{boxCount, numberAt, onFace, uPlace, u1, v1, hasNan, coversFace, fullFaces};
+ghost use Rattle.base.specs.Every.{any};
+ghost use Rattle.cover.specs.Cover.{boxCount, boxNumber, onFace, uPlace, u1, v1, hasNan, coversFace, fullFaces};
 ghost use Rattle.cover.specs.Gaps.{spans, hasPoint, isInner, gapAt, gapPast, gapOnLine, gapOnFace};
 
 // A horizontal side of a block, in the order of word 19's bits.
@@ -18,7 +18,7 @@ pub enum Side {
 // Number c of box k, of x0 y0 z0 x1 y1 z1.
 fn number(shape: &[f32], k: usize, c: usize) -> f32
     requires { ⌜ k < boxCount (now shape) ⌝ ∗ ⌜ c < 6 ⌝ }
-    ensures { λ r. ⌜ r ≡ numberAt (now (shape .entry)) k c ⌝ }
+    ensures { λ r. ⌜ r ≡ boxNumber (now (shape .entry)) k c ⌝ }
 {
     shape[k * 6 + c]
 }
@@ -77,7 +77,7 @@ fn has_nan(shape: &[f32], face: Side, k: usize) -> bool
 }
 
 fn nan_on_face(shape: &[f32], face: Side) -> bool
-    ensures { λ r. ⌜ r ≡ some (boxCount (now (shape .entry))) (hasNan (now (shape .entry)) face) ⌝ }
+    ensures { λ r. ⌜ r ≡ any (boxCount (now (shape .entry))) (hasNan (now (shape .entry)) face) ⌝ }
 {
     let n = shape.len() / 6;
     let mut k = 0;

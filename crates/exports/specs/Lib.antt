@@ -1,4 +1,5 @@
 -- The definitions of what a host hands over and is handed back as lent numbers.
-pub mod Moves
+pub mod Room
 pub mod Windows
 pub mod Ticks
+pub mod Currents

@@ -1,68 +1,70 @@
--- Currents and the step in lent numbers.
+-- The step in lent numbers: a body in the order of a scene file, 19 numbers and 6 words, and `places`, how many numbers there is room for in
+-- what is lent to be written to.
+use mathlib.Core.Bool.{Bool, _&&_}
 use mathlib.Core.List.{List, [], _∷_}
 use Prim.Native.Nat.{ℕ}
-use lib.Dec.{eqb}
+use lib.Dec.{eqb, leb}
 use lib.IntN.{pos}
 use lib.Ieee.{Float, binary64, ofInt}
 use Rattle.base.specs.Loop.{stored}
 use Rattle.base.specs.Choose.{choose}
-use Rattle.base.specs.Ask.{Ask, refused, found, _>>=_}
-use Rattle.boxes.specs.declared.Vec3.{Vec3}
-use Rattle.boxes.specs.Boxes.{fromFeet}
-use Rattle.tables.specs.Tables.{kindNumber, wordAt, floatAt}
-use Rattle.window.specs.declared.Pos.{Pos}
-use Rattle.window.specs.Look.{Block}
-use Rattle.liquids.specs.declared.Current.{Current}
-use Rattle.liquids.specs.Liquid.{liquidAsked}
-use Rattle.liquids.specs.Current.{itemCurrent}
-use Rattle.liquids.specs.Flotation.{cellAt}
-use Rattle.step.specs.declared.BodyNumbers.{BodyNumbers}
-use Rattle.step.specs.declared.Rules.{Rules}
-use Rattle.step.specs.declared.MotionNumbers.{MotionNumbers}
+use Rattle.base.specs.Ask.{Ask, _>>=_}
+use Rattle.tables.specs.Tables.{kindNumber, wordAt}
+use Rattle.bodies.specs.declared.BodyNumbers.{BodyNumbers}
+use Rattle.bodies.specs.declared.Rules.{Rules}
+use Rattle.bodies.specs.declared.MotionNumbers.{MotionNumbers}
+use Rattle.bodies.specs.Body.{bodyOf, motionOf}
+use Rattle.bodies.specs.Numbers.{numberAt, motionFrom, bodyFrom, rulesFrom, lengthsFit}
+use Rattle.bodies.specs.Limits.{numberRefusal}
+use Rattle.lent.specs.Lent.{lentRefusal}
+use Rattle.window.specs.declared.Window.{Window}
+use Rattle.window.specs.Look.{lookAt}
 use Rattle.step.specs.declared.StepAnswer.{StepAnswer}
-use Rattle.step.specs.Numbers.{motionFrom, bodyFrom, rulesFrom}
-use Rattle.exports.specs.Moves.{flagOf}
+use Rattle.ticks.specs.declared.Tick.{Tick}
+use Rattle.step.specs.Answers.{finiteTick, stepAnswer}
+use Rattle.ticks.specs.Step.{stepBodySensed}
+use Rattle.exports.specs.Room.{roomy}
+use Rattle.lent_steps.specs.Steps.{stepNumbers}
 
--- ---- currents
-
--- what the flows do to an item at these feet, of this width and height: the cell of its feet is asked for first, as the step does
-unfoldable pub currentAt : (Pos → Ask Block) → List ℕ → Vec3 → Float → Float → Ask Current
-currentAt look records feet width height = do
-  let foot : Pos = cellAt feet
-  state ← liquidAsked look records foot
-  itemCurrent look records (fromFeet feet width height) foot state
-
--- what it adds to the velocity, and 1.0 where there is water: four numbers
-abbrev pub currentNumbers : Current → List Float
-currentNumbers c = c .flow .x ∷ c .flow .y ∷ c .flow .z ∷ flagOf (c .water) ∷ []
-
-abbrev pub currentRefusal : Ask Current → ℕ
-currentRefusal (refused n) = n
-currentRefusal (found c) = 0
-
--- a refusal writes nothing
-abbrev pub currentWritten : List Float → Ask Current → List Float
-currentWritten out (refused n) = out
-currentWritten out (found c) = stored out 0 (currentNumbers c)
-
--- ---- the step: a body in the order of a scene file, 19 numbers and 6 words; what is not there is +0, or 0
+-- ---- what is handed over
 
 abbrev pub motionAt : List Float → List ℕ → MotionNumbers
-motionAt numbers words = motionFrom (floatAt numbers) (wordAt words 0)
+motionAt numbers words = motionFrom (numberAt numbers) (wordAt words 0)
 
 abbrev pub bodyAt : List Float → List ℕ → BodyNumbers
-bodyAt numbers words = bodyFrom (floatAt numbers) (wordAt words 0)
+bodyAt numbers words = bodyFrom (numberAt numbers) (wordAt words 0)
 
 abbrev pub rulesAt : List Float → List ℕ → Rules
-rulesAt numbers words = rulesFrom (floatAt numbers) (wordAt words 0)
+rulesAt numbers words = rulesFrom (numberAt numbers) (wordAt words 0)
 
--- feet, velocity, ground, and the liquid: 0 none, 1 water, 2 lava; eight numbers
-abbrev pub stepNumbers : StepAnswer → List Float
-stepNumbers a =
-    a .motion .feet .x ∷ a .motion .feet .y ∷ a .motion .feet .z
-    ∷ a .motion .velocity .x ∷ a .motion .velocity .y ∷ a .motion .velocity .z
-    ∷ ofInt binary64 (pos (a .motion .ground)) ∷ ofInt binary64 (pos (kindNumber (a .liquid))) ∷ []
+-- 3 for numbers or words that are not as many as a body's; else 3, then 4, for what they are; else 0
+unfoldable pub bodyRefusal : List ℕ → List Float → List ℕ → ℕ
+bodyRefusal records numbers words =
+    choose (lengthsFit numbers words) (numberRefusal records (rulesAt numbers words) (bodyAt numbers words) (motionAt numbers words)) 3
+
+-- lengths that fit, and room for eight numbers
+abbrev pub wholeBody : List Float → List ℕ → ℕ → Bool
+wholeBody numbers words places = lengthsFit numbers words && leb 8 places
+
+-- ---- the step: 1 and 2 (`lent`), 3, 4 and 11 in order, before any cell is asked for; then 5, 6 or 7 at the first such event; then 9
+
+abbrev pub tickAt : List ℕ → List Float → List ℕ → Window → List Float → List ℕ → ℕ → Ask Tick
+tickAt records shapes cells w numbers words age =
+    stepBodySensed (lookAt cells w) records shapes (rulesAt numbers words) (bodyOf (bodyAt numbers words)) (motionOf (motionAt numbers words)) age >>= finiteTick
+
+unfoldable pub steppedAt : ℕ → List ℕ → List Float → List ℕ → Window → List Float → List ℕ → ℕ → ℕ → StepAnswer
+steppedAt lent records shapes cells w numbers words age places =
+    stepAnswer (motionAt numbers words) (roomy lent (bodyRefusal records numbers words) (leb 8 places) (tickAt records shapes cells w numbers words age))
+
+abbrev pub stepAt : List ℕ → List Float → List ℕ → Window → List Float → List ℕ → ℕ → ℕ → StepAnswer
+stepAt records shapes cells w numbers words age places = steppedAt (lentRefusal records shapes cells w) records shapes cells w numbers words age places
+
+-- over tables and a window that were checked before
+abbrev pub checkedAt : List ℕ → List Float → List ℕ → Window → List Float → List ℕ → ℕ → ℕ → StepAnswer
+checkedAt records shapes cells w numbers words age places = steppedAt 0 records shapes cells w numbers words age places
+
+-- ---- what is handed back
 
 -- a refusal writes nothing: what the host has stays as it is
-unfoldable pub stepWritten : List Float → StepAnswer → List Float
-stepWritten out a = choose (eqb (a .refusal) 0) (stored out 0 (stepNumbers a)) out
+unfoldable pub answerWritten : List Float → StepAnswer → List Float
+answerWritten out a = choose (eqb (a .refusal) 0) (stored out 0 (stepNumbers a)) out

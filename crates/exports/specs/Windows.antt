@@ -1,19 +1,27 @@
--- The move through a window, in lent numbers.
-use mathlib.Core.Bool.{not}
+-- The move through a window, in lent numbers: `mover` is the box that moves and its delta, nine numbers, and `places` are how many numbers
+-- there is room for in what is lent to be written to.
+use mathlib.Core.Bool.{Bool, true, _&&_}
 use mathlib.Core.List.{List}
 use Prim.Native.Nat.{ℕ}
-use lib.Dec.{eqb}
-use lib.IntN.{ℤ}
+use lib.Dec.{eqb, leb, ltb}
+use lib.ListN.{length}
 use lib.Ieee.{Float}
-use Rattle.boxes.specs.declared.MoveAnswer.{MoveAnswer}
+use Rattle.sweeps.specs.declared.MoveAnswer.{MoveAnswer}
+use Rattle.lent.specs.Lent.{lentRefusal}
+use Rattle.lent_boxes.specs.Boxes.{vecAt, aabbAt}
+use Rattle.lent_boxes.specs.Moves.{moverRefusal}
 use Rattle.window.specs.declared.Window.{Window}
-use Rattle.moves.specs.Answers.{moveEntry}
-use Rattle.exports.specs.Moves.{vecAt, aabbAt}
+use Rattle.window.specs.Look.{lookAt}
+use Rattle.moves.specs.Answers.{moveAabb, moveAnswer}
+use Rattle.exports.specs.Room.{roomy}
 
-abbrev pub windowOf : ℤ → ℤ → ℤ → ℕ → ℕ → ℕ → Window
-windowOf ox oy oz sx sy sz = record { origin = record { x = ox; y = oy; z = oz }; sizes = record { x = sx; y = sy; z = sz } }
+-- lengths that fit, and room for ten numbers
+abbrev pub wholeMove : List Float → ℕ → ℕ → Bool
+wholeMove mover ground places = ltb ground 2 && (eqb (length mover) 9 && leb 10 places)
 
--- move_aabb; mover: the box that moves, and its delta, nine numbers
-abbrev pub moveAt : List ℕ → List Float → List ℕ → Window → List Float → Float → ℕ → MoveAnswer
-moveAt records shapes cells w mover step ground =
-    moveEntry records shapes cells w (aabbAt mover 0) (vecAt mover 6) step (not (eqb ground 0))
+-- move_aabb: 1, 2, 3, 4 and 11 in order, before any cell is asked for; then 5 or 6
+unfoldable pub moveAt : List ℕ → List Float → List ℕ → Window → List Float → Float → ℕ → ℕ → MoveAnswer
+moveAt records shapes cells w mover step ground places =
+    moveAnswer (aabbAt mover 0)
+    (roomy (lentRefusal records shapes cells w) (moverRefusal mover step ground true) (leb 10 places)
+    (moveAabb (lookAt cells w) records shapes (aabbAt mover 0) (vecAt mover 6) step (eqb ground 1)))

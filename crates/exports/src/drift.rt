@@ -1,20 +1,19 @@
 // Currents, in lent numbers.
-use crate::over::flag_of;
-use crate::over::put;
-use crate::over::put_vec;
-use crate::through::window_of;
 use boxes::Aabb;
 use boxes::Vec3;
+use lent_boxes::flag_of;
+use lent_boxes::put;
+use lent_boxes::put_vec;
 use liquids::Current;
-use liquids::Currents;
-use liquids::Held;
+use liquids::AskedCurrent;
+use flow::AskedLiquid;
 use window::Window;
 ghost use mathlib.Core.Path.{_≡_};
 ghost use Rattle.boxes.specs.Boxes.{vec};
 ghost use Rattle.window.specs.Look.{lookAt};
 ghost use Rattle.base.specs.Loop.{stored};
-ghost use Rattle.exports.specs.Windows.{windowOf};
-ghost use Rattle.exports.specs.Ticks.{currentAt, currentNumbers, currentRefusal, currentWritten};
+ghost use Rattle.window.specs.Numbers.{windowOf};
+ghost use Rattle.exports.specs.Currents.{currentAt, currentNumbers, currentRefusal, currentWritten};
 
 fn put_current(out: &mut [f64], c: Current)
     ensures { λ _. ⌜ now (out .exit) ≡ stored (now (out .entry)) 0 (currentNumbers c) ⌝ }
@@ -35,23 +34,23 @@ fn current_into(
     ensures { λ r. ⌜ r ≡ currentRefusal (currentAt (lookAt (now (cells .entry)) w) (now (records .entry)) feet width height) ⌝ }
     ensures { λ _. ⌜ now (out .exit) ≡ currentWritten (now (out .entry)) (currentAt (lookAt (now (cells .entry)) w) (now (records .entry)) feet width height) ⌝ }
 {
-    let foot = liquids::cell_at(feet);
-    let state = match liquids::liquid_at(records, cells, w, foot) {
-        Held::Refused(n) => return n,
-        Held::Is(s) => s,
+    let foot = ranges::cell_holding(feet);
+    let state = match flow::liquid_at(records, cells, w, foot) {
+        AskedLiquid::Refused(n) => return n,
+        AskedLiquid::Is(s) => s,
     };
     let aabb = Aabb::from_feet(feet, width, height);
     match liquids::item_current(records, cells, w, aabb, foot, state) {
-        Currents::Refused(n) => n,
-        Currents::Is(c) => {
+        AskedCurrent::Refused(n) => n,
+        AskedCurrent::Is(c) => {
             put_current(out, c);
             0
         }
     }
 }
 
-// What the currents add to the velocity of an item at the feet x, y, z, over tables and a window that were checked before. It writes four
-// numbers and returns 0, or writes nothing and returns 5 or 7.
+// What the currents add to the velocity of an item at the feet x, y, z, to be timed alone: over tables and a window that were checked before,
+// and any numbers. It writes four numbers, each where `out` has its place, and returns 0, or writes nothing and returns 5 or 7.
 #[no_mangle]
 pub extern "C" fn boltjuniper_item_current(
     records: &[u32],
@@ -72,6 +71,6 @@ pub extern "C" fn boltjuniper_item_current(
     ensures { λ r. ⌜ r ≡ currentRefusal (currentAt (lookAt (now (cells .entry)) (windowOf ox oy oz sx sy sz)) (now (records .entry)) (vec x y z) width height) ⌝ }
     ensures { λ _. ⌜ now (out .exit) ≡ currentWritten (now (out .entry)) (currentAt (lookAt (now (cells .entry)) (windowOf ox oy oz sx sy sz)) (now (records .entry)) (vec x y z) width height) ⌝ }
 {
-    let w = window_of(ox, oy, oz, sx, sy, sz);
+    let w = window::window_of(ox, oy, oz, sx, sy, sz);
     current_into(records, cells, w, Vec3 { x, y, z }, width, height, out)
 }

@@ -1,26 +1,30 @@
-// What a host in another language links: functions on numbers and lent slices of them.
+// What a host in another language links: functions on numbers and lent slices of them. Here are the order of their parameters, what is refused
+// of these, and how an answer is written; what they do stands in the crates below.
 mod drift;
+mod file;
 mod over;
+mod room;
 mod through;
 mod tick;
 
 pub use drift::boltjuniper_item_current;
+pub use file::boltjuniper_tick;
 pub use over::boltjuniper_move_over;
 pub use over::boltjuniper_move_over_list;
 pub use through::boltjuniper_move;
 pub use tick::boltjuniper_step;
 pub use tick::boltjuniper_step_checked;
 ghost use mathlib.Core.Path.{_≡_};
-ghost use Rattle.floats.specs.Numbers.{isFinite, answer};
+ghost use Rattle.floats.specs.Numbers.{isFinite, answerWhere};
 ghost use Rattle.floats.specs.Whole.{floorOf, ceilOf, cellOf};
 ghost use Rattle.floats.specs.Root.{hasRoot, rootOf};
-ghost use Rattle.tables.specs.Check.{tableRefusal};
+ghost use Rattle.table_check.specs.Check.{tableRefusal};
 
-// Floor, ceiling and root: a refusal hands back zero, as module 1 has it.
+// Floor, ceiling, root and cell, to be timed alone: a refusal hands back zero, as module 1 has it.
 
 #[no_mangle]
 pub extern "C" fn boltjuniper_floor(x: f64) -> f64
-    ensures { λ r. ⌜ r ≡ answer (isFinite x) (floorOf x) .value ⌝ }
+    ensures { λ r. ⌜ r ≡ answerWhere (isFinite x) (floorOf x) .value ⌝ }
 {
     let a = floats::floor(x);
     a.value
@@ -28,7 +32,7 @@ pub extern "C" fn boltjuniper_floor(x: f64) -> f64
 
 #[no_mangle]
 pub extern "C" fn boltjuniper_ceil(x: f64) -> f64
-    ensures { λ r. ⌜ r ≡ answer (isFinite x) (ceilOf x) .value ⌝ }
+    ensures { λ r. ⌜ r ≡ answerWhere (isFinite x) (ceilOf x) .value ⌝ }
 {
     let a = floats::ceil(x);
     a.value
@@ -36,7 +40,7 @@ pub extern "C" fn boltjuniper_ceil(x: f64) -> f64
 
 #[no_mangle]
 pub extern "C" fn boltjuniper_root(x: f64) -> f64
-    ensures { λ r. ⌜ r ≡ answer (hasRoot x) (rootOf x) .value ⌝ }
+    ensures { λ r. ⌜ r ≡ answerWhere (hasRoot x) (rootOf x) .value ⌝ }
 {
     let a = floats::sqrt(x);
     a.value
@@ -53,5 +57,5 @@ pub extern "C" fn boltjuniper_cell(x: f64) -> i32
 pub extern "C" fn boltjuniper_check_tables(records: &[u32], shapes: &[f32]) -> u32
     ensures { λ r. ⌜ r ≡ tableRefusal (now (records .entry)) (now (shapes .entry)) ⌝ }
 {
-    tables::check_tables(records, shapes)
+    table_check::check_tables(records, shapes)
 }

@@ -1,25 +1,20 @@
 // The move through a window, in lent numbers.
-use crate::over::aabb_at;
-use crate::over::move_into;
-use crate::over::vec_at;
-use window::Pos;
-use window::Sizes;
-use window::Window;
+use crate::room::short_of;
 ghost use mathlib.Core.Path.{_≡_};
-ghost use Rattle.exports.specs.Moves.{writtenBy};
-ghost use Rattle.exports.specs.Windows.{moveAt, windowOf};
+ghost use lib.ListN.{length};
+ghost use Rattle.window.specs.Numbers.{windowOf};
+ghost use Rattle.lent_boxes.specs.Boxes.{writtenBy};
+ghost use Rattle.exports.specs.Windows.{moveAt, wholeMove};
 
-pub(crate) fn window_of(ox: i32, oy: i32, oz: i32, sx: u32, sy: u32, sz: u32) -> Window
-    ensures { λ r. ⌜ r ≡ windowOf ox oy oz sx sy sz ⌝ }
+fn whole_move(mover: &[f64], ground: u32, places: usize) -> bool
+    ensures { λ r. ⌜ r ≡ wholeMove (now (mover .entry)) ground places ⌝ }
 {
-    Window {
-        origin: Pos { x: ox, y: oy, z: oz },
-        sizes: Sizes { x: sx, y: sy, z: sz },
-    }
+    (ground < 2) & ((mover.len() == 9) & (places >= 10))
 }
 
-// The move of a box through a window, for a host: `mover` is the box and its delta, nine numbers, and `ground` is not 0 where the body was
-// on the ground. It writes ten numbers and returns 0, or writes nothing and returns 1 to 6.
+// The move of a box through a window, for a host: `mover` is the box and its delta, nine numbers, and `ground` is 1 where the body was on the
+// ground, else 0. It writes ten numbers and returns 0, or writes nothing and returns 1 to 4, 11, 5 or 6. Where lengths fit and there is room
+// the move itself finds 1 to 4, so that nothing is looked at twice.
 #[no_mangle]
 pub extern "C" fn boltjuniper_move(
     records: &[u32],
@@ -36,14 +31,17 @@ pub extern "C" fn boltjuniper_move(
     ground: u32,
     out: &mut [f64],
 ) -> u32
-    ensures { λ r. ⌜ r ≡ moveAt (now (records .entry)) (now (shapes .entry)) (now (cells .entry)) (windowOf ox oy oz sx sy sz) (now (mover .entry)) step ground .refusal ⌝ }
-    ensures { λ _. ⌜ now (out .exit) ≡ writtenBy (now (out .entry)) (moveAt (now (records .entry)) (now (shapes .entry)) (now (cells .entry)) (windowOf ox oy oz sx sy sz) (now (mover .entry)) step ground) ⌝ }
+    ensures { λ r. ⌜ r ≡ moveAt (now (records .entry)) (now (shapes .entry)) (now (cells .entry)) (windowOf ox oy oz sx sy sz) (now (mover .entry)) step ground (length (now (out .entry))) .refusal ⌝ }
+    ensures { λ _. ⌜ now (out .exit) ≡ writtenBy (now (out .entry)) (moveAt (now (records .entry)) (now (shapes .entry)) (now (cells .entry)) (windowOf ox oy oz sx sy sz) (now (mover .entry)) step ground (length (now (out .entry)))) ⌝ }
 {
-    let w = window_of(ox, oy, oz, sx, sy, sz);
-    let aabb = aabb_at(mover, 0);
-    let delta = vec_at(mover, 6);
-    move_into(
-        out,
-        moves::move_aabb(records, shapes, cells, w, aabb, delta, step, ground != 0),
-    )
+    let w = window::window_of(ox, oy, oz, sx, sy, sz);
+    if whole_move(mover, ground, out.len()) {
+        let aabb = lent_boxes::first_box(mover);
+        let delta = bodies::vec_from(mover, 6);
+        let a = view::move_window(records, shapes, cells, w, aabb, delta, step, ground == 1);
+        return lent_boxes::move_into(out, a);
+    }
+    let first = lent::check_lent(records, shapes, cells, w);
+    let early = lent_boxes::mover_refusal(mover, step, ground, true);
+    short_of(first, early)
 }

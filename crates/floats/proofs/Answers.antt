@@ -7,25 +7,25 @@ use lib.Dec.{T}
 use lib.Ieee.{Float}
 use Rattle.base.specs.Choose.{choose}
 use Rattle.floats.specs.declared.Answer.{Answer}
-use Rattle.floats.specs.Numbers.{answer}
+use Rattle.floats.specs.Numbers.{answerWhere}
 
 pub passed : (ok r : Bool) → r ≡ ok → r ≡ true → T ok
 passed ok r e h = subst T (sym (sym e ∙ h)) tt
 
-pub taken : (ok : Bool) (v w : Float) (a : Answer) → a ≡ answer true v → ok ≡ true → v ≡ w → a ≡ answer ok w
-taken ok v w a e t h = e ∙ ap (answer true) h ∙ ap (λ (b : Bool). answer b w) (sym t)
+pub taken : (ok : Bool) (v w : Float) (a : Answer) → a ≡ answerWhere true v → ok ≡ true → v ≡ w → a ≡ answerWhere ok w
+taken ok v w a e t h = e ∙ ap (answerWhere true) h ∙ ap (λ (b : Bool). answerWhere b w) (sym t)
 
-pub turned-away : (ok : Bool) (v w : Float) (a : Answer) → a ≡ answer false v → ok ≡ false → a ≡ answer ok w
+pub turned-away : (ok : Bool) (v w : Float) (a : Answer) → a ≡ answerWhere false v → ok ≡ false → a ≡ answerWhere ok w
 unfolding choose
-turned-away ok v w a e t = e ∙ ap (λ (b : Bool). answer b w) (sym t)
+turned-away ok v w a e t = e ∙ ap (λ (b : Bool). answerWhere b w) (sym t)
 
 -- what the refusal's number tells of the test
-pub was-taken : (ok : Bool) (v : Float) (a : Answer) → a ≡ answer ok v → a .refusal ≡ 0 → (ok ≡ true) × (a .value ≡ v)
+pub was-taken : (ok : Bool) (v : Float) (a : Answer) → a ≡ answerWhere ok v → a .refusal ≡ 0 → (ok ≡ true) × (a .value ≡ v)
 unfolding choose
 was-taken true v a e h = (refl, ap (λ (b : Answer). b .value) e)
 was-taken false v a e h = absurd (let z : _≡_ {A = ℕ} 4 0 = sym (ap (λ (b : Answer). b .refusal) e) ∙ h in omega arith)
 
-pub was-turned-away : (ok : Bool) (v : Float) (a : Answer) → a ≡ answer ok v → (a .refusal ≡ 0 → ⊥) → ok ≡ false
+pub was-turned-away : (ok : Bool) (v : Float) (a : Answer) → a ≡ answerWhere ok v → (a .refusal ≡ 0 → ⊥) → ok ≡ false
 unfolding choose
 was-turned-away true v a e h = absurd (h (ap (λ (b : Answer). b .refusal) e))
 was-turned-away false v a e h = refl

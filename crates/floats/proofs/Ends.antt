@@ -1,11 +1,10 @@
 -- What the tests at the head of `sqrt` say of x. Assumes nothing.
 use mathlib.Core.Path.{_≡_, refl, sym, ap, subst, _∙_}
-use Prim.Native.Nat.{ℕ, zero, suc, _+_, _-_, _*_, _/_, _%_, _^_, _≤_, _<_}
-use native.Mathlib.Nat.{zero-mul}
+use Prim.Native.Nat.{ℕ, zero, suc, _*_, _<_}
 use native.Mathlib.Omega.{arith}
-use mathlib.Core.Bool.{Bool, true, false, not, _&&_, _||_, Bool·beq}
-use lib.IntN.{ℤ, pos, negsuc}
-use lib.Dec.{T, ltb, eqb, ltb→lt, lt→ltb, eqb→eq}
+use mathlib.Core.Bool.{Bool, true, false, _||_, Bool·beq}
+use lib.IntN.{ℤ, pos}
+use lib.Dec.{T, eqb, ltb→lt, lt→ltb, eqb→eq}
 use lib.Ieee.{Float, nan, inf, fin, up, down, eq, lt, level}
 use lib.Ieee.Fits.{up-pos, and-l}
 use Rattle.floats.specs.Root.{hasRoot, rootOf}

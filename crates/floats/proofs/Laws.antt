@@ -1,23 +1,27 @@
 -- What the definitions of `specs/Whole.antt` come to: floor and ceiling are the whole numbers next to x (`floor-greatest`, `ceil-least`), exactly,
--- there is one such number (`brackets-one`), and worked examples. Assumes nothing.
+-- there is one such number (`brackets-one`), `cellOf` and `ceilingOf` are the same numbers as integers (`cell-is`, `ceiling-is`), and worked
+-- examples. Assumes nothing.
 use mathlib.Core.Path.{_≡_, refl, sym, ap, _∙_, subst}
-use Prim.Native.Nat.{ℕ, zero, suc, _+_, _-_, _*_, _/_, _%_, _^_, _≤_, _<_}
-use native.Mathlib.Nat.{div-mul-le-self, lt-div-mul-add, div-one, div-le-self, le-trans, le-of-eq, le-of-lt, mul-one, add-zero, div-lt-iff-lt-mul, le-of-suc-le-suc, suc-mul, le-mul-of-pos-right, mul-le-mul-right}
+use Prim.Native.Nat.{ℕ, zero, suc, _+_, _-_, _*_, _/_, _^_, _≤_, _<_}
+use native.Mathlib.Nat.{zero-lt-suc, div-mul-le-self, lt-div-mul-add, div-one, div-le-self, le-trans, le-of-eq, le-of-lt, mul-one, add-zero, div-lt-iff-lt-mul, le-of-suc-le-suc, suc-mul, le-mul-of-pos-right, mul-le-mul-right}
 use native.Mathlib.Decide.{decLe}
 use native.Mathlib.Omega.{arith}
-use mathlib.Core.Bool.{Bool, true, false, not}
-use lib.IntN.{ℤ, pos, negsuc}
-use lib.Dec.{T}
+use mathlib.Core.Bool.{Bool, true, false, not, _&&_, _||_, Bool·beq}
+use lib.IntN.{ℤ, pos, negsuc, negℤ, negℤ-negℤ, +ℤ-idl}
+use lib.Dec.{T, eqb, lit≤}
 use lib.Pow.{pow-pos}
-use lib.Ieee.{Float, nan, inf, fin, binary64, up, down, round, fits}
+use lib.Ieee.{Float, nan, inf, fin, binary64, up, down, round, neg, eq, ofInt, fits}
 use lib.Ieee.Fits.{down-pos}
 use lib.Ieee.Exact.{HasValue}
 use lib.Ieee.Back.{round-whole}
 use Rattle.base.specs.Choose.{choose}
-use Rattle.base.proofs.Values.{round-back}
-use Rattle.floats.specs.Whole.{floorSize, floorOf, ceilOf, floorInt, cellOf, wholeF}
+use borrow.Author.Tests.{eq-eqb}
+use Rattle.base.proofs.Every.{and-true}
+use Rattle.base.proofs.Values.{round-back, eq-common}
+use Rattle.floats.specs.Whole.{floorSize, ceilSize, floorOf, ceilOf, signedOf, floorInt, cellOf, ceilingOf, wholeF}
 use Rattle.floats.specs.Root.{rootOf, rootRaised, rootFrom, nearestFrom}
 use Rattle.floats.proofs.Rounding.{small}
+use Rattle.floats.proofs.Cells.{within, inReach, reached, size-reach, cell-in-reach}
 
 -- n is the size of the greatest whole number that is not above a / c; for the sign true, not above -(a / c): then -n ≤ -a / c < -n + 1
 pub Brackets : Bool → ℕ → ℕ → ℕ → Type 0
@@ -83,6 +87,47 @@ pub ceil-least : (s : Bool) (m : ℕ) (e : ℤ) → T (fits binary64 (fin s m e)
 unfolding ceilOf
 ceil-least s m e h = record { n = floorSize (not s) (m * up e) (down e); value = exact s (not s) m e h; next = brackets (not s) (m * up e) (down e) (down-pos e) }
 
+-- ---- the cell and the ceiling as integers are the floats' own whole numbers: equal as IEEE 754 has it, which is up to the sign of zero
+same-level : (s : Bool) (n : ℕ) → eqb n n && (Bool·beq s s || eqb n 0) ≡ true
+same-level true n = and-true (eqb n n) true (eq-eqb n n refl) refl
+same-level false n = and-true (eqb n n) true (eq-eqb n n refl) refl
+
+whole-int : (s : Bool) (n : ℕ) → n ≤ 2 ^ 53 → eq (ofInt binary64 (signedOf s n)) (wholeF s n) ≡ true
+unfolding ofInt
+whole-int false n h = eq-common (wholeF false n) (wholeF false n) false n false n 1 (zero-lt-suc 0) (round-whole binary64 false n h) (round-whole binary64 false n h) ∙ same-level false n
+whole-int true zero h = eq-common (wholeF false 0) (wholeF true 0) false 0 true 0 1 (zero-lt-suc 0) (round-whole binary64 false 0 h) (round-whole binary64 true 0 h)
+whole-int true (suc n) h =
+    eq-common (wholeF true (suc n)) (wholeF true (suc n)) true (suc n) true (suc n) 1 (zero-lt-suc 0) (round-whole binary64 true (suc n) h) (round-whole binary64 true (suc n) h)
+    ∙ same-level true (suc n)
+
+whole-reach : (t s : Bool) (m : ℕ) (e : ℤ) → T (inReach (fin s m e)) → floorSize t (m * up e) (down e) ≤ 2 ^ 53
+whole-reach t s m e h = le-trans (size-reach t (m * up e) (down e) (down-pos e) (reached s m e h)) (lit≤ tt)
+
+floor-int : (x : Float) → T (inReach x) → eq (ofInt binary64 (floorInt x)) (floorOf x) ≡ true
+unfolding floorInt floorOf
+floor-int nan t = unfold within in absurd t
+floor-int (inf s) t = unfold within in absurd t
+floor-int (fin s m e) t = whole-int s (floorSize s (m * up e) (down e)) (whole-reach s s m e t)
+
+pub cell-is : (x : Float) → T (inReach x) → eq (ofInt binary64 (cellOf x)) (floorOf x) ≡ true
+cell-is x t = ap (λ (i : ℤ). eq (ofInt binary64 i) (floorOf x)) (sym (cell-in-reach x t)) ∙ floor-int x t
+
+turned : (s : Bool) (n : ℕ) → negℤ (signedOf (not s) n) ≡ signedOf s n
+turned true n = refl
+turned false n = negℤ-negℤ (pos n)
+
+ceiling-at : (s : Bool) (m : ℕ) (e : ℤ) → T (inReach (fin s m e)) → ceilingOf (fin s m e) ≡ signedOf s (ceilSize s (m * up e) (down e))
+unfolding neg floorInt within
+ceiling-at s m e t = +ℤ-idl (negℤ (cellOf (fin (not s) m e))) ∙ ap negℤ (sym (cell-in-reach (fin (not s) m e) t)) ∙ turned s (ceilSize s (m * up e) (down e))
+
+pub ceiling-is : (x : Float) → T (inReach x) → eq (ofInt binary64 (ceilingOf x)) (ceilOf x) ≡ true
+unfolding ceilOf
+ceiling-is nan t = unfold within in absurd t
+ceiling-is (inf s) t = unfold within in absurd t
+ceiling-is (fin s m e) t =
+    ap (λ (i : ℤ). eq (ofInt binary64 i) (ceilOf (fin s m e))) (ceiling-at s m e t)
+    ∙ whole-int s (ceilSize s (m * up e) (down e)) (whole-reach (not s) s m e t)
+
 -- ---- worked examples
 
 -- -0.25, -1, -0, and the largest half
@@ -105,6 +150,15 @@ largest-half = refl
 ceil-quarter : ceilOf (fin true 1 (negsuc 1)) ≡ fin true 0 (pos 0)
 unfolding ceilOf floorSize round
 ceil-quarter = refl
+
+-- -0.25 as an integer, and 2.5
+ceiling-quarter : ceilingOf (fin true 1 (negsuc 1)) ≡ pos 0
+unfolding cellOf choose floorInt floorSize lib.Ieee.neg lib.Ieee.le lib.Ieee.lt lib.Ieee.eq
+ceiling-quarter = refl
+
+ceiling-above : ceilingOf (fin false 5 (negsuc 0)) ≡ pos 3
+unfolding cellOf choose floorInt floorSize lib.Ieee.neg lib.Ieee.le lib.Ieee.lt lib.Ieee.eq
+ceiling-above = refl
 
 -- the cell of -2.5, and of what no window holds
 cell-below : cellOf (fin true 5 (negsuc 0)) ≡ negsuc 2

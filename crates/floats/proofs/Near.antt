@@ -1,18 +1,17 @@
 -- From the whole-number root to the contract of `sqrt`. x, r and y are X / L, R / L and Y / L, in units of 1 / L, with L = 2 ^ 1074. Assumes nothing.
 use mathlib.Core.Path.{_≡_, refl, sym, ap, subst, _∙_}
-use mathlib.Core.Logic.{_⊎_, inl, inr}
-use Prim.Native.Nat.{ℕ, zero, suc, _+_, _-_, _*_, _/_, _%_, _^_, _≤_, _<_}
-use native.Mathlib.Nat.{mul-pos, mul-le-mul-left, mul-le-mul-right, le-trans, le-of-eq, le-of-lt, lt-of-lt-of-le, lt-of-le-of-lt, lt-of-mul-lt-mul-right, mul-lt-mul-of-pos-right, zero-lt-suc}
+use Prim.Native.Nat.{ℕ, zero, suc, _+_, _*_, _^_, _≤_, _<_}
+use native.Mathlib.Nat.{mul-pos, mul-le-mul-left, mul-le-mul-right, le-trans, le-of-eq, lt-of-lt-of-le, lt-of-le-of-lt, lt-of-mul-lt-mul-right, mul-lt-mul-of-pos-right}
 use native.Mathlib.Decide.{decLe}
 use native.Mathlib.Omega.{arith}
-use mathlib.Core.Bool.{Bool, true, false}
-use lib.IntN.{ℤ, pos, negsuc}
-use lib.Dec.{T, lit≤, lit<}
+use mathlib.Core.Bool.{false}
+use lib.IntN.{ℤ}
+use lib.Dec.{T, lit<}
 use lib.Pow.{pow-pos}
-use lib.Ieee.{Float, fin, binary64, up, down, fits, ofBits, toBits}
+use lib.Ieee.{Float, fin, binary64, up, down, fits}
 use lib.Ieee.Fits.{down-pos}
 use lib.Ieee.Exact.{HasValue}
-use lib.Ieee.Positive.{num, den, den-pos, positive, value→cross, positive-of-value}
+use lib.Ieee.Positive.{num, den, den-pos, value→cross, positive-of-value}
 use Rattle.floats.specs.Root.{Root, MidBelow, MidAbove}
 use Rattle.floats.specs.Steps.{Nearest, Scaled}
 use Rattle.floats.proofs.Halves.{square-lt}
@@ -162,7 +161,7 @@ under n j m (suc a) k h lo l g =
 -- ---- the result
 
 -- v is the nearest root of x = fin false (suc m) e, which is U units, where v is q * 2 ^ k units
-module _ (m : ℕ) (e : ℤ) (U : ℕ) (units : suc m * up e * 2 ^ 1074 ≡ U * down e) (M q k : ℕ) (B : Scaled U M q k) (v : Float) (val : HasValue v false (q * 2 ^ k) (2 ^ 1074)) where
+module _ (m : ℕ) (e : ℤ) (U : ℕ) (units : suc m * up e * 2 ^ 1074 ≡ U * down e) (M q k : ℕ) (B : Scaled U M q k) (v : Float) (held : T (fits binary64 v)) (val : HasValue v false (q * 2 ^ k) (2 ^ 1074)) where
   lo : 2 ^ 52 ≤ q
   lo = nearest-low M q (B .low) (B .root)
 
@@ -189,6 +188,7 @@ module _ (m : ℕ) (e : ℤ) (U : ℕ) (units : suc m * up e * 2 ^ 1074 ≡ U * 
 
   pub root-is : Root (fin false (suc m) e) v
   root-is = record {
+    held = held;
     is = positive-of-value v (q * 2 ^ k) (2 ^ 1074) val (mul-pos (lt-of-lt-of-le (lit< tt) lo) (pow-pos k));
     less = λ n d f. let u = in-units n d f in is-less n (u .0) d (u .1) (u .2);
     more = λ n d f. let u = in-units n d f in is-more n (u .0) d (u .1) (u .2);

@@ -2,7 +2,7 @@
 use mathlib.Core.Path.{_≡_, refl, sym, ap, subst, _∙_}
 use mathlib.Core.Logic.{_⊎_, inl, inr}
 use Prim.Native.Nat.{ℕ, zero, suc, _+_, _-_, _*_, _/_, _%_, _^_, _≤_, _<_}
-use native.Mathlib.Nat.{mul-one, mul-assoc, mul-comm, pow-suc, pow-succ', le-trans, le-of-eq, le-of-lt, lt-of-lt-of-le, lt-of-le-of-lt, lt-irrefl, eq-or-lt-of-le, lt-of-not-le, le-of-suc-le-suc, mul-lt-mul-of-pos-right, mul-le-mul-left, mul-le-mul-right}
+use native.Mathlib.Nat.{mul-one, mul-assoc, pow-succ', le-of-eq, le-of-lt, lt-of-lt-of-le, lt-irrefl, eq-or-lt-of-le, lt-of-not-le, mul-le-mul-left}
 use native.Mathlib.Decide.{decLe}
 use native.Mathlib.Omega.{arith}
 use mathlib.Core.Bool.{Bool, true, false, not}
@@ -12,12 +12,12 @@ use lib.Pow.{pow-add, pow-pos, pow-mono, pow-lt, shl-lt}
 use lib.Ieee.{Float, nan, inf, fin, binary64, up, down, round, fits}
 use lib.Ieee.Fits.{down-pos, round-fits}
 use lib.Ieee.Exact.{HasValue, round-exact}
-use lib.Ieee.Positive.{num, den, positive}
+use lib.Ieee.Positive.{num, den}
 use Rattle.base.specs.Choose.{choose}
-use Rattle.base.proofs.Values.{value-unique, fitting, Fitting, divides, Divides}
-use Rattle.floats.specs.Root.{Root, MidBelow, MidAbove, rootFrom, nearestFrom, nearestRoot, rootRaised, squaresExp, rootOf}
+use Rattle.base.proofs.Values.{value-unique, fitting, Fitting}
+use Rattle.floats.specs.Root.{Root, rootFrom, nearestFrom, nearestRoot, rootRaised, squaresExp, rootOf}
 use Rattle.floats.specs.Steps.{Nearest, Scaled}
-use Rattle.floats.proofs.Shift.{nearest-low, nearest-high}
+use Rattle.floats.proofs.Shift.{nearest-high}
 use Rattle.floats.proofs.Near.{root-is}
 use Rattle.floats.proofs.Unique.{unique}
 
@@ -197,35 +197,35 @@ exactly U M q k B = go (eq-or-lt-of-le (nearest-high M q (B .high) (B .root)))
         (ap (λ (x : ℕ). x * 2 ^ k * 2 ^ 1074) z ∙ ap (λ (x : ℕ). x * 2 ^ 1074) (double (2 ^ k) ∙ ap (λ (x : ℕ). 2 ^ 52 * x) (sym (pow-succ' 2 k))))
     go (inr l) = round-exact binary64 false (q * 2 ^ k) (2 ^ 1074) q k (pow-pos 1074) l (under q k l (le-of-lt (B .small))) refl
 
+root-fits : (m : ℕ) (e : ℤ) → T (fits binary64 (fin false (suc m) e)) → T (fits binary64 (rootOf (fin false (suc m) e)))
+root-fits m e t =
+    let r = root-raised m e (fitting binary64 false m e t) in
+    subst (λ (v : Float). T (fits binary64 v)) (sym (r .value)) (round-fits binary64 false (r .q * 2 ^ r .k) (2 ^ 1074))
+
 pub root-nearest : (m : ℕ) (e : ℤ) → T (fits binary64 (fin false (suc m) e)) → Root (fin false (suc m) e) (rootOf (fin false (suc m) e))
 root-nearest m e t =
     let F = fitting binary64 false m e t in
     let u = in-units m e F in
     let r = root-raised m e F in
-    root-is m e (u .U) (u .units) (r .M) (r .q) (r .k) (r .is) (rootOf (fin false (suc m) e))
+    root-is m e (u .U) (u .units) (r .M) (r .q) (r .k) (r .is) (rootOf (fin false (suc m) e)) (root-fits m e t)
     (subst (λ (v : Float). HasValue v false (r .q * 2 ^ r .k) (2 ^ 1074)) (sym (r .value)) (exactly (u .U) (r .M) (r .q) (r .k) (r .is)))
 
-pub root-fits : (m : ℕ) (e : ℤ) → T (fits binary64 (fin false (suc m) e)) → T (fits binary64 (rootOf (fin false (suc m) e)))
-root-fits m e t =
-    let r = root-raised m e (fitting binary64 false m e t) in
-    subst (λ (v : Float). T (fits binary64 v)) (sym (r .value)) (round-fits binary64 false (r .q * 2 ^ r .k) (2 ^ 1074))
-
 -- ---- one answer
-pub root-unique : (x r s : Float) → T (fits binary64 r) → T (fits binary64 s) → Root x r → Root x s → r ≡ s
-root-unique x nan s f g R S = absurd (R .is)
-root-unique x (inf b) s f g R S = absurd (R .is)
-root-unique x (fin true n d) s f g R S = absurd (R .is)
-root-unique x (fin false n d) nan f g R S = absurd (S .is)
-root-unique x (fin false n d) (inf b) f g R S = absurd (S .is)
-root-unique x (fin false n d) (fin true k c) f g R S = absurd (S .is)
-root-unique x (fin false n d) (fin false k c) f g R S =
-    value-unique binary64 (fin false n d) (fin false k c) false (n * up d) (down d) (down-pos d) f g (refl, refl) (refl, same)
+pub root-unique : (x r s : Float) → Root x r → Root x s → r ≡ s
+root-unique x nan s R S = absurd (R .is)
+root-unique x (inf b) s R S = absurd (R .is)
+root-unique x (fin true n d) s R S = absurd (R .is)
+root-unique x (fin false n d) nan R S = absurd (S .is)
+root-unique x (fin false n d) (inf b) R S = absurd (S .is)
+root-unique x (fin false n d) (fin true k c) R S = absurd (S .is)
+root-unique x (fin false n d) (fin false k c) R S =
+    value-unique binary64 (fin false n d) (fin false k c) false (n * up d) (down d) (down-pos d) (R .held) (S .held) (refl, refl) (refl, same)
   where
     between : (a b : ℕ) → (a < b → ⊥) → (b < a → ⊥) → b ≡ a
     between a b h l = omega arith
 
     same : k * up c * down d ≡ n * up d * down c
-    same = between (n * up d * down c) (k * up c * down d) (unique x n k d c f g R S) (unique x k n c d g f S R)
+    same = between (n * up d * down c) (k * up c * down d) (unique x n k d c R S) (unique x k n c d S R)
 
 -- the half-way point of the root and another f64 is never the exact root
 pub no-tie : (x r : Float) (n : ℕ) (d : ℤ) → Root x r → T (fits binary64 (fin false n d)) → (n * up d * den r ≡ num r * down d → ⊥)

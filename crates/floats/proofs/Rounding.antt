@@ -1,4 +1,4 @@
--- The steps of `floor_finite`, on plain values: a is m * up e and c is down e, so that the size of x is a / c. Assumes nothing.
+-- The steps of `far_floor`, on plain values: a is m * up e and c is down e, so that the size of x is a / c. Assumes nothing.
 use mathlib.Core.Path.{_≡_, refl, sym, ap, _∙_, subst}
 use Prim.Native.Nat.{ℕ, zero, suc, _+_, _-_, _*_, _/_, _%_, _^_, _≤_, _<_, compare}
 use native.Mathlib.Nat.{le-of-eq, le-trans, le-of-lt, lt-of-le-of-lt, zero-lt-suc, add-zero, mul-one, one-mul, zero-mul, mod-le, mod-lt, mod-one, div-le-self, div-add-mod', mul-add-div-right, div-eq-of-lt, eq-of-mul-eq-mul-right, add-mul}
@@ -8,11 +8,11 @@ use lib.IntN.{ℤ, pos, negsuc}
 use lib.Dec.{T, ltb, eqb, eqb→eq, ltb→lt}
 use lib.Pow.{pow-pos}
 use lib.Ieee.{Float, nan, inf, fin, Format, binary64, prec, emax, low, up, down, size, nearest, odd, units, round, neg, sub, sum, rem, eq, lt, fits}
-use lib.Ieee.Fits.{up-pos, down-pos, and-l}
+use lib.Ieee.Fits.{down-pos, and-l}
 use lib.Ieee.Exact.{HasValue}
 use lib.Ieee.Back.{round-whole}
 use lib.Ieee.Scale.{round-same}
-use borrow.Author.Tests.{ltb-false, lt-ltb, le-ltb, eq-eqb}
+use borrow.Author.Tests.{ltb-false, le-ltb, eq-eqb}
 use Rattle.floats.specs.Numbers.{isFinite}
 use Rattle.floats.specs.Whole.{floorSize, floorOf, ceilOf}
 use Rattle.base.proofs.Values.{fitting, zero-exp, round-small, round-back, sub-common}
@@ -177,7 +177,7 @@ next-size a c C n = ap (λ (x : ℕ). x / c) (moved a (a / c * c) (a % c) c ((a 
     last : (r c : ℕ) → r < c → r - 1 < c
     last r c h = omega arith
 
--- ---- the three ways out of `floor_finite`
+-- ---- the three ways out of `far_floor`
 pub whole-is : (s : Bool) (m : ℕ) (e : ℤ) → T (fits binary64 (fin s m e)) → m * up e % down e ≡ 0 → fin s m e ≡ floorOf (fin s m e)
 unfolding floorOf
 whole-is s m e t z =
@@ -206,7 +206,7 @@ high-floor (fin true m e) i t h l =
     absurd (true≢false (not-below-zero (rem binary64 (fin true m e) oneF) true (m * up e % down e) (down e) (rem-val binary64 true m e t) l
     (not-zero (rem binary64 (fin true m e) oneF) true (m * up e % down e) (down e) (down-pos e) (rem-val binary64 true m e t) h)))
 
--- ---- `ceil_finite`
+-- ---- `ceil`: the floor of -x, turned round
 neg-odd : (d : ℕ) (s : Bool) (q k l : ℕ) → neg (odd d (not s) q k l) ≡ odd d s q k l
 unfolding neg odd
 neg-odd d true zero k l = refl

@@ -1,10 +1,9 @@
 -- What `root_at` does with a number m * 2 ^ k of the smallest number's units: m's highest bit is brought to bit 52, and the exponent is halved. Assumes nothing.
 use mathlib.Core.Path.{_≡_, refl, sym, ap, subst, _∙_}
-use Prim.Native.Nat.{ℕ, zero, suc, _+_, _-_, _*_, _/_, _%_, _^_, _≤_, _<_}
-use native.Mathlib.Nat.{mul-le-mul-left, mul-le-mul-right, le-trans, le-of-lt, le-of-eq, lt-of-not-le, lt-of-lt-of-le, lt-of-le-of-lt, lt-irrefl, not-le-of-lt, mul-assoc, mod-eq-of-lt, mul-lt-mul-of-pos-right}
+use Prim.Native.Nat.{ℕ, suc, _+_, _-_, _*_, _/_, _%_, _^_, _≤_, _<_}
+use native.Mathlib.Nat.{mul-le-mul-left, mul-le-mul-right, le-trans, le-of-lt, le-of-eq, lt-of-not-le, lt-of-lt-of-le, lt-of-le-of-lt, not-le-of-lt, mul-assoc, mod-eq-of-lt, mul-lt-mul-of-pos-right}
 use native.Mathlib.Omega.{arith}
 use lib.Pow.{pow-add, pow-mono, pow-pos, shl-lt}
-use lib.Dec.{lit<}
 use lib.Count.{leadingZeros, leading-top}
 use Rattle.floats.specs.Steps.{Nearest, RootBits}
 

@@ -1,12 +1,11 @@
 -- The ways out of `magnitude` and `is_finite`, on plain values. Assumes nothing.
-use mathlib.Core.Path.{_≡_, refl, sym, ap, _∙_}
+use mathlib.Core.Path.{_≡_, refl, sym, ap}
 use Prim.Native.Nat.{ℕ, zero, suc, _*_, _<_}
-use mathlib.Core.Bool.{Bool, true, false, true≢false, false≢true}
-use lib.IntN.{ℤ, pos}
+use mathlib.Core.Bool.{true, false, true≢false, false≢true}
+use lib.IntN.{ℤ}
 use lib.Dec.{T}
 use lib.Ieee.{Float, nan, inf, fin, binary64, up, down, neg, eq, lt, fits}
 use lib.Ieee.Fits.{up-pos, down-pos}
-use lib.Ieee.Exact.{HasValue}
 use native.Mathlib.Nat.{zero-lt-suc, mul-pos}
 use native.Mathlib.Omega.{arith}
 use Rattle.floats.specs.Numbers.{isFinite, sizeOf}

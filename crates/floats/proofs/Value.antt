@@ -7,15 +7,14 @@ use lib.Pow.{pow-pos}
 use lib.Ieee.Fits.{up-pos}
 use native.Mathlib.Omega.{arith}
 use mathlib.Core.Bool.{Bool, true, false, not, cond}
-use lib.IntN.{ℤ, pos, negsuc}
+use lib.IntN.{ℤ}
 use lib.Dec.{T, leb, ltb, eqb, eqb→eq, nleb→lt, not-T, lit<, ltb→lt}
 use lib.Arith.{lt→nleb}
-use lib.Ieee.{Float, nan, inf, fin, binary64, up, down, odd, ofFields, ofBits, toBits, fits, isNan, nanBits}
+use lib.Ieee.{Float, nan, inf, fin, binary64, up, down, odd, ofFields, ofBits, toBits, fits, nanBits}
 use lib.Ieee.Bits.{ofBits-toBits, toBits-lt, is-false, nanBits-above}
 use lib.Ieee.Exact.{HasValue, odd-sign}
 use lib.Ieee.Scale.{finite}
-use Rattle.floats.specs.Steps.{unitsAt, unitsOf, RootBits}
-use Rattle.floats.proofs.Shift.{nearest-low, nearest-high, bits-le}
+use Rattle.floats.specs.Steps.{unitsAt, unitsOf}
 
 no-number : (b s : Bool) (m : ℕ) (e : ℤ) → cond b (inf s) nan ≡ fin false (suc m) e → ⊥
 no-number true s m e p = subst (λ (y : Float). T (finite y)) (sym p) tt

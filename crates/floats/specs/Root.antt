@@ -1,5 +1,4 @@
--- The square root: `rootOf` computes it, `Root` says what it is, and `proofs/Nearest.antt` shows that `Root` holds of `rootOf` and of nothing else.
-use mathlib.Core.Path.{_≡_}
+-- The square root: `rootOf` computes it, `Root` says what it is, and `proofs/Roots.antt` shows that `Root` holds of `rootOf` and of nothing else.
 use Prim.Native.Nat.{ℕ, zero, suc, _+_, _-_, _*_, _/_, _%_, _^_, _<_}
 use mathlib.Core.Bool.{Bool, true, false}
 use lib.IntN.{ℤ, pos, negsuc}
@@ -29,6 +28,7 @@ MidAbove x y r = 4 * num x * ((den y * den r) * (den y * den r)) < (num y * den 
 -- r is the f64 nearest to the root of x: the root lies on r's side of the half-way point between r and any other f64.
 pub record Root (x r : Float) : Type 0 where
   pub is : T (positive r)
+  pub held : T (fits binary64 r)
   pub less : (n : ℕ) (d : ℤ) → T (fits binary64 (fin false n d)) → n * up d * den r < num r * down d → MidBelow x (fin false n d) r
   pub more : (n : ℕ) (d : ℤ) → T (fits binary64 (fin false n d)) → num r * down d < n * up d * den r → MidAbove x (fin false n d) r
 

@@ -1,8 +1,8 @@
 -- Floor and ceiling over whole numbers. The size of `fin s m e` is the fraction m * up e / down e of two whole numbers.
 use mathlib.Core.Bool.{Bool, true, false, not}
 use Prim.Native.Nat.{ℕ, _+_, _-_, _*_, _/_}
-use lib.IntN.{ℤ, pos, negℤ}
-use lib.Ieee.{Float, nan, inf, fin, binary64, up, down, round, le}
+use lib.IntN.{ℤ, pos, negℤ, _-ℤ_}
+use lib.Ieee.{Float, nan, inf, fin, binary64, up, down, round, neg, le}
 use Rattle.base.specs.Choose.{choose}
 
 -- The size of the greatest whole number that is not above a / c; for the sign true, that is not above -(a / c).
@@ -46,3 +46,7 @@ cellOf x =
     choose (le x (fin false 1 (pos 26)))
     (choose (le (fin true 1 (pos 26)) x) (floorInt x) (negℤ (pos 67108864)))
     (pos 67108864)
+
+-- the ceiling of a coordinate, as `cellOf` is its floor: the least whole number that is not below it, which is 0 less the floor of -x
+abbrev pub ceilingOf : Float → ℤ
+ceilingOf x = pos 0 -ℤ cellOf (neg x)

@@ -1,44 +1,43 @@
 -- The boxes of a settled cell, as whole numbers: each lies in its cell, or up to half a block above it (`block`). Assumes nothing.
 use mathlib.Core.Path.{_≡_, refl, sym, ap, _∙_, subst}
-use mathlib.Core.Logic.{_⊎_, inl, inr}
-use mathlib.Core.Bool.{Bool, true, false, not, _&&_, false≢true}
+use mathlib.Core.Logic.{_⊎_, inl}
+use mathlib.Core.Bool.{Bool, true, false, _&&_, false≢true}
 use mathlib.Core.List.{List, [], List·Memᴰ, List·Memᴰ·cases-cons}
-use Prim.Native.Nat.{ℕ, suc, _+_, _-_, _*_, _%_, _^_, _≤_, _<_}
+use Prim.Native.Nat.{ℕ, _+_, _-_, _*_, _^_, _≤_, _<_}
 use native.Mathlib.Omega.{arith}
 use lib.IntN.{ℤ, pos, negsuc, natAbs, _+ℤ_, _-ℤ_, +ℤ-comm, -ℤ-+ℤ-cancel}
 use lib.Signed.{leZ, ltZ}
-use lib.Dec.{T, ltb, leb, eqb, ltb→lt, leb→le, nltb→le}
-use lib.ListN.{length, take, drop, List·getD-eq-default}
+use lib.Dec.{T, ltb, leb, eqb, ltb→lt, leb→le}
+use lib.ListN.{length}
 use lib.Ieee.{Float, binary64, ofBits, ofInt, add, lt, le}
 use lib.Ieee.Fits.{and-l, and-r}
-use borrow.Author.Tests.{ltb-true, leb-true, eqb-true}
-use Rattle.base.specs.Choose.{choose}
-use Rattle.base.specs.Loop.{listed}
+use borrow.Author.Tests.{ltb-true, leb-true}
 use Rattle.base.specs.Ask.{Ask, refused, found, _>>=_}
 use Rattle.base.specs.Every.{every}
 use Rattle.base.proofs.Every.{both, every-at}
-use Rattle.floats.specs.Numbers.{zero64}
+use Rattle.base.proofs.Tests.{T-true}
+use Rattle.base.proofs.Differences.{subℕ-add}
+use Rattle.base.proofs.Members.{in-listed}
+use Rattle.floats.specs.Numbers.{zero64, one64}
 use Rattle.boxes.specs.declared.Aabb.{Aabb}
 use Rattle.boxes.specs.Boxes.{offsetBy}
 use Rattle.cover.specs.Cover.{boxCount}
-use Rattle.tables.specs.Tables.{wordAt, isRegistered, boxesAt, stateBoxes, boxAt}
-use Rattle.tables.specs.Check.{stateCount, countsFit, recordFits, boxFits, tablesFit}
+use Rattle.tables.specs.Tables.{boxesAt, boxAt}
 use Rattle.window.specs.declared.Pos.{Pos}
 use Rattle.window.specs.declared.Window.{Window}
 use Rattle.window.specs.Window.{within, inside, sizeFits, sizesFit, coordinateFits, originFits, windowFits}
-use Rattle.window.specs.Look.{Block, none, some, lookAt}
+use Rattle.window.specs.Look.{Block, lookAt}
 use Rattle.window.proofs.Offsets.{within-by}
 use Rattle.window.proofs.Cells.{is-inside, found-inside}
-use Rattle.connect.specs.Connect.{connectedState}
-use Rattle.moves.specs.Collect.{CellShape, cube, boxes, originOf, one64, cubeAt, toAabb, aabbsOf, shapeAabbs, connectedShape, shapeOf, cellShape}
+use Rattle.moves.specs.Collect.{CellShape, cube, boxes, originOf, cubeAt, toAabb, aabbsOf, shapeAabbs, shapeOf, cellShape}
 use Rattle.moves.specs.Settled.{settled, settledBoxes}
 use Rattle.grid.specs.Grid.{onGrid, isProper}
-use Rattle.grid.specs.Demand.{cellAndHalf, isInCell, shapeOnGrid, shapesOnGrid}
-use Rattle.grid.proofs.Units.{At, add-at, at-same, T-true, le-at, lt-at}
+use Rattle.grid.specs.Demand.{cellAndHalf, isInCell, shapeOnGrid, settledOnGrid, cellFrom, everyCell, shapesOnGrid}
+use Rattle.grid.proofs.Units.{At, add-at, at-same, le-at, lt-at}
 use Rattle.grid.proofs.Axis.{Span}
 use Rattle.grid.proofs.Counted.{base, OnSpan, zero-at}
 use Rattle.grid.proofs.Readings.{read, three, proper}
-use Rattle.grid.proofs.Cells.{numbered, subℕ-add, number, origin-at}
+use Rattle.grid.proofs.Cells.{numbered, number, origin-at}
 
 -- ---- one side of a box of the cell n, at most `tall` units from the cell's lower end
 pub record InCell (a b : Float) (n tall : ℕ) : Type 0 where
@@ -167,46 +166,9 @@ module _ {w : Window} {p : Pos} (i : InWindow w p) where
         z = shape-side (b .min .z) (b .max .z) (ofInt binary64 (p .z)) one64 (i .z .number) 4096 (i .z .small) (omega arith) one-at (origin-on (i .z)) (g .low .z) (g .high .z) (g .solid .z) (l .z) (h .z);
       }
 
--- ---- a box of a list is one of its numbers
-record Listed {A : Type 0} (a : A) (f : ℕ → A) (n i : ℕ) : Type 0 where
-  at : ℕ
-  below : at < n
-  is : a ≡ f (i + at)
-
-in-listed : {A : Type 0} (a : A) (f : ℕ → A) (n i : ℕ) → List·Memᴰ a (listed f n i) → Listed a f n i
-unfolding listed
-in-listed a f (suc n) i m = go (List·Memᴰ·cases-cons m) (λ r. in-listed a f n (i + 1) r)
-  where
-    go : (a ≡ f i) ⊎ List·Memᴰ a (listed f n (i + 1)) → (List·Memᴰ a (listed f n (i + 1)) → Listed a f n (i + 1)) → Listed a f (suc n) i
-    go (inl e) rest = record { at = 0; below = omega arith; is = e ∙ ap f (let z : i ≡ i + 0 = omega arith in z) }
-    go (inr r) rest = let l = rest r in record { at = suc (l .at); below = (let z : l .at < n = l .below in omega arith); is = l .is ∙ ap f (let z : i + 1 + l .at ≡ i + suc (l .at) = omega arith in z) }
-
--- ---- what stands in a cell that is settled: a cube, the boxes of a state, or nothing
-data Shaped (records : List ℕ) (shape : CellShape) : Type 0 where
-  full : shape ≡ cube → Shaped records shape
-  ofState : (state : ℕ) → shape ≡ boxes (wordAt records state 7) (wordAt records state 8) → Shaped records shape
-  bare : shape ≡ boxes 0 0 → Shaped records shape
-
+-- ---- a cell that is settled lies in the window
 no : {A : Type 0} → _≡_ {A = ℕ} 0 1 → A
 no e = absurd (omega arith)
-
-shaped : (look : Pos → Ask Block) (records : List ℕ) (p : Pos) (shape : CellShape) → cellShape look records p ≡ found shape → Shaped records shape
-unfolding cellShape shapeOf connectedShape choose
-shaped look records p shape e = go (look p) e
-  where
-    state-at : (m : Ask ℕ) → (m >>= (λ state. found (boxes (wordAt records state 7) (wordAt records state 8)))) ≡ found shape → Shaped records shape
-    state-at (refused k) e = no cc
-    state-at (found state) e = let q : shape ≡ boxes (wordAt records state 7) (wordAt records state 8) = cc in ofState state q
-
-    some-at : (t : Bool) (id : ℕ)
-        → choose t (connectedState look records p id >>= (λ state. found (boxes (wordAt records state 7) (wordAt records state 8)))) (found (boxes 0 0)) ≡ found shape → Shaped records shape
-    some-at true id e = state-at (connectedState look records p id) e
-    some-at false id e = let q : shape ≡ boxes 0 0 = cc in bare q
-
-    go : (m : Ask Block) → (m >>= shapeOf look records p) ≡ found shape → Shaped records shape
-    go (refused k) e = no cc
-    go (found none) e = let q : shape ≡ cube = cc in full q
-    go (found (some id)) e = some-at (isRegistered records id) id e
 
 cell-inside : (cells : List ℕ) (w : Window) (records : List ℕ) (p : Pos) (shape : CellShape) → cellShape (lookAt cells w) records p ≡ found shape → inside w p ≡ true
 unfolding cellShape
@@ -216,70 +178,45 @@ cell-inside cells w records p shape e = go (lookAt cells w p) refl e
     go (refused k) l e = no cc
     go (found b) l e = found-inside cells w p b l
 
--- no boxes are none, and a state without a record has none
-no-part : (shapes : List Float) (first : ℕ) → boxesAt shapes first 0 ≡ []
-unfolding boxesAt choose
-no-part shapes first = go (leb (first + 0) (boxCount shapes))
-  where
-    go : (t : Bool) → choose t (take (0 * 6) (drop (first * 6) shapes)) [] ≡ []
-    go true = refl
-    go false = refl
-
-whole-records : (records : List ℕ) (shapes : List Float) → tablesFit records shapes ≡ true → length records % 20 ≡ 0
-unfolding tablesFit countsFit
-whole-records records shapes e =
-    let counts = countsFit records shapes in
-    let a = both (counts && every (stateCount records) (recordFits records shapes)) (every (boxCount shapes) (boxFits shapes)) e in
-    let b = both counts (every (stateCount records) (recordFits records shapes)) (a .one) in
-    let c4 = both (eqb (length records % 20) 0 && eqb (length shapes % 6) 0 && leb 1 (stateCount records) && leb (stateCount records) 4096) (leb (boxCount shapes) 16384) (b .one) in
-    let c3 = both (eqb (length records % 20) 0 && eqb (length shapes % 6) 0 && leb 1 (stateCount records)) (leb (stateCount records) 4096) (c4 .one) in
-    let c2 = both (eqb (length records % 20) 0 && eqb (length shapes % 6) 0) (leb 1 (stateCount records)) (c3 .one) in
-    eqb-true (length records % 20) 0 (both (eqb (length records % 20) 0) (eqb (length shapes % 6) 0) (c2 .one) .one)
-
-no-record : (records : List ℕ) (state k : ℕ) → length records % 20 ≡ 0 → stateCount records ≤ state → wordAt records state k ≡ 0
-no-record records state k h l = List·getD-eq-default records 0 {n = state * 20 + k} (omega arith)
+-- a test of every cell, at one of them
+pub at-cell : (w : Window) (test : Pos → Bool) (p : Pos) → InWindow w p → T (everyCell w test) → T (test p)
+unfolding everyCell
+at-cell w test p i t =
+    let y = i .y .index in
+    let x = i .x .index in
+    let z = i .z .index in
+    let ly = every-at (w .sizes .y) (λ y. every (w .sizes .x) (λ x. every (w .sizes .z) (λ z. test (cellFrom w x y z)))) (T-true (everyCell w test) t) y (i .y .below) in
+    let lx = every-at (w .sizes .x) (λ x. every (w .sizes .z) (λ z. test (cellFrom w x y z))) ly x (i .x .below) in
+    let lz = every-at (w .sizes .z) (λ z. test (cellFrom w x y z)) lx z (i .z .below) in
+    let ex = i .x .from in
+    let ey = i .y .from in
+    let ez = i .z .from in
+    let e : cellFrom w x y z ≡ p = (λ j. record { x = ex j; y = ey j; z = ez j }) in
+    subst (λ (q : Pos). T (test q)) e (subst T (sym lz) tt)
 
 pub record Settled (w : Window) (p : Pos) (b : Aabb) : Type 0 where
   pub place : InWindow w p
   pub box : InCells p b (place .x .number) (place .y .number) (place .z .number)
 
-module _ (records : List ℕ) (shapes : List Float) (cells : List ℕ) (w : Window) (R : tablesFit records shapes ≡ true) (W : windowFits (length cells) w ≡ true) (G : T (shapesOnGrid records shapes)) where
+module _ (records : List ℕ) (shapes : List Float) (cells : List ℕ) (w : Window) (W : windowFits (length cells) w ≡ true) (G : T (shapesOnGrid records shapes cells w)) where
   module _ (p : Pos) (b : Aabb) (i : InWindow w p) where
     abbrev Here : Aabb → Type 0
     Here u = InCells p u (i .x .number) (i .y .number) (i .z .number)
 
-    part-in : (part : List Float) → shapeOnGrid part ≡ true → List·Memᴰ b (shapeAabbs part p) → Here b
+    part-in : (part : List Float) → T (shapeOnGrid part) → List·Memᴰ b (shapeAabbs part p) → Here b
     unfolding shapeOnGrid
     part-in part g m =
         let l = in-listed b (λ k. offsetBy (toAabb (boxAt part k)) (originOf p)) (boxCount part) 0 m in
         let n : l .at < boxCount part = l .below in
-        let t = every-at (boxCount part) (λ k. isProper (toAabb (boxAt part k)) && isInCell (toAabb (boxAt part k))) g (0 + l .at) (omega arith) in
+        let t = every-at (boxCount part) (λ k. isProper (toAabb (boxAt part k)) && isInCell (toAabb (boxAt part k))) (T-true (shapeOnGrid part) g) (0 + l .at) (omega arith) in
         subst Here (sym (l .is)) (shape-in i (toAabb (boxAt part (0 + l .at))) (subst T (sym t) tt))
 
-    empty : (part : List Float) → part ≡ [] → List·Memᴰ b (shapeAabbs part p) → Here b
-    empty part e m =
-        let l = in-listed b (λ k. offsetBy (toAabb (boxAt part k)) (originOf p)) (boxCount part) 0 m in
-        let n : l .at < boxCount part = l .below in
-        let z : boxCount part ≡ 0 = ap boxCount e in
-        absurd (omega arith)
-
-    state-in : (state : ℕ) → List·Memᴰ b (shapeAabbs (stateBoxes records shapes state) p) → Here b
-    unfolding shapesOnGrid
-    state-in state m = go (ltb state (stateCount records)) (ltb→lt state (stateCount records)) (nltb→le state (stateCount records))
-      where
-        go : (t : Bool) → (T t → state < stateCount records) → (T (not t) → stateCount records ≤ state) → Here b
-        go true f f' = part-in (stateBoxes records shapes state) (every-at (stateCount records) (λ state. shapeOnGrid (stateBoxes records shapes state)) (T-true (shapesOnGrid records shapes) G) state (f tt)) m
-        go false f f' =
-            empty (stateBoxes records shapes state)
-            (ap (λ (n : ℕ). boxesAt shapes (wordAt records state 7) n) (no-record records state 8 (whole-records records shapes R) (f' tt)) ∙ no-part shapes (wordAt records state 7)) m
-
-    shape-at : (shape : CellShape) → Shaped records shape → List·Memᴰ b (aabbsOf shapes p shape) → Here b
-    shape-at shape (full e) m = go (List·Memᴰ·cases-cons (subst (λ (q : CellShape). List·Memᴰ b (aabbsOf shapes p q)) e m))
+    shape-at : (shape : CellShape) → T (settledOnGrid shapes (found shape)) → List·Memᴰ b (aabbsOf shapes p shape) → Here b
+    shape-at cube g m = go (List·Memᴰ·cases-cons m)
       where
         go : (b ≡ cubeAt p) ⊎ List·Memᴰ b [] → Here b
         go (inl e) = subst Here (sym e) (cube-in i)
-    shape-at shape (ofState state e) m = state-in state (subst (λ (q : CellShape). List·Memᴰ b (aabbsOf shapes p q)) e m)
-    shape-at shape (bare e) m = empty (boxesAt shapes 0 0) (no-part shapes 0) (subst (λ (q : CellShape). List·Memᴰ b (aabbsOf shapes p q)) e m)
+    shape-at (boxes first count) g m = part-in (boxesAt shapes first count) g m
 
   pub block : (p : Pos) (b : Aabb) → List·Memᴰ b (settledBoxes (lookAt cells w) records shapes p) → Settled w p b
   unfolding settledBoxes
@@ -288,4 +225,5 @@ module _ (records : List ℕ) (shapes : List Float) (cells : List ℕ) (w : Wind
       go : (m : Ask CellShape) → cellShape (lookAt cells w) records p ≡ m → List·Memᴰ b (settled shapes p m) → Settled w p b
       go (found shape) e m =
           let i = in-window (length cells) w p W (cell-inside cells w records p shape e) in
-          record { place = i; box = shape-at p b i shape (shaped (lookAt cells w) records p shape e) m }
+          let g = at-cell w (λ p. settledOnGrid shapes (cellShape (lookAt cells w) records p)) p i G in
+          record { place = i; box = shape-at p b i shape (subst (λ (a : Ask CellShape). T (settledOnGrid shapes a)) e g) m }

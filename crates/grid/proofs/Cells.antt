@@ -5,7 +5,7 @@ use mathlib.Core.Bool.{Bool, true, false, not, cond}
 use Prim.Native.Nat.{ℕ, zero, suc, _+_, _-_, _*_, _/_, _%_, _^_, _≤_, _<_, min}
 use native.Mathlib.Nat.{mul-right-comm, div-add-mod', mod-lt, le-of-mul-le-mul-right, lt-of-mul-lt-mul-right}
 use native.Mathlib.Omega.{arith}
-use lib.IntN.{ℤ, pos, negsuc, negℤ, natAbs, subℕ, _+ℤ_, _-ℤ_, +ℤ-comm, +ℤ-negℤ-cancel}
+use lib.IntN.{ℤ, pos, negsuc, negℤ, natAbs, subℕ, _+ℤ_, _-ℤ_, +ℤ-negℤ-cancel}
 use lib.Signed.{leZ}
 use lib.Dec.{T, ltb, leb, ltb→lt, nltb→le, le→leb}
 use lib.Ieee.{Float, nan, inf, fin, binary64, up, down, round, ofInt, le}
@@ -13,51 +13,18 @@ use lib.Ieee.Fits.{down-pos}
 use lib.Ieee.Back.{round-whole}
 use Rattle.base.specs.Choose.{choose}
 use Rattle.base.proofs.Values.{rescaled}
+use Rattle.base.proofs.Tests.{T-true}
+use Rattle.base.proofs.Differences.{subℕ-pos, subℕ-neg, subℕ-add, subℕ-le, plus-minus}
 use Rattle.floats.specs.Whole.{floorSize, floorInt, signedOf, cellOf}
 use Rattle.floats.proofs.Cells.{cell-within, bottom}
 use Rattle.floats.proofs.Cells as C
 use Rattle.ranges.specs.declared.Axis.{Axis}
 use Rattle.ranges.specs.Ranges.{orZero, spanOf, onFrom, cellsBetween, layersBetween}
-use Rattle.grid.proofs.Units.{At, Signed, T-true, le-is}
-use Rattle.grid.proofs.Counted.{base, top}
+use Rattle.grid.proofs.Units.{At, Signed, le-is}
+use Rattle.grid.proofs.Counted.{base}
 
 abbrev pub numbered : ℕ → ℤ
 numbered n = subℕ n (2 ^ 28)
-
--- ---- what `subℕ` is
-pub subℕ-pos : (a b n : ℕ) → b + n ≡ a → subℕ a b ≡ pos n
-subℕ-pos a b n h = go (ltb a b) (ltb→lt a b)
-  where
-    go : (u : Bool) → (T u → a < b) → cond u (negsuc (b - suc a)) (pos (a - b)) ≡ pos n
-    go true f = absurd (let w : a < b = f tt in omega arith)
-    go false f = ap pos (let z : a - b ≡ n = omega arith in z)
-
-pub subℕ-neg : (a b n : ℕ) → a + suc n ≡ b → subℕ a b ≡ negsuc n
-subℕ-neg a b n h = go (ltb a b) (nltb→le a b)
-  where
-    go : (u : Bool) → (T (not u) → b ≤ a) → cond u (negsuc (b - suc a)) (pos (a - b)) ≡ negsuc n
-    go true f = ap negsuc (let z : b - suc a ≡ n = omega arith in z)
-    go false f = absurd (let w : b ≤ a = f tt in omega arith)
-
-pub subℕ-add : (a c k : ℕ) → subℕ a c +ℤ pos k ≡ subℕ (a + k) c
-subℕ-add a c k = go (ltb a c) (ltb→lt a c) (nltb→le a c)
-  where
-    low : (a < c) → (u : Bool) → (T u → k < c - a) → (T (not u) → c - a ≤ k) → subℕ k (suc (c - suc a)) ≡ subℕ (a + k) c
-    low h true f f' = subℕ-neg k (suc (c - suc a)) (c - a - suc k) (let z : k < c - a = f tt in omega arith) ∙ sym (subℕ-neg (a + k) c (c - a - suc k) (let z : k < c - a = f tt in omega arith))
-    low h false f f' = subℕ-pos k (suc (c - suc a)) (a + k - c) (let z : c - a ≤ k = f' tt in omega arith) ∙ sym (subℕ-pos (a + k) c (a + k - c) (let z : c - a ≤ k = f' tt in omega arith))
-
-    go : (u : Bool) → (T u → a < c) → (T (not u) → c ≤ a) → cond u (negsuc (c - suc a)) (pos (a - c)) +ℤ pos k ≡ subℕ (a + k) c
-    go true f f' = low (f tt) (ltb k (c - a)) (ltb→lt k (c - a)) (nltb→le k (c - a))
-    go false f f' = sym (subℕ-pos (a + k) c (a - c + k) (let z : c ≤ a = f' tt in omega arith))
-
-subℕ-le : (a b c : ℕ) → a ≤ b → T (leZ (subℕ a c) (subℕ b c))
-subℕ-le a b c h = go (ltb a c) (ltb→lt a c) (nltb→le a c) (ltb b c) (ltb→lt b c) (nltb→le b c)
-  where
-    go : (u : Bool) → (T u → a < c) → (T (not u) → c ≤ a) → (w : Bool) → (T w → b < c) → (T (not w) → c ≤ b) → T (leZ (cond u (negsuc (c - suc a)) (pos (a - c))) (cond w (negsuc (c - suc b)) (pos (b - c))))
-    go true f f' true g g' = le→leb (c - suc b) (c - suc a) (omega arith)
-    go true f f' false g g' = tt
-    go false f f' true g g' = absurd (let x : c ≤ a = f' tt in let y : b < c = g tt in omega arith)
-    go false f f' false g g' = le→leb (a - c) (b - c) (omega arith)
 
 -- the number of a cell not far from 0
 pub record Numbered (z : ℤ) (far : ℕ) : Type 0 where
@@ -119,17 +86,13 @@ cell-at x v h lo hi =
     ∙ floor-at x v h
 
 -- ---- ranges
--- from a, k cells on
-difference : (a : ℤ) (k : ℕ) → (a +ℤ pos k) -ℤ a ≡ pos k
-difference a k = ap (λ (z : ℤ). z -ℤ a) (+ℤ-comm a (pos k)) ∙ +ℤ-negℤ-cancel (pos k) a
-
 span-is : (l h : ℕ) → l ≤ h → h < l + 2 ^ 30 → spanOf (numbered l) (numbered h) ≡ h - l + 1
 unfolding spanOf
 span-is l h le lt =
     let k = h - l in
     let e : numbered h ≡ numbered l +ℤ pos k = ap numbered (let z : h ≡ l + (h - l) = omega arith in z) ∙ sym (subℕ-add l (2 ^ 28) k) in
     ap (λ (z : ℤ). min (orZero (z -ℤ numbered l +ℤ pos 1)) 4294967295) e
-    ∙ ap (λ (z : ℤ). min (orZero (z +ℤ pos 1)) 4294967295) (difference (numbered l) k)
+    ∙ ap (λ (z : ℤ). min (orZero (z +ℤ pos 1)) 4294967295) (plus-minus (numbered l) k)
     ∙ small k (omega arith)
   where
     small : (k : ℕ) → k < 2 ^ 30 → min (k + 1) 4294967295 ≡ k + 1

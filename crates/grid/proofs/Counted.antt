@@ -1,19 +1,20 @@
 -- The clips, passes, offsets and overlaps of a move, counted in units: over boxes on the grid each is that of whole numbers, `clip` and `Overlap` of
 -- `Axis` and `Whole`. Assumes nothing.
 use mathlib.Core.Path.{_≡_, refl, sym, ap, _∙_, subst}
-use mathlib.Core.Bool.{Bool, true, false, not, _&&_, _||_, cond}
+use mathlib.Core.Bool.{Bool, true, false, not, _&&_, _||_, cond, and-comm}
 use mathlib.Core.List.{List, [], _∷_}
 use Prim.Native.Nat.{ℕ, _+_, _-_, _^_, _≤_, _<_, min, max}
 use native.Mathlib.Omega.{arith}
-use lib.Dec.{T, ltb, leb, ltb→lt, leb→le, nltb→le, nleb→lt}
+use lib.Dec.{T, ltb, leb, ltb→lt, leb→le, nltb→le}
 use lib.Ieee.{Float, binary64, ofBits, add, sub, lt, le}
 use lib.Ieee.Fits.{and-l, and-r, and-i}
 use Rattle.base.specs.Choose.{choose}
+use Rattle.base.proofs.Tests.{leb-not, and-is, or-is, neither}
 use Rattle.floats.specs.Numbers.{zero64, leastOf, greatestOf}
 use Rattle.boxes.specs.declared.Aabb.{Aabb}
 use Rattle.boxes.specs.Boxes.{meet, overlap, apart, stopAt, clipX, clipY, clipZ}
-use Rattle.boxes.specs.Move.{clipAll}
-use Rattle.grid.specs.Demand.{alongX, alongY, alongZ}
+use Rattle.sweeps.specs.Move.{clipAll}
+use Rattle.grid.specs.Demand.{movedX, movedY, movedZ}
 use Rattle.grid.proofs.Units.{At, add-at, sub-at, at-same, lt-is, le-is}
 use Rattle.grid.proofs.Axis.{Span, meets, meets→, →meets, slid, clip, clips}
 use Rattle.grid.proofs.Whole.{Box, Solid, Overlap, toX, toY, toZ, besideX, besideY, besideZ, endX, endY, endZ}
@@ -80,12 +81,6 @@ greatest-at x y p q n h j =
     go true f g = let z = f tt in omega arith
     go false f g = let z = g tt in omega arith
 
-pub and-is : (a b c d : Bool) → a ≡ c → b ≡ d → a && b ≡ c && d
-and-is a b c d p q = ap (λ (u : Bool). u && b) p ∙ ap (λ (u : Bool). c && u) q
-
-pub or-is : (a b c d : Bool) → a ≡ c → b ≡ d → a || b ≡ c || d
-or-is a b c d p q = ap (λ (u : Bool). u || b) p ∙ ap (λ (u : Bool). c || u) q
-
 pos-lt : (x y : Float) (a b : ℕ) → Pos x a → Pos y b → lt x y ≡ ltb a b
 pos-lt x y a b h j = lt-is x y a base b base a b (h .at) (j .at) (omega arith)
 
@@ -97,25 +92,6 @@ meets-is : (al ah bl bh : Float) (a b : Span) → OnSpan al ah a → OnSpan bl b
 unfolding meets
 meets-is al ah bl bh a b h j = and-is (lt al bh) (lt bl ah) (ltb (a .lo) (b .hi)) (ltb (b .lo) (a .hi)) (pos-lt al bh (a .lo) (b .hi) (h .lo) (j .hi)) (pos-lt bl ah (b .lo) (a .hi) (j .lo) (h .hi))
 
-leb-not : (a b : ℕ) → leb a b ≡ not (ltb b a)
-leb-not a b = go (leb a b) (ltb b a) (leb→le a b) (nleb→lt a b) (ltb→lt b a) (nltb→le b a)
-  where
-    go : (p q : Bool) → (T p → a ≤ b) → (T (not p) → b < a) → (T q → b < a) → (T (not q) → a ≤ b) → p ≡ not q
-    go true true f g h j = absurd (let z = f tt in let w = h tt in omega arith)
-    go true false f g h j = refl
-    go false true f g h j = refl
-    go false false f g h j = absurd (let z = g tt in let w = j tt in omega arith)
-
-neither : (x y : Bool) → not x || not y ≡ not (x && y)
-neither true y = refl
-neither false y = refl
-
-turned : (x y : Bool) → x && y ≡ y && x
-turned true true = refl
-turned true false = refl
-turned false true = refl
-turned false false = refl
-
 -- o goes from lo to hi, and the mover m from `from` to `to`
 apart-is : (lo hi from to : Float) (m o : Span) → OnSpan from to m → OnSpan lo hi o → apart lo hi from to ≡ not (meets m o)
 unfolding meets
@@ -123,7 +99,7 @@ apart-is lo hi from to m o M O =
     or-is (le to lo) (le hi from) (not (ltb (o .lo) (m .hi))) (not (ltb (m .lo) (o .hi)))
     (pos-le to lo (m .hi) (o .lo) (M .hi) (O .lo) ∙ leb-not (m .hi) (o .lo)) (pos-le hi from (o .hi) (m .lo) (O .hi) (M .lo) ∙ leb-not (o .hi) (m .lo))
     ∙ neither (ltb (o .lo) (m .hi)) (ltb (m .lo) (o .hi))
-    ∙ ap not (turned (ltb (o .lo) (m .hi)) (ltb (m .lo) (o .hi)))
+    ∙ ap not (and-comm (ltb (o .lo) (m .hi)) (ltb (m .lo) (o .hi)))
 
 -- ---- one obstacle
 -- the gap from one end to another, as a lead from the mover's lower end
@@ -237,13 +213,13 @@ still : (a b : Float) (s : Span) → OnSpan a b s → OnSpan (add binary64 a zer
 still a b s h = record { lo = stays a (s .lo) (h .lo); hi = stays b (s .hi) (h .hi) }
 
 module _ (m : Aabb) (v : Box) (M : On m v) (S : Solid v) (t : Float) (q : ℕ) where
-  pub on-x : Leads t (v .x) q → On (alongX m t) (toX v q)
+  pub on-x : Leads t (v .x) q → On (movedX m t) (toX v q)
   on-x L = record { x = offset-at (m .min .x) (m .max .x) t (v .x) q (S .x) (M .x) L; y = still (m .min .y) (m .max .y) (v .y) (M .y); z = still (m .min .z) (m .max .z) (v .z) (M .z) }
 
-  pub on-y : Leads t (v .y) q → On (alongY m t) (toY v q)
+  pub on-y : Leads t (v .y) q → On (movedY m t) (toY v q)
   on-y L = record { x = still (m .min .x) (m .max .x) (v .x) (M .x); y = offset-at (m .min .y) (m .max .y) t (v .y) q (S .y) (M .y) L; z = still (m .min .z) (m .max .z) (v .z) (M .z) }
 
-  pub on-z : Leads t (v .z) q → On (alongZ m t) (toZ v q)
+  pub on-z : Leads t (v .z) q → On (movedZ m t) (toZ v q)
   on-z L = record { x = still (m .min .x) (m .max .x) (v .x) (M .x); y = still (m .min .y) (m .max .y) (v .y) (M .y); z = offset-at (m .min .z) (m .max .z) t (v .z) q (S .z) (M .z) L }
 
 -- ---- overlaps

@@ -10,15 +10,16 @@ use lib.Dec.{T, ltb, leb, eqb, leb→le, le→leb, ltb→lt, nltb→le, not-T}
 use lib.Ieee.{Float, binary64, add, sub, neg, lt, le, eq}
 use lib.Ieee.Fits.{and-i, and-l, and-r, eq→eqb}
 use Rattle.base.specs.Choose.{choose}
+use Rattle.base.proofs.Tests.{or-l, or-r, or-split}
 use Rattle.floats.specs.Numbers.{zero64}
 use Rattle.boxes.specs.declared.Vec3.{Vec3}
 use Rattle.boxes.specs.declared.Aabb.{Aabb}
-use Rattle.boxes.specs.declared.Swept.{Swept}
-use Rattle.boxes.specs.declared.MoveResult.{MoveResult}
+use Rattle.sweeps.specs.declared.Swept.{Swept}
+use Rattle.sweeps.specs.declared.MoveResult.{MoveResult}
 use Rattle.boxes.specs.Boxes.{vec, overlap, clipX, clipY, clipZ}
-use Rattle.boxes.specs.Move.{clipAll, clipSequence, steppedUp, flatSquare, triesStep, stoppedFalling, moveOver}
+use Rattle.sweeps.specs.Move.{clipAll, clipSequence, steppedUp, flatSquare, triesStep, stoppedFalling, moveOver}
 use Rattle.grid.specs.Grid.{onGrid}
-use Rattle.grid.specs.Demand.{between, unit, further, Struck, Travels, alongX, alongY, alongZ, Farthest, Demand3, keepsStep}
+use Rattle.grid.specs.Demand.{between, gridUnit, further, Struck, Travels, movedX, movedY, movedZ, Farthest, Demand3, keepsStep}
 use Rattle.grid.specs.Demand as D
 use Rattle.grid.proofs.Units.{At, neg-at, add-at, sub-at, at-same, lt-is, le-at, le-is, eq-at}
 use Rattle.grid.proofs.Axis.{Span, slid, All, Way, upward, downward, above, beneath, way-whole, way-trans}
@@ -28,18 +29,6 @@ use Rattle.grid.proofs.Counted.{top, On, OnAll, Leads, zero-at, all-x, 
 use Rattle.grid.proofs.Readings.{read, at-grid}
 
 -- ---- the way, by tests on floats
-or-l : (a b : Bool) → T a → T (a || b)
-or-l true b t = tt
-or-l false b t = absurd t
-
-or-r : (a b : Bool) → T b → T (a || b)
-or-r true b t = tt
-or-r false b t = t
-
-or-split : (a b : Bool) → T (a || b) → T a ⊎ T b
-or-split true b t = inl tt
-or-split false b t = inr t
-
 -- with both read from lo
 from-lo : (x y : Float) (a b lo : ℕ) → At x a lo → At y b lo → le x y ≡ leb a b
 from-lo x y a b lo h j = le-is x y a lo b lo a b h j (omega arith)
@@ -77,7 +66,7 @@ place t r lo e E G b = go (or-split (le zero64 r && le r t) (le t r && le r zero
         let w : e + R .minus ≤ R .plus + lo = leb→le (e + R .minus) (R .plus + lo) (subst T (le-at t r e lo (R .plus) (R .minus) E (R .at)) (and-l (le t r) (le r zero64) h)) in
         record { q = q; at = at-same (R .plus) (R .minus) q lo (omega arith) (R .at); way = downward (omega arith) (omega arith) }
 
-pub unit-at : At unit 1 0
+pub unit-at : At gridUnit 1 0
 unit-at = record { sign = false; size = 1; value = (refl, refl); units = refl }
 
 short-up : (lo g e : ℕ) → Way lo g e → lo < g → ¬ (e ≡ g) → e < g
@@ -151,26 +140,26 @@ module _ (Block : Aabb → Type 0) (fs : List Aabb) (ws : List Box) (F : OnAll f
         go true z u = u
         go false z u = subst T (sym z) (eq→eqb {a = e + s .lo} {b = g + s .lo} (omega arith))
 
-    up-one : s .lo < g → e < g → Struck Block (along (add binary64 t unit))
+    up-one : s .lo < g → e < g → Struck Block (along (add binary64 t gridUnit))
     up-one h j =
         let R : g + (s .hi - s .lo) ≤ top = L .within in
-        let A : At (add binary64 t unit) (e + 1) (s .lo) = at-same (e + 1) (s .lo + 0) (e + 1) (s .lo) (omega arith) (add-at t unit e (s .lo) 1 0 (E .at) unit-at (omega arith) (omega arith)) in
-        struck-of (along (add binary64 t unit)) (at (e + 1)) (on (add binary64 t unit) (e + 1) (record { at = A; within = omega arith })) (S .far (e + 1) (above j refl))
+        let A : At (add binary64 t gridUnit) (e + 1) (s .lo) = at-same (e + 1) (s .lo + 0) (e + 1) (s .lo) (omega arith) (add-at t gridUnit e (s .lo) 1 0 (E .at) unit-at (omega arith) (omega arith)) in
+        struck-of (along (add binary64 t gridUnit)) (at (e + 1)) (on (add binary64 t gridUnit) (e + 1) (record { at = A; within = omega arith })) (S .far (e + 1) (above j refl))
 
-    down-one : g < e → e ≤ s .lo → Struck Block (along (sub binary64 t unit))
+    down-one : g < e → e ≤ s .lo → Struck Block (along (sub binary64 t gridUnit))
     down-one h j =
         let q = e - 1 in
-        let A : At (sub binary64 t unit) q (s .lo) = at-same (e + 0) (s .lo + 1) q (s .lo) (omega arith) (sub-at t unit e (s .lo) 1 0 (E .at) unit-at (omega arith) (omega arith)) in
-        struck-of (along (sub binary64 t unit)) (at q) (on (sub binary64 t unit) q (record { at = A; within = omega arith })) (S .far q (beneath h (omega arith)))
+        let A : At (sub binary64 t gridUnit) q (s .lo) = at-same (e + 0) (s .lo + 1) q (s .lo) (omega arith) (sub-at t gridUnit e (s .lo) 1 0 (E .at) unit-at (omega arith) (omega arith)) in
+        struck-of (along (sub binary64 t gridUnit)) (at q) (on (sub binary64 t gridUnit) q (record { at = A; within = omega arith })) (S .far q (beneath h (omega arith)))
 
     far-way : T (not (eq t d)) → Struck Block (along (further t d))
     unfolding further choose
     far-way n =
-        subst (λ (b : Bool). Struck Block (along (choose b (add binary64 t unit) (sub binary64 t unit))))
+        subst (λ (b : Bool). Struck Block (along (choose b (add binary64 t gridUnit) (sub binary64 t gridUnit))))
         (sym (lt-is zero64 d (s .lo) (s .lo) g (s .lo) (s .lo) g (zero-at (s .lo)) (L .at) (omega arith)))
         (go (ltb (s .lo) g) (ltb→lt (s .lo) g) (nltb→le (s .lo) g))
       where
-        go : (b : Bool) → (T b → s .lo < g) → (T (not b) → g ≤ s .lo) → Struck Block (along (choose b (add binary64 t unit) (sub binary64 t unit)))
+        go : (b : Bool) → (T b → s .lo < g) → (T (not b) → g ≤ s .lo) → Struck Block (along (choose b (add binary64 t gridUnit) (sub binary64 t gridUnit)))
         go true f f' = up-one (f tt) (short-up (s .lo) g e (S .way) (f tt) (short n))
         go false f f' = let p = short-down (s .lo) g e (S .way) (f' tt) (short n) in down-one (p .0) (p .1)
 
@@ -204,10 +193,10 @@ module _ (Block : Aabb → Type 0) (fs : List Aabb) (ws : List Box) (F : OnAll f
     on-way-z q w = grow (way-inside (v .z) gz q (S .z) w) iz
 
     pub record Course : Type 0 where
-      pub y : Travels Block (alongY m) (d .y) (clipSequence fs m d .moved .y)
-      pub x : Travels Block (alongX (alongY m (clipSequence fs m d .moved .y))) (d .x) (clipSequence fs m d .moved .x)
-      pub z : Travels Block (alongZ (alongX (alongY m (clipSequence fs m d .moved .y)) (clipSequence fs m d .moved .x))) (d .z) (clipSequence fs m d .moved .z)
-      pub end : clipSequence fs m d .aabb ≡ alongZ (alongX (alongY m (clipSequence fs m d .moved .y)) (clipSequence fs m d .moved .x)) (clipSequence fs m d .moved .z)
+      pub y : Travels Block (movedY m) (d .y) (clipSequence fs m d .moved .y)
+      pub x : Travels Block (movedX (movedY m (clipSequence fs m d .moved .y))) (d .x) (clipSequence fs m d .moved .x)
+      pub z : Travels Block (movedZ (movedX (movedY m (clipSequence fs m d .moved .y)) (clipSequence fs m d .moved .x))) (d .z) (clipSequence fs m d .moved .z)
+      pub end : clipSequence fs m d .aabb ≡ movedZ (movedX (movedY m (clipSequence fs m d .moved .y)) (clipSequence fs m d .moved .x)) (clipSequence fs m d .moved .z)
       -- where it ends
       pub ex : ℕ
       pub ey : ℕ
@@ -226,7 +215,7 @@ module _ (Block : Aabb → Type 0) (fs : List Aabb) (ws : List Box) (F : OnAll f
         let dy = clipAll clipY fs m (d .y) in
         let E1 : Leads dy (v .y) ey = all-y m v M S fs ws F (d .y) gy Y in
         let v1 = toY v ey in
-        let m1 = alongY m dy in
+        let m1 = movedY m dy in
         let M1 : On m1 v1 = on-y m v M S dy ey E1 in
         let S1 : Solid v1 = solid-y v ey S in
         let free1 : Free v1 ws = sy .clear ey (way-whole (v .y .lo) ey) in
@@ -235,7 +224,7 @@ module _ (Block : Aabb → Type 0) (fs : List Aabb) (ws : List Box) (F : OnAll f
         let dx = clipAll clipX fs m1 (d .x) in
         let E2 : Leads dx (v .x) ex = all-x m1 v1 M1 S1 fs ws F (d .x) gx X in
         let v2 = toX v1 ex in
-        let m2 = alongX m1 dx in
+        let m2 = movedX m1 dx in
         let M2 : On m2 v2 = on-x m1 v1 M1 S1 dx ex E2 in
         let S2 : Solid v2 = solid-x v1 ex S1 in
         let free2 : Free v2 ws = sx .clear ex (way-whole (v .x .lo) ex) in
@@ -244,11 +233,11 @@ module _ (Block : Aabb → Type 0) (fs : List Aabb) (ws : List Box) (F : OnAll f
         let dz = clipAll clipZ fs m2 (d .z) in
         let E3 : Leads dz (v .z) ez = all-z m2 v2 M2 S2 fs ws F (d .z) gz Z in
         let v3 = toZ v2 ez in
-        let m3 = alongZ m2 dz in
+        let m3 = movedZ m2 dz in
         record {
-          y = travels (alongY m) (toY v) (v .y) (S .y) (M .y .hi .within) (on-y m v M S) (d .y) dy gy ey Y E1 sy (λ q w. record { x = here-x; y = on-way-y q w; z = here-z });
-          x = travels (alongX m1) (toX v1) (v .x) (S .x) (M .x .hi .within) (on-x m1 v1 M1 S1) (d .x) dx gx ex X E2 sx (λ q w. record { x = on-way-x q w; y = on-way-y ey (sy .way); z = here-z });
-          z = travels (alongZ m2) (toZ v2) (v .z) (S .z) (M .z .hi .within) (on-z m2 v2 M2 S2) (d .z) dz gz ez Z E3 sz (λ q w. record { x = on-way-x ex (sx .way); y = on-way-y ey (sy .way); z = on-way-z q w });
+          y = travels (movedY m) (toY v) (v .y) (S .y) (M .y .hi .within) (on-y m v M S) (d .y) dy gy ey Y E1 sy (λ q w. record { x = here-x; y = on-way-y q w; z = here-z });
+          x = travels (movedX m1) (toX v1) (v .x) (S .x) (M .x .hi .within) (on-x m1 v1 M1 S1) (d .x) dx gx ex X E2 sx (λ q w. record { x = on-way-x q w; y = on-way-y ey (sy .way); z = here-z });
+          z = travels (movedZ m2) (toZ v2) (v .z) (S .z) (M .z .hi .within) (on-z m2 v2 M2 S2) (d .z) dz gz ez Z E3 sz (λ q w. record { x = on-way-x ex (sx .way); y = on-way-y ey (sy .way); z = on-way-z q w });
           end = refl;
           ex = ex;
           ey = ey;
@@ -291,7 +280,7 @@ module _ (Block : Aabb → Type 0) (fs : List Aabb) (ws : List Box) (F : OnAll f
         let at : Inside (slid (v .y) e) (area .y) = on-way-y m v M S free (vec (d .x) h (d .z)) gx gs gz X H Z ix is iz e (back-down lo gs ey e (c .way) (sy .way)) in
         let under : area .y .lo ≤ e = at .low in
         let over : e + (v .y .hi - lo) ≤ area .y .hi = at .high in
-        clear-of (alongY (up .aabb) down) (toY v3 e) (on-y (up .aabb) v3 (c .on) S3 down e E)
+        clear-of (movedY (up .aabb) down) (toY v3 e) (on-y (up .aabb) v3 (c .on) S3 down e E)
         (record { x = c .within .x; y = record { low = under; high = omega arith }; z = c .within .z })
         (sy .clear e (way-whole ey e))
 

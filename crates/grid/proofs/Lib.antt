@@ -1,4 +1,4 @@
--- Demand 3 holds: `demand3-list` in OverList, `demand3-window` in Through; `clips-exact` in Clips; Samples and Once check the demand itself.
+-- Demand 3 holds: `demand3-list` in OverList, `demand3-window` in Through; `clips-exact` in Clips; `offsets-exact` in Offsets; Samples and Once check the demand itself.
 pub mod Units
 pub mod Axis
 pub mod Whole
@@ -12,5 +12,6 @@ pub mod Blocks
 pub mod Areas
 pub mod Through
 pub mod Clips
+pub mod Offsets
 pub mod Once
 pub mod Samples

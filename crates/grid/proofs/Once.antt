@@ -4,17 +4,18 @@ use mathlib.Core.Path.{_≡_, sym, _∙_, subst}
 use mathlib.Core.Bool.{Bool, true, false, not}
 use Prim.Native.Nat.{ℕ, _+_, _-_, _^_, _≤_, _<_}
 use native.Mathlib.Omega.{arith}
-use lib.Dec.{T, ltb, eqb, ltb→lt, lt→ltb, eqb→eq, not-T, T-not, nltb→le}
+use lib.Dec.{T, ltb, ltb→lt, lt→ltb, eqb→eq, not-T, T-not, nltb→le}
 use lib.Ieee.{Float, binary64, add, sub, lt, eq}
 use lib.Ieee.Fits.{eq→eqb}
 use Rattle.base.specs.Choose.{choose}
+use Rattle.base.proofs.Tests.{T-true, ltb-no}
 use Rattle.floats.specs.Numbers.{zero64, isWithin}
 use Rattle.boxes.specs.declared.Aabb.{Aabb}
 use Rattle.boxes.specs.Boxes.{overlap}
 use Rattle.boxes.specs.Limits.{twoTo}
 use Rattle.grid.specs.Grid.{onGrid}
-use Rattle.grid.specs.Demand.{unit, further, Free, Struck, Travels}
-use Rattle.grid.proofs.Units.{At, add-at, sub-at, at-same, T-true, ltb-no, lt-is, eq-at}
+use Rattle.grid.specs.Demand.{gridUnit, further, Free, Struck, Travels}
+use Rattle.grid.proofs.Units.{At, add-at, sub-at, at-same, lt-is, eq-at}
 use Rattle.grid.proofs.Axis.{Way, upward, downward}
 use Rattle.grid.proofs.Counted.{base, zero-at}
 use Rattle.grid.proofs.Readings.{read, at-grid, within-units}
@@ -46,11 +47,11 @@ module _ (Block : Aabb → Type 0) (at : Float → Aabb) (share : Float) (e : �
     no-shorter-up up l =
         let low : base ≤ p .q = on-up (p .q) up (p .way) .0 in
         let high : q .q ≤ e = on-up (q .q) up (q .way) .1 in
-        let x : At (add binary64 a unit) (p .q + 1) base = at-same (p .q + 1) (base + 0) (p .q + 1) base (omega arith) (add-at a unit (p .q) base 1 0 (p .at) unit-at (omega arith) (omega arith)) in
+        let x : At (add binary64 a gridUnit) (p .q + 1) base = at-same (p .q + 1) (base + 0) (p .q + 1) base (omega arith) (add-at a gridUnit (p .q) base 1 0 (p .at) unit-at (omega arith) (omega arith)) in
         let t : lt zero64 share ≡ true = lt-is zero64 share base base e base base e (zero-at base) S (omega arith) ∙ T-true (ltb base e) (lt→ltb base e up) in
-        clash Block (at (add binary64 a unit))
-        (B .clear (add binary64 a unit) (at-grid (add binary64 a unit) (p .q + 1) base x) (way→between b (add binary64 a unit) base (q .q) (p .q + 1) (q .at) x (upward (omega arith) (omega arith))))
-        (subst (λ (u : Bool). Struck Block (at (choose u (add binary64 a unit) (sub binary64 a unit)))) t (A .far (differs a (p .q) (p .at) (λ h. omega arith))))
+        clash Block (at (add binary64 a gridUnit))
+        (B .clear (add binary64 a gridUnit) (at-grid (add binary64 a gridUnit) (p .q + 1) base x) (way→between b (add binary64 a gridUnit) base (q .q) (p .q + 1) (q .at) x (upward (omega arith) (omega arith))))
+        (subst (λ (u : Bool). Struck Block (at (choose u (add binary64 a gridUnit) (sub binary64 a gridUnit)))) t (A .far (differs a (p .q) (p .at) (λ h. omega arith))))
 
     no-shorter-down : e ≤ base → q .q < p .q → ⊥
     unfolding further choose
@@ -58,11 +59,11 @@ module _ (Block : Aabb → Type 0) (at : Float → Aabb) (share : Float) (e : �
         let high : p .q ≤ base = on-down (p .q) down (p .way) .1 in
         let low : e ≤ q .q = on-down (q .q) down (q .way) .0 in
         let r = p .q - 1 in
-        let x : At (sub binary64 a unit) r base = at-same (p .q + 0) (base + 1) r base (omega arith) (sub-at a unit (p .q) base 1 0 (p .at) unit-at (omega arith) (omega arith)) in
+        let x : At (sub binary64 a gridUnit) r base = at-same (p .q + 0) (base + 1) r base (omega arith) (sub-at a gridUnit (p .q) base 1 0 (p .at) unit-at (omega arith) (omega arith)) in
         let t : lt zero64 share ≡ false = lt-is zero64 share base base e base base e (zero-at base) S (omega arith) ∙ ltb-no base e down in
-        clash Block (at (sub binary64 a unit))
-        (B .clear (sub binary64 a unit) (at-grid (sub binary64 a unit) r base x) (way→between b (sub binary64 a unit) base (q .q) r (q .at) x (downward (omega arith) (omega arith))))
-        (subst (λ (u : Bool). Struck Block (at (choose u (add binary64 a unit) (sub binary64 a unit)))) t (A .far (differs a (p .q) (p .at) (λ h. omega arith))))
+        clash Block (at (sub binary64 a gridUnit))
+        (B .clear (sub binary64 a gridUnit) (at-grid (sub binary64 a gridUnit) r base x) (way→between b (sub binary64 a gridUnit) base (q .q) r (q .at) x (downward (omega arith) (omega arith))))
+        (subst (λ (u : Bool). Struck Block (at (choose u (add binary64 a gridUnit) (sub binary64 a gridUnit)))) t (A .far (differs a (p .q) (p .at) (λ h. omega arith))))
 
   same-way : (a b : Float) → Travels Block at share a → Travels Block at share b → T (eq a b)
   same-way a b A B =

@@ -8,11 +8,11 @@ use native.Mathlib.Omega.{arith}
 use lib.Dec.{T, eqb, ltb}
 use lib.Ieee.Fits.{and-l, and-r}
 use Rattle.base.specs.Choose.{choose}
-use Rattle.boxes.specs.declared.MoveResult.{MoveResult}
-use Rattle.boxes.specs.Lists.{room, listOf}
-use Rattle.boxes.specs.Move.{moveOver}
+use Rattle.sweeps.specs.declared.MoveResult.{MoveResult}
+use Rattle.sweeps.specs.Lists.{room, listOf}
+use Rattle.sweeps.specs.Move.{moveOver}
 use Rattle.boxes.specs.Limits.{isStep, isBox, isDelta, areBoxes}
-use Rattle.boxes.specs.Entry.{refusalOf, refusedMove, moveOverList}
+use Rattle.sweeps.specs.Entry.{refusalOf, refusedMove, moveOverList}
 use Rattle.grid.specs.Grid.{onGrid, vecOnGrid, isProper, areProper, isFree}
 use Rattle.grid.specs.Demand.{Demand3, keepsStep, listOnGrid, ListDemand}
 use Rattle.grid.proofs.Readings.{knowns}

@@ -13,7 +13,7 @@ use Rattle.floats.specs.Numbers.{zero64, isWithin}
 use Rattle.boxes.specs.declared.Vec3.{Vec3}
 use Rattle.boxes.specs.declared.Aabb.{Aabb}
 use Rattle.boxes.specs.Boxes.{overlap}
-use Rattle.boxes.specs.Move.{moveOver}
+use Rattle.sweeps.specs.Move.{moveOver}
 use Rattle.boxes.specs.Limits.{twoTo, isBox, isDelta, isStep}
 use Rattle.grid.specs.Grid.{onGrid, vecOnGrid, isProper, isFree}
 use Rattle.grid.specs.Demand.{Demand3, keepsStep}

@@ -3,40 +3,39 @@
 use mathlib.Core.Path.{_≡_, refl, sym, ap, _∙_, subst}
 use mathlib.Core.Logic.{_⊎_, inl, inr}
 use mathlib.Core.Bool.{Bool, true, false, not, _&&_}
-use mathlib.Core.List.{List, [], _∷_, _++_, List·Memᴰ, List·Memᴰ·head, List·Memᴰ·tail, List·Memᴰ·cases-cons}
-use Prim.Native.Nat.{ℕ, suc, _+_, _-_, _*_, _≤_, _<_}
+use mathlib.Core.List.{List, [], _∷_, List·Memᴰ, List·Memᴰ·head, List·Memᴰ·tail, List·Memᴰ·cases-cons, List·Memᴰ·append-cases}
+use Prim.Native.Nat.{ℕ, suc, _+_, _*_, _≤_, _<_}
 use native.Mathlib.Omega.{arith}
-use lib.Dec.{T, eqb, eqb→eq}
+use lib.Dec.{T, eqb, eqb→eq, T-not}
 use lib.ListN.{length}
 use lib.Ieee.{Float}
-use lib.Ieee.Fits.{and-i, and-l, and-r}
+use lib.Ieee.Fits.{and-i, and-l, and-r, eq→eqb}
 use Rattle.base.specs.Choose.{choose}
 use Rattle.base.specs.Ask.{Ask, refused, found, _>>=_}
-use Rattle.base.specs.Every.{every}
-use Rattle.base.proofs.Every.{every-at}
+use Rattle.base.proofs.Tests.{no-not}
 use Rattle.boxes.specs.declared.Vec3.{Vec3}
 use Rattle.boxes.specs.declared.Aabb.{Aabb}
-use Rattle.boxes.specs.declared.MoveResult.{MoveResult}
-use Rattle.boxes.specs.declared.MoveAnswer.{MoveAnswer}
+use Rattle.sweeps.specs.declared.MoveResult.{MoveResult}
+use Rattle.sweeps.specs.declared.MoveAnswer.{MoveAnswer}
 use Rattle.boxes.specs.Boxes.{overlap}
-use Rattle.boxes.specs.Move.{moveOver}
+use Rattle.sweeps.specs.Move.{moveOver}
 use Rattle.boxes.specs.Limits.{isBox, isDelta, isStep}
-use Rattle.tables.specs.Check.{tablesFit, tableRefusal}
+use Rattle.table_check.specs.Check.{tableRefusal}
 use Rattle.window.specs.declared.Pos.{Pos}
 use Rattle.window.specs.declared.Window.{Window}
 use Rattle.window.specs.Window.{windowFits, windowRefusal}
 use Rattle.window.specs.Look.{lookAt}
 use Rattle.window.proofs.Cells as N
+use Rattle.lent.specs.Lent.{unless, lentRefusal}
 use Rattle.ranges.specs.declared.Range.{Range}
 use Rattle.ranges.specs.Ranges.{placeAt}
 use Rattle.moves.specs.Collect.{rangeOf, collectBlockBoxes}
-use Rattle.moves.specs.Settled.{settledBoxes, overlapping, joined, inOrder}
+use Rattle.moves.specs.Settled.{settledBoxes, overlapping, appended, inOrder}
 use Rattle.moves.specs.Answers.{sweptArea, moveAabb, moveAnswer, moveEntry}
 use Rattle.moves.proofs.Order.{keptOf, collected-is, is-collected}
 use Rattle.moves.proofs.Refuses.{FiveOrSix, collect-refuses}
 use Rattle.grid.specs.Grid.{onGrid, vecOnGrid, isProper, isFree}
-use Rattle.grid.specs.Demand.{Demand3, keepsStep, IsSettled, shapesOnGrid, cellFrom, isFreeIn, windowOnGrid, keepsAmong, keepsStepIn, WindowDemand}
-use Rattle.grid.proofs.Units.{T-true}
+use Rattle.grid.specs.Demand.{Demand3, keepsStep, IsSettled, shapesOnGrid, isFreeIn, windowOnGrid, keepsAmong, keepsStepIn, WindowDemand}
 use Rattle.grid.proofs.Axis.{Span, Meets}
 use Rattle.grid.proofs.Whole.{Box, Solid, Overlap}
 use Rattle.grid.proofs.Counted.{On, overlap-to, overlap-from}
@@ -44,39 +43,27 @@ use Rattle.grid.proofs.Readings.{Knowns}
 use Rattle.grid.proofs.Courses.{Aside}
 use Rattle.grid.proofs.Starts.{Start, start, areaOf, from-start}
 use Rattle.grid.proofs.Cells.{in-cells, in-layers}
-use Rattle.grid.proofs.Blocks.{InCells, Settled, block}
+use Rattle.grid.proofs.Blocks.{InCells, Settled, at-cell, block}
 use Rattle.grid.proofs.Areas.{area, area-on}
 
 -- ---- what is in the lists together is in one of them
-in-either : {A : Type 0} (a : A) (xs ys : List A) → List·Memᴰ a (xs ++ ys) → List·Memᴰ a xs ⊎ List·Memᴰ a ys
-in-either a [] ys m = inr m
-in-either {A} a (x ∷ xs) ys m = go (List·Memᴰ·cases-cons m) (λ n. in-either a xs ys n)
-  where
-    later : List·Memᴰ a xs ⊎ List·Memᴰ a ys → List·Memᴰ a (x ∷ xs) ⊎ List·Memᴰ a ys
-    later (inl n) = inl (List·Memᴰ·tail n)
-    later (inr n) = inr n
-
-    go : (a ≡ x) ⊎ List·Memᴰ a (xs ++ ys) → (List·Memᴰ a (xs ++ ys) → List·Memᴰ a xs ⊎ List·Memᴰ a ys) → List·Memᴰ a (x ∷ xs) ⊎ List·Memᴰ a ys
-    go (inl e) rest = inl (List·Memᴰ·head e)
-    go (inr n) rest = later (rest n)
-
 record OneOf {A I : Type 0} (a : A) (g : I → List A) : Type 0 where
   at : I
   is : List·Memᴰ a (g at)
 
-in-one : {A : Type 0} (a : A) (g : ℕ → List A) (k i : ℕ) → List·Memᴰ a (joined g k i) → OneOf a g
-unfolding joined
-in-one a g (suc k) i m = go (in-either a (g i) (joined g k (i + 1)) m) (λ n. in-one a g k (i + 1) n)
+in-one : {A : Type 0} (a : A) (g : ℕ → List A) (k i : ℕ) → List·Memᴰ a (appended g k i) → OneOf a g
+unfolding appended
+in-one a g (suc k) i m = go (List·Memᴰ·append-cases (g i) m) (λ n. in-one a g k (i + 1) n)
   where
-    go : List·Memᴰ a (g i) ⊎ List·Memᴰ a (joined g k (i + 1)) → (List·Memᴰ a (joined g k (i + 1)) → OneOf a g) → OneOf a g
+    go : List·Memᴰ a (g i) ⊎ List·Memᴰ a (appended g k (i + 1)) → (List·Memᴰ a (appended g k (i + 1)) → OneOf a g) → OneOf a g
     go (inl n) rest = record { at = i; is = n }
     go (inr n) rest = rest n
 
 in-order : {A : Type 0} (a : A) (g : Pos → List A) (r : Range) → List·Memᴰ a (inOrder g r) → OneOf a g
 unfolding inOrder
 in-order a g r m =
-    let y = in-one a (λ y. joined (λ x. joined (λ z. g (placeAt r x y z)) (r .z .count) 0) (r .x .count) 0) (r .y .count) 0 m in
-    let x = in-one a (λ x. joined (λ z. g (placeAt r x (y .at) z)) (r .z .count) 0) (r .x .count) 0 (y .is) in
+    let y = in-one a (λ y. appended (λ x. appended (λ z. g (placeAt r x y z)) (r .z .count) 0) (r .x .count) 0) (r .y .count) 0 m in
+    let x = in-one a (λ x. appended (λ z. g (placeAt r x (y .at) z)) (r .z .count) 0) (r .x .count) 0 (y .is) in
     let z = in-one a (λ z. g (placeAt r (x .at) (y .at) z)) (r .z .count) 0 (x .is) in
     record { at = placeAt r (x .at) (y .at) (z .at); is = z .is }
 
@@ -133,7 +120,7 @@ turned a b o = record { x = flip (o .x); y = flip (o .y); z = flip (o .z) }
     flip : {s t : Span} → Meets s t → Meets t s
     flip m = record { under = m .over; over = m .under }
 
-module _ (records : List ℕ) (shapes : List Float) (cells : List ℕ) (w : Window) (R : tablesFit records shapes ≡ true) (W : windowFits (length cells) w ≡ true) (G : T (shapesOnGrid records shapes))
+module _ (records : List ℕ) (shapes : List Float) (cells : List ℕ) (w : Window) (W : windowFits (length cells) w ≡ true) (G : T (shapesOnGrid records shapes cells w))
     (m : Aabb) (d : Vec3) (h : Float) (s : Start m d h) (bs : List Aabb) (C : collectBlockBoxes (lookAt cells w) records shapes (sweptArea m d h) ≡ found bs) where
   -- what was collected is a box of a settled cell
   back : (o : Aabb) → List·Memᴰ o bs → IsSettled records shapes cells w o
@@ -177,9 +164,9 @@ module _ (records : List ℕ) (shapes : List Float) (cells : List ℕ) (w : Wind
   seen o c = go (overlap o (sweptArea m d h)) refl
     where
       go : (t : Bool) → overlap o (sweptArea m d h) ≡ t → List·Memᴰ o bs ⊎ Aside (areaOf s) o
-      go true e = inl (collected o (c .cell) (c .is) (block records shapes cells w R W G (c .cell) o (c .is)) e)
+      go true e = inl (collected o (c .cell) (c .is) (block records shapes cells w W G (c .cell) o (c .is)) e)
       go false e =
-          let k = box-known (block records shapes cells w R W G (c .cell) o (c .is) .box) in
+          let k = box-known (block records shapes cells w W G (c .cell) o (c .is) .box) in
           inr record {
             box = k .box;
             on = k .on;
@@ -187,22 +174,14 @@ module _ (records : List ℕ) (shapes : List Float) (cells : List ℕ) (w : Wind
           }
 
   known : (o : Aabb) → List·Memᴰ o bs → Known o
-  known o n = let c = back o n in box-known (block records shapes cells w R W G (c .cell) o (c .is) .box)
+  known o n = let c = back o n in box-known (block records shapes cells w W G (c .cell) o (c .is) .box)
 
   -- no overlap at the start
   start-clear : T (isFreeIn records shapes cells w m) → (o : Aabb) → IsSettled records shapes cells w o → T (not (overlap m o))
-  unfolding isFreeIn
   start-clear t o c =
-      let i = block records shapes cells w R W G (c .cell) o (c .is) .place in
       let at = settledBoxes (lookAt cells w) records shapes in
-      let ly = every-at (w .sizes .y) (λ y. every (w .sizes .x) (λ x. every (w .sizes .z) (λ z. isFree m (at (cellFrom w x y z))))) (T-true (isFreeIn records shapes cells w m) t) (i .y .index) (i .y .below) in
-      let lx = every-at (w .sizes .x) (λ x. every (w .sizes .z) (λ z. isFree m (at (cellFrom w x (i .y .index) z)))) ly (i .x .index) (i .x .below) in
-      let lz = every-at (w .sizes .z) (λ z. isFree m (at (cellFrom w (i .x .index) (i .y .index) z))) lx (i .z .index) (i .z .below) in
-      let ex = i .x .from in
-      let ey = i .y .from in
-      let ez = i .z .from in
-      let e : cellFrom w (i .x .index) (i .y .index) (i .z .index) ≡ c .cell = (λ j. record { x = ex j; y = ey j; z = ez j }) in
-      free-at m o (at (c .cell)) (c .is) (subst (λ (p : Pos). T (isFree m (at p))) e (subst T (sym lz) tt))
+      let i = block records shapes cells w W G (c .cell) o (c .is) .place in
+      free-at m o (at (c .cell)) (c .is) (at-cell w (λ p. isFree m (at p)) (c .cell) i t)
 
   through : T (isFreeIn records shapes cells w m) → (ground : Bool) → Demand3 (IsSettled records shapes cells w) (keepsStep bs m d h ground) m d (moveOver bs m d h ground)
   through t =
@@ -210,58 +189,55 @@ module _ (records : List ℕ) (shapes : List Float) (cells : List ℕ) (w : Wind
       from-start (IsSettled records shapes cells w) bs (k .boxes) (k .on) (k .solid) m d h s back seen (free-all m bs (λ o n. start-clear t o (back o n)))
 
 -- ---- a move that is not refused
-abbrev answerTo : Bool → Bool → Bool → Bool → Ask (List Aabb) → Aabb → Vec3 → Float → Bool → MoveAnswer
-answerTo t u v x c m d h ground =
-    moveAnswer m (choose t (refused 1) (choose u (refused 2) (choose v (refused 3) (choose x (refused 4) (c >>= (λ boxes. found (moveOver boxes m d h ground)))))))
+abbrev answerTo : ℕ → Bool → Bool → Bool → Ask (List Aabb) → Aabb → Vec3 → Float → Bool → MoveAnswer
+answerTo lent t v x c m d h ground =
+    moveAnswer m (unless t lent (unless v 3 (unless x 4 (c >>= (λ boxes. found (moveOver boxes m d h ground))))))
 
-record Accepted (t u v x : Bool) (c : Ask (List Aabb)) (m : Aabb) (d : Vec3) (h : Float) (ground : Bool) (r : MoveAnswer) : Type 0 where
-  one : t ≡ false
-  two : u ≡ false
+record Accepted (t v x : Bool) (c : Ask (List Aabb)) (m : Aabb) (d : Vec3) (h : Float) (ground : Bool) (r : MoveAnswer) : Type 0 where
+  lent : t ≡ false
   three : v ≡ false
   four : x ≡ false
   boxes : List Aabb
   collects : c ≡ found boxes
   result : r .result ≡ moveOver boxes m d h ground
 
-accepted : (t u v x : Bool) (c : Ask (List Aabb)) (m : Aabb) (d : Vec3) (h : Float) (ground : Bool) → ((n : ℕ) → c ≡ refused n → FiveOrSix n)
-    → answerTo t u v x c m d h ground .refusal ≡ 0 → Accepted t u v x c m d h ground (answerTo t u v x c m d h ground)
+accepted : (lent : ℕ) (t v x : Bool) (c : Ask (List Aabb)) (m : Aabb) (d : Vec3) (h : Float) (ground : Bool) → (T t → lent ≡ 0 → ⊥) → ((n : ℕ) → c ≡ refused n → FiveOrSix n)
+    → answerTo lent t v x c m d h ground .refusal ≡ 0 → Accepted t v x c m d h ground (answerTo lent t v x c m d h ground)
 unfolding choose
-accepted true u v x c m d h ground f e = absurd (omega arith)
-accepted false true v x c m d h ground f e = absurd (omega arith)
-accepted false false true x c m d h ground f e = absurd (omega arith)
-accepted false false false true c m d h ground f e = absurd (omega arith)
-accepted false false false false (refused n) m d h ground f e = absurd (never (f n refl))
+accepted lent true v x c m d h ground g f e = absurd (g tt e)
+accepted lent false true x c m d h ground g f e = absurd (omega arith)
+accepted lent false false true c m d h ground g f e = absurd (omega arith)
+accepted lent false false false (refused n) m d h ground g f e = absurd (never (f n refl))
   where
     never : FiveOrSix n → ⊥
     never (inl z) = omega arith
     never (inr z) = omega arith
-accepted false false false false (found bs) m d h ground f e = record { one = refl; two = refl; three = refl; four = refl; boxes = bs; collects = refl; result = refl }
+accepted lent false false false (found bs) m d h ground g f e = record { lent = refl; three = refl; four = refl; boxes = bs; collects = refl; result = refl }
 
-no-not : (b : Bool) → not b ≡ false → T b
-no-not true e = tt
-no-not false e = absurd (subst T e tt)
-
-fitted : (b : Bool) → not (eqb (choose b 0 1) 0) ≡ false → b ≡ true
+window-taken : (tables window : ℕ) → choose (eqb tables 0) window tables ≡ 0 → window ≡ 0
 unfolding choose
-fitted true e = refl
-fitted false e = absurd (subst T e tt)
+window-taken tables window e = go (eqb tables 0) (λ z. eq→eqb {a = tables} {b = 0} z) e
+  where
+    go : (t : Bool) → (tables ≡ 0 → T t) → choose t window tables ≡ 0 → window ≡ 0
+    go true f e = e
+    go false f e = absurd (f e)
 
 pub demand3-window : WindowDemand
-unfolding moveEntry moveAabb windowOnGrid keepsStepIn
+unfolding moveEntry moveAabb lentRefusal windowOnGrid keepsStepIn
 demand3-window records shapes cells w m d h ground t e =
     let c = collectBlockBoxes (lookAt cells w) records shapes (sweptArea m d h) in
-    let a = accepted (not (eqb (tableRefusal records shapes) 0)) (not (eqb (windowRefusal (length cells) w) 0)) (not (isStep h)) (not (isBox m && isDelta d)) c m d h ground
+    let l = lentRefusal records shapes cells w in
+    let a = accepted l (not (eqb l 0)) (not (isStep h)) (not (isBox m && isDelta d)) c m d h ground (λ t z. T-not (eqb l 0) t (eq→eqb {a = l} {b = 0} z))
     (collect-refuses cells w records shapes (sweptArea m d h) .only) e in
     let bs = a .boxes in
-    let W = N.accepted (length cells) w (eqb→eq (windowRefusal (length cells) w) 0 (no-not (eqb (windowRefusal (length cells) w) 0) (a .two))) in
-    let R = fitted (tablesFit records shapes) (a .one) in
+    let W = N.accepted (length cells) w (window-taken (tableRefusal records shapes) (windowRefusal (length cells) w) (eqb→eq l 0 (no-not (eqb l 0) (a .lent)))) in
     let bd = no-not (isBox m && isDelta d) (a .four) in
-    let t1 = and-r (isProper m) (shapesOnGrid records shapes && (vecOnGrid d && (onGrid h && isFreeIn records shapes cells w m))) t in
-    let t2 = and-r (shapesOnGrid records shapes) (vecOnGrid d && (onGrid h && isFreeIn records shapes cells w m)) t1 in
+    let t1 = and-r (isProper m) (shapesOnGrid records shapes cells w && (vecOnGrid d && (onGrid h && isFreeIn records shapes cells w m))) t in
+    let t2 = and-r (shapesOnGrid records shapes cells w) (vecOnGrid d && (onGrid h && isFreeIn records shapes cells w m)) t1 in
     let t3 = and-r (vecOnGrid d) (onGrid h && isFreeIn records shapes cells w m) t2 in
-    let s : Start m d h = start m d h (and-l (isBox m) (isDelta d) bd) (and-l (isProper m) (shapesOnGrid records shapes && (vecOnGrid d && (onGrid h && isFreeIn records shapes cells w m))) t)
+    let s : Start m d h = start m d h (and-l (isBox m) (isDelta d) bd) (and-l (isProper m) (shapesOnGrid records shapes cells w && (vecOnGrid d && (onGrid h && isFreeIn records shapes cells w m))) t)
     (and-r (isBox m) (isDelta d) bd) (and-l (vecOnGrid d) (onGrid h && isFreeIn records shapes cells w m) t2) (no-not (isStep h) (a .three)) (and-l (onGrid h) (isFreeIn records shapes cells w m) t3) in
-    let r = through records shapes cells w R W (and-l (shapesOnGrid records shapes) (vecOnGrid d && (onGrid h && isFreeIn records shapes cells w m)) t1) m d h s bs (a .collects) (and-r (onGrid h) (isFreeIn records shapes cells w m) t3) ground in
+    let r = through records shapes cells w W (and-l (shapesOnGrid records shapes cells w) (vecOnGrid d && (onGrid h && isFreeIn records shapes cells w m)) t1) m d h s bs (a .collects) (and-r (onGrid h) (isFreeIn records shapes cells w m) t3) ground in
     let k : keepsAmong c m d h ground ≡ keepsStep bs m d h ground = ap (λ (x : Ask (List Aabb)). keepsAmong x m d h ground) (a .collects) in
     subst (λ (q : MoveResult). Demand3 (IsSettled records shapes cells w) (keepsAmong c m d h ground) m d q) (sym (a .result))
     (subst (λ (q : Bool). Demand3 (IsSettled records shapes cells w) q m d (moveOver bs m d h ground)) (sym k) r)

@@ -1,16 +1,17 @@
 -- Values on the grid of multiples of 1/4096, and that sums, differences and comparisons of them are exact. `At x p n` says that x is finite and is
 -- (p - n) / 4096, either sign of zero allowed. Assumes nothing.
-use mathlib.Core.Path.{_≡_, refl, sym, ap, _∙_, subst}
-use mathlib.Core.Bool.{Bool, true, false, not, _&&_, _||_, cond}
+use mathlib.Core.Path.{_≡_, sym, ap, _∙_, subst}
+use mathlib.Core.Bool.{Bool, true, false, not, _&&_, _||_, cond, and-true}
 use Prim.Native.Nat.{ℕ, _+_, _-_, _^_, _≤_, _<_}
-use native.Mathlib.Nat.{le-of-lt, le-antisymm, le-of-eq, not-le-of-lt, lt-of-lt-of-le, mul-assoc}
+use native.Mathlib.Nat.{lt-of-lt-of-le, mul-assoc}
 use native.Mathlib.Omega.{arith}
-use lib.Dec.{T, ltb, leb, eqb, leb→le, le→leb, lit<, lit≤, ltb→lt, lt→ltb, nltb→le, eqb→eq}
+use lib.Dec.{T, ltb, leb, eqb, lit<, lit≤, ltb→lt, nltb→le, eqb→eq}
 use lib.Pow.{pow-mono, shl-lt}
 use lib.Ieee.{Float, nan, inf, fin, binary64, round, sum, add, sub, neg, lt, le, eq, below, level}
 use lib.Ieee.Fits.{eq→eqb}
 use lib.Ieee.Exact.{HasValue, round-exact}
 use Rattle.base.proofs.Values.{add-common, lt-common, eq-common}
+use Rattle.base.proofs.Tests.{bool-iff, ltb-iff, leb-iff, eqb-iff, ltb-no, leb-split}
 
 -- k units of 1/4096 with the sign s: p - n units
 abbrev pub Signed : Bool → ℕ → ℕ → ℕ → Type 0
@@ -77,32 +78,6 @@ at-same p n p' n' e h = record { sign = h .sign; size = h .size; value = h .valu
     go true k u = omega arith
 
 -- ---- the order: each test on floats is the test on whole numbers
-pub T-true : (b : Bool) → T b → b ≡ true
-T-true true t = refl
-T-true false t = absurd t
-
-pub bool-iff : (a b : Bool) → (T a → T b) → (T b → T a) → a ≡ b
-bool-iff true true f g = refl
-bool-iff true false f g = absurd (f tt)
-bool-iff false true f g = absurd (g tt)
-bool-iff false false f g = refl
-
-pub ltb-iff : (a b c d : ℕ) → (a < b → c < d) → (c < d → a < b) → ltb a b ≡ ltb c d
-ltb-iff a b c d f g = bool-iff (ltb a b) (ltb c d) (λ (t : T (ltb a b)). lt→ltb c d (f (ltb→lt a b t))) (λ (t : T (ltb c d)). lt→ltb a b (g (ltb→lt c d t)))
-
-pub leb-iff : (a b c d : ℕ) → (a ≤ b → c ≤ d) → (c ≤ d → a ≤ b) → leb a b ≡ leb c d
-leb-iff a b c d f g = bool-iff (leb a b) (leb c d) (λ (t : T (leb a b)). le→leb c d (f (leb→le a b t))) (λ (t : T (leb c d)). le→leb a b (g (leb→le c d t)))
-
-eqb-iff : (a b c d : ℕ) → (a ≡ b → c ≡ d) → (c ≡ d → a ≡ b) → eqb a b ≡ eqb c d
-eqb-iff a b c d f g = bool-iff (eqb a b) (eqb c d) (λ (t : T (eqb a b)). eq→eqb (f (eqb→eq a b t))) (λ (t : T (eqb c d)). eq→eqb (g (eqb→eq c d t)))
-
-and-yes : (b : Bool) → b && true ≡ b
-and-yes true = refl
-and-yes false = refl
-
-pub ltb-no : (a b : ℕ) → b ≤ a → ltb a b ≡ false
-ltb-no a b h = bool-iff (ltb a b) false (λ (t : T (ltb a b)). not-le-of-lt (ltb→lt a b t) h) (λ (t : ⊥). absurd t)
-
 module _ (k l p n q m : ℕ) where
   below-at : (s t : Bool) → Signed s k p n → Signed t l q m → below s k t l ≡ ltb (p + m) (q + n)
   below-at false false x y = ltb-iff k l (p + m) (q + n) (λ (h : k < l). omega arith) (λ (h : p + m < q + n). omega arith)
@@ -118,8 +93,8 @@ module _ (k l p n q m : ℕ) where
       go false h j = bool-iff false (eqb (p + m) (q + n)) (λ (t : ⊥). absurd t) (λ (t : T (eqb (p + m) (q + n))). let w : k + l ≡ 0 = g (eqb→eq (p + m) (q + n) t) in j (omega arith))
 
   level-at : (s t : Bool) → Signed s k p n → Signed t l q m → level s k t l ≡ eqb (p + m) (q + n)
-  level-at false false x y = and-yes (eqb k l) ∙ eqb-iff k l (p + m) (q + n) (λ (h : k ≡ l). omega arith) (λ (h : p + m ≡ q + n). omega arith)
-  level-at true true x y = and-yes (eqb k l) ∙ eqb-iff k l (p + m) (q + n) (λ (h : k ≡ l). omega arith) (λ (h : p + m ≡ q + n). omega arith)
+  level-at false false x y = and-true (eqb k l) ∙ eqb-iff k l (p + m) (q + n) (λ (h : k ≡ l). omega arith) (λ (h : p + m ≡ q + n). omega arith)
+  level-at true true x y = and-true (eqb k l) ∙ eqb-iff k l (p + m) (q + n) (λ (h : k ≡ l). omega arith) (λ (h : p + m ≡ q + n). omega arith)
   level-at false true x y = unlike-level (λ (h : k + l ≡ 0). omega arith) (λ (h : p + m ≡ q + n). omega arith)
   level-at true false x y = unlike-level (λ (h : k + l ≡ 0). omega arith) (λ (h : p + m ≡ q + n). omega arith)
 
@@ -130,15 +105,6 @@ lt-at x y p n q m h j =
 pub eq-at : (x y : Float) (p n q m : ℕ) → At x p n → At y q m → eq x y ≡ eqb (p + m) (q + n)
 eq-at x y p n q m h j =
     eq-common x y (h .sign) (h .size) (j .sign) (j .size) 4096 (lit< tt) (h .value) (j .value) ∙ level-at (h .size) (j .size) p n q m (h .sign) (j .sign) (h .units) (j .units)
-
-leb-split : (a b : ℕ) → ltb a b || eqb a b ≡ leb a b
-leb-split a b = go (ltb a b) (ltb→lt a b) (nltb→le a b)
-  where
-    go : (t : Bool) → (T t → a < b) → (T (not t) → b ≤ a) → t || eqb a b ≡ leb a b
-    go true h j = bool-iff true (leb a b) (λ (u : Unit {0}). le→leb a b (le-of-lt (h tt))) (λ (u : T (leb a b)). tt)
-    go false h j =
-        bool-iff (eqb a b) (leb a b) (λ (u : T (eqb a b)). le→leb a b (le-of-eq (eqb→eq a b u)))
-        (λ (u : T (leb a b)). eq→eqb (le-antisymm (leb→le a b u) (j tt)))
 
 pub le-at : (x y : Float) (p n q m : ℕ) → At x p n → At y q m → le x y ≡ leb (p + m) (q + n)
 unfolding le

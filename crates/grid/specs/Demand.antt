@@ -6,7 +6,7 @@
 -- The limits are those that an accepted move was held to. `ListDemand` and `WindowDemand` are the two theorems; proofs/OverList and proofs/Through prove
 -- them. `T` of a test says that it is true, and `Block b` that b is one of the block boxes.
 use mathlib.Core.Path.{_≡_}
-use mathlib.Core.Bool.{Bool, false, not, _&&_, _||_}
+use mathlib.Core.Bool.{Bool, true, false, not, _&&_, _||_}
 use mathlib.Core.List.{List, List·Memᴰ}
 use Prim.Native.Nat.{ℕ}
 use lib.Dec.{T}
@@ -15,23 +15,22 @@ use lib.Ieee.{Float, fin, binary64, ofBits, add, sub, lt, le, eq}
 use Rattle.base.specs.Choose.{choose}
 use Rattle.base.specs.Ask.{Ask, refused, found}
 use Rattle.base.specs.Every.{every}
-use Rattle.floats.specs.Numbers.{zero64}
+use Rattle.floats.specs.Numbers.{zero64, one64}
 use Rattle.boxes.specs.declared.Vec3.{Vec3}
 use Rattle.boxes.specs.declared.Aabb.{Aabb}
-use Rattle.boxes.specs.declared.Swept.{Swept}
-use Rattle.boxes.specs.declared.BoxList.{BoxList}
-use Rattle.boxes.specs.declared.MoveResult.{MoveResult}
+use Rattle.sweeps.specs.declared.Swept.{Swept}
+use Rattle.sweeps.specs.declared.BoxList.{BoxList}
+use Rattle.sweeps.specs.declared.MoveResult.{MoveResult}
 use Rattle.boxes.specs.Boxes.{vec, offsetBy, overlap}
-use Rattle.boxes.specs.Lists.{listOf}
-use Rattle.boxes.specs.Move.{clipSequence, steppedUp, flatSquare, triesStep}
-use Rattle.boxes.specs.Entry.{moveOverList}
+use Rattle.sweeps.specs.Lists.{listOf}
+use Rattle.sweeps.specs.Move.{clipSequence, steppedUp, flatSquare, triesStep}
+use Rattle.sweeps.specs.Entry.{moveOverList}
 use Rattle.cover.specs.Cover.{boxCount}
-use Rattle.tables.specs.Tables.{stateBoxes, boxAt}
-use Rattle.tables.specs.Check.{stateCount}
+use Rattle.tables.specs.Tables.{boxesAt, boxAt}
 use Rattle.window.specs.declared.Pos.{Pos}
 use Rattle.window.specs.declared.Window.{Window}
 use Rattle.window.specs.Look.{lookAt}
-use Rattle.moves.specs.Collect.{one64, toAabb, collectBlockBoxes}
+use Rattle.moves.specs.Collect.{CellShape, cube, boxes as ofState, toAabb, cellShape, collectBlockBoxes}
 use Rattle.moves.specs.Settled.{settledBoxes}
 use Rattle.moves.specs.Answers.{sweptArea, moveEntry}
 use Rattle.grid.specs.Grid.{onGrid, vecOnGrid, isProper, areProper, isFree}
@@ -52,11 +51,11 @@ unfoldable pub between : Float → Float → Float → Bool
 between a b x = (le a x && le x b) || (le b x && le x a)
 
 -- 1/4096, and a way longer by it, towards the share
-abbrev pub unit : Float
-unit = fin false 1 (negsuc 11)
+abbrev pub gridUnit : Float
+gridUnit = fin false 1 (negsuc 11)
 
 unfoldable pub further : Float → Float → Float
-further way share = choose (lt zero64 share) (add binary64 way unit) (sub binary64 way unit)
+further way share = choose (lt zero64 share) (add binary64 way gridUnit) (sub binary64 way gridUnit)
 
 -- On one axis, where `at s` is the box after the way s along it: the way taken is a multiple of 1/4096 towards the share; no multiple on it,
 -- both ends counted, overlaps; and if it falls short of the share, one multiple further would overlap.
@@ -67,21 +66,21 @@ pub record Travels (Block : Aabb → Type 0) (at : Float → Aabb) (share way : 
   pub far : T (not (eq way share)) → Struck Block (at (further way share))
 
 -- a box moved along one axis, as the move does it
-abbrev pub alongX : Aabb → Float → Aabb
-alongX b s = offsetBy b (vec s zero64 zero64)
+abbrev pub movedX : Aabb → Float → Aabb
+movedX b s = offsetBy b (vec s zero64 zero64)
 
-abbrev pub alongY : Aabb → Float → Aabb
-alongY b s = offsetBy b (vec zero64 s zero64)
+abbrev pub movedY : Aabb → Float → Aabb
+movedY b s = offsetBy b (vec zero64 s zero64)
 
-abbrev pub alongZ : Aabb → Float → Aabb
-alongZ b s = offsetBy b (vec zero64 zero64 s)
+abbrev pub movedZ : Aabb → Float → Aabb
+movedZ b s = offsetBy b (vec zero64 zero64 s)
 
 -- y, then x, then z, each as far as it can
 pub record Farthest (Block : Aabb → Type 0) (aabb : Aabb) (delta : Vec3) (r : MoveResult) : Type 0 where
-  pub y : Travels Block (alongY aabb) (delta .y) (r .moved .y)
-  pub x : Travels Block (alongX (alongY aabb (r .moved .y))) (delta .x) (r .moved .x)
-  pub z : Travels Block (alongZ (alongX (alongY aabb (r .moved .y)) (r .moved .x))) (delta .z) (r .moved .z)
-  pub end : r .aabb ≡ alongZ (alongX (alongY aabb (r .moved .y)) (r .moved .x)) (r .moved .z)
+  pub y : Travels Block (movedY aabb) (delta .y) (r .moved .y)
+  pub x : Travels Block (movedX (movedY aabb (r .moved .y))) (delta .x) (r .moved .x)
+  pub z : Travels Block (movedZ (movedX (movedY aabb (r .moved .y)) (r .moved .x))) (delta .z) (r .moved .z)
+  pub end : r .aabb ≡ movedZ (movedX (movedY aabb (r .moved .y)) (r .moved .x)) (r .moved .z)
 
 pub record Demand3 (Block : Aabb → Type 0) (stepKept : Bool) (aabb : Aabb) (delta : Vec3) (r : MoveResult) : Type 0 where
   pub free : Free Block (r .aabb)
@@ -123,25 +122,32 @@ isInCell b =
     (le zero64 (b .min .x) && (le zero64 (b .min .y) && le zero64 (b .min .z)))
     && (le (b .max .x) one64 && (le (b .max .y) cellAndHalf && le (b .max .z) one64))
 
--- every box of a shape, and the shapes of all states
+-- every box of a shape
 unfoldable pub shapeOnGrid : List Float → Bool
 shapeOnGrid shape = every (boxCount shape) (λ k. isProper (toAabb (boxAt shape k)) && isInCell (toAabb (boxAt shape k)))
 
-unfoldable pub shapesOnGrid : List ℕ → List Float → Bool
-shapesOnGrid records shapes = every (stateCount records) (λ state. shapeOnGrid (stateBoxes records shapes state))
+-- what a cell comes to, beside its neighbours: an unloaded one is a full cube, and one that the look-up does not settle has no shape
+abbrev pub settledOnGrid : List Float → Ask CellShape → Bool
+settledOnGrid shapes (refused k) = true
+settledOnGrid shapes (found cube) = true
+settledOnGrid shapes (found (ofState first count)) = shapeOnGrid (boxesAt shapes first count)
 
--- the cell of the window that lies so far from its origin
+-- the cell of the window that lies so far from its origin, and a test of every one; no other cell is settled
 abbrev pub cellFrom : Window → ℕ → ℕ → ℕ → Pos
 cellFrom w x y z = record { x = w .origin .x +ℤ pos x; y = w .origin .y +ℤ pos y; z = w .origin .z +ℤ pos z }
 
--- no overlap with the boxes of any cell of the window; no other cell is settled
-unfoldable pub isFreeIn : List ℕ → List Float → List ℕ → Window → Aabb → Bool
-isFreeIn records shapes cells w a =
-    every (w .sizes .y) (λ y. every (w .sizes .x) (λ x. every (w .sizes .z) (λ z. isFree a (settledBoxes (lookAt cells w) records shapes (cellFrom w x y z)))))
+unfoldable pub everyCell : Window → (Pos → Bool) → Bool
+everyCell w test = every (w .sizes .y) (λ y. every (w .sizes .x) (λ x. every (w .sizes .z) (λ z. test (cellFrom w x y z))))
+
+abbrev pub shapesOnGrid : List ℕ → List Float → List ℕ → Window → Bool
+shapesOnGrid records shapes cells w = everyCell w (λ p. settledOnGrid shapes (cellShape (lookAt cells w) records p))
+
+abbrev pub isFreeIn : List ℕ → List Float → List ℕ → Window → Aabb → Bool
+isFreeIn records shapes cells w a = everyCell w (λ p. isFree a (settledBoxes (lookAt cells w) records shapes p))
 
 unfoldable pub windowOnGrid : List ℕ → List Float → List ℕ → Window → Aabb → Vec3 → Float → Bool
 windowOnGrid records shapes cells w aabb delta stepHeight =
-    isProper aabb && (shapesOnGrid records shapes && (vecOnGrid delta && (onGrid stepHeight && isFreeIn records shapes cells w aabb)))
+    isProper aabb && (shapesOnGrid records shapes cells w && (vecOnGrid delta && (onGrid stepHeight && isFreeIn records shapes cells w aabb)))
 
 -- a step-up is kept, among the boxes that the move collects
 abbrev pub keepsAmong : Ask (List Aabb) → Aabb → Vec3 → Float → Bool → Bool

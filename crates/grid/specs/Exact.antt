@@ -1,24 +1,25 @@
 -- "Clipping shown exact on the 1/4096 grid": the clips of crates/boxes over whole numbers of 1/4096, line by line, and the law that on the grid the
--- clips over f64 come to the same. So none of their differences is rounded.
+-- clips over f64 come to the same. So none of their differences is rounded. Nor is a sum where a box is moved.
 use mathlib.Core.Path.{_≡_}
 use mathlib.Core.Bool.{Bool, _&&_, _||_}
 use Prim.Native.Nat.{_*_, _/_}
 use lib.Dec.{T}
-use lib.IntN.{ℤ, pos, _-ℤ_}
+use lib.IntN.{ℤ, pos, _+ℤ_, _-ℤ_}
 use lib.Signed.{ltZ, leZ}
 use lib.Ieee.{Float, nan, inf, fin, up, down}
 use Rattle.base.specs.Choose.{choose}
 use Rattle.floats.specs.Whole.{signedOf}
+use Rattle.boxes.specs.declared.Vec3.{Vec3}
 use Rattle.boxes.specs.declared.Aabb.{Aabb}
-use Rattle.boxes.specs.Boxes.{clipX, clipY, clipZ}
-use Rattle.boxes.specs.Limits.{isBox}
+use Rattle.boxes.specs.Boxes.{offsetBy, clipX, clipY, clipZ}
+use Rattle.boxes.specs.Limits.{twoTo, areWithin, isBox}
 use Rattle.grid.specs.Grid.{onGrid, vecOnGrid}
 
 -- how many times 1/4096 a number on the grid is
-unfoldable pub unitsOf : Float → ℤ
-unitsOf nan = pos 0
-unitsOf (inf s) = pos 0
-unitsOf (fin s m e) = signedOf s (m * up e * 4096 / down e)
+unfoldable pub gridUnits : Float → ℤ
+gridUnits nan = pos 0
+gridUnits (inf s) = pos 0
+gridUnits (fin s m e) = signedOf s (m * up e * 4096 / down e)
 
 abbrev pub leastZ : ℤ → ℤ → ℤ
 leastZ a b = choose (ltZ b a) b a
@@ -47,12 +48,12 @@ pub record Units : Type 0 where
 abbrev pub boxUnits : Aabb → Units
 boxUnits b =
     record {
-      x0 = unitsOf (b .min .x);
-      y0 = unitsOf (b .min .y);
-      z0 = unitsOf (b .min .z);
-      x1 = unitsOf (b .max .x);
-      y1 = unitsOf (b .max .y);
-      z1 = unitsOf (b .max .z);
+      x0 = gridUnits (b .min .x);
+      y0 = gridUnits (b .min .y);
+      z0 = gridUnits (b .min .z);
+      x1 = gridUnits (b .max .x);
+      y1 = gridUnits (b .max .y);
+      z1 = gridUnits (b .max .z);
     }
 
 abbrev pub clipXZ : Units → Units → ℤ → ℤ
@@ -67,12 +68,12 @@ clipZZ b m d = choose (apartZ (b .x0) (b .x1) (m .x0) (m .x1) || apartZ (b .y0) 
 -- a number on the grid that is n times 1/4096
 pub record Exact (x : Float) (n : ℤ) : Type 0 where
   pub grid : T (onGrid x)
-  pub units : unitsOf x ≡ n
+  pub units : gridUnits x ≡ n
 
 pub record ClipsExactly (b mover : Aabb) (d : Float) : Type 0 where
-  pub x : Exact (clipX b mover d) (clipXZ (boxUnits b) (boxUnits mover) (unitsOf d))
-  pub y : Exact (clipY b mover d) (clipYZ (boxUnits b) (boxUnits mover) (unitsOf d))
-  pub z : Exact (clipZ b mover d) (clipZZ (boxUnits b) (boxUnits mover) (unitsOf d))
+  pub x : Exact (clipX b mover d) (clipXZ (boxUnits b) (boxUnits mover) (gridUnits d))
+  pub y : Exact (clipY b mover d) (clipYZ (boxUnits b) (boxUnits mover) (gridUnits d))
+  pub z : Exact (clipZ b mover d) (clipZZ (boxUnits b) (boxUnits mover) (gridUnits d))
 
 -- boxes within document 01's limits, and any way
 abbrev pub ClipLaw : Type 0
@@ -82,3 +83,20 @@ ClipLaw =
     → T (isBox mover && (vecOnGrid (mover .min) && vecOnGrid (mover .max)))
     → T (onGrid d)
     → ClipsExactly b mover d
+
+-- ---- moving a box, along an axis too: there the two other numbers of `by` are zero
+
+pub record OffsetsExactly (b : Aabb) (by : Vec3) : Type 0 where
+  pub x0 : Exact (offsetBy b by .min .x) (gridUnits (b .min .x) +ℤ gridUnits (by .x))
+  pub y0 : Exact (offsetBy b by .min .y) (gridUnits (b .min .y) +ℤ gridUnits (by .y))
+  pub z0 : Exact (offsetBy b by .min .z) (gridUnits (b .min .z) +ℤ gridUnits (by .z))
+  pub x1 : Exact (offsetBy b by .max .x) (gridUnits (b .max .x) +ℤ gridUnits (by .x))
+  pub y1 : Exact (offsetBy b by .max .y) (gridUnits (b .max .y) +ℤ gridUnits (by .y))
+  pub z1 : Exact (offsetBy b by .max .z) (gridUnits (b .max .z) +ℤ gridUnits (by .z))
+
+-- on the grid, and within twice the limit of a coordinate: a box that has gone part of its way may lie past that limit
+abbrev pub isNear : Vec3 → Bool
+isNear v = areWithin v (twoTo 26) && vecOnGrid v
+
+abbrev pub OffsetLaw : Type 0
+OffsetLaw = (b : Aabb) (by : Vec3) → T (isNear (b .min)) → T (isNear (b .max)) → T (isNear by) → OffsetsExactly b by

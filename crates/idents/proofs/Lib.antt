@@ -1,4 +1,2 @@
 -- Laws of this crate's definitions, on plain values.
-pub mod Bytes
-pub mod Texts
 pub mod Numbers

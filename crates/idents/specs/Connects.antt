@@ -5,7 +5,7 @@ use Prim.Native.Nat.{ℕ}
 use Rattle.base.specs.Choose.{choose}
 use Rattle.idents.specs.declared.Connects.{Connects}
 use Rattle.idents.specs.declared.Connects.the-variants.{Nothing, Fence, NetherBrickFence, Thin, Wall}
-use Rattle.idents.specs.Bytes.{bytes, equal, endsWith}
+use Rattle.suffixes.specs.Bytes.{bytes, equal, endsWith}
 
 -- the numbers of word 4
 abbrev pub connectsNumber : Connects → ℕ

@@ -1,4 +1,3 @@
--- The definitions of module 3: bytes, connects-as, and the wall post rule.
-pub mod Bytes
+-- The definitions of module 3: connects-as, and the wall post rule.
 pub mod Connects
 pub mod Posts

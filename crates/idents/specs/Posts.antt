@@ -7,7 +7,7 @@ use Rattle.base.specs.Choose.{choose}
 use Rattle.idents.specs.declared.Properties.{Properties}
 use Rattle.idents.specs.declared.Post.{Post}
 use Rattle.idents.specs.declared.Post.the-variants.{Never, Always, North, East, South, West, BadDirection}
-use Rattle.idents.specs.Bytes.{bytes, equal, endsWith, hasWithin}
+use Rattle.suffixes.specs.Bytes.{bytes, equal, endsWith, hasWithin}
 use Rattle.idents.specs.declared.Connects.the-variants.{Wall}
 use Rattle.idents.specs.Connects.{connectsNumber, connectsAs}
 

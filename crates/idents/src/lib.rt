@@ -1,8 +1,10 @@
 // Module 3, identifiers: what a block connects as, and whether it raises the post of a wall below it, from the bytes of its identifier and
 // its properties. A host that fills tables asks these once for a state.
+use suffixes::contains;
+use suffixes::ends_with;
+use suffixes::equals;
 ghost use mathlib.Core.Path.{_≡_};
 ghost use Rattle.base.specs.Choose.{choose};
-ghost use Rattle.idents.specs.Bytes.{equal, endsWith, hasWithin};
 ghost use Rattle.idents.specs.Connects.{connectsNumber, connectsAs};
 ghost use Rattle.idents.specs.Posts.{postNumber, raised, facing, isWoodenTrapdoor, wallPost};
 
@@ -35,46 +37,6 @@ pub struct Properties {
     pub wall_post: u32,
     pub open: u32,
     pub direction: u32,
-}
-
-pub fn equals(a: &[u8], b: &[u8]) -> bool
-    ensures { λ r. ⌜ r ≡ equal (now (a .entry)) (now (b .entry)) ⌝ }
-{
-    if a.len() != b.len() {
-        return false;
-    }
-    let mut i = 0;
-    while i < a.len() {
-        if a[i] != b[i] {
-            return false;
-        }
-        i += 1;
-    }
-    true
-}
-
-pub fn ends_with(id: &[u8], suffix: &[u8]) -> bool
-    ensures { λ r. ⌜ r ≡ endsWith (now (id .entry)) (now (suffix .entry)) ⌝ }
-{
-    if id.len() < suffix.len() {
-        return false;
-    }
-    let from = id.len() - suffix.len();
-    equals(&id[from..], suffix)
-}
-
-pub fn contains(id: &[u8], part: &[u8]) -> bool
-    ensures { λ r. ⌜ r ≡ hasWithin (now (id .entry)) (now (part .entry)) ⌝ }
-{
-    let n = part.len();
-    let mut k = 0;
-    while k + n <= id.len() {
-        if equals(&id[k..k + n], part) {
-            return true;
-        }
-        k += 1;
-    }
-    false
 }
 
 pub fn connects_as(id: &[u8], has_wall_north: bool, has_fence_north: bool) -> Connects

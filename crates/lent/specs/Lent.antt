@@ -1,19 +1,16 @@
 -- What every entry asks first of what it is lent: 1 for the tables, then 2 for the window. 3 and 4 follow in the entry itself.
-use mathlib.Core.Bool.{Bool, not}
+use mathlib.Core.Bool.{not}
 use mathlib.Core.List.{List}
 use Prim.Native.Nat.{ℕ}
 use lib.Dec.{eqb}
 use lib.ListN.{length}
 use lib.Ieee.{Float}
 use Rattle.base.specs.Choose.{choose}
-use Rattle.base.specs.Ask.{Ask, refused}
-use Rattle.tables.specs.Check.{tableRefusal}
+use Rattle.base.specs.Ask.{Ask}
+pub use Rattle.base.specs.Ask.{unless}
+use Rattle.table_check.specs.Check.{tableRefusal}
 use Rattle.window.specs.declared.Window.{Window}
 use Rattle.window.specs.Window.{windowRefusal}
-
--- what is asked, or the refusal n where a test says that something is bad
-abbrev pub unless : {A : Type 0} → Bool → ℕ → Ask A → Ask A
-unless bad n ask = choose bad (refused n) ask
 
 -- 0, or the number of the first refusal of the two
 unfoldable pub lentRefusal : List ℕ → List Float → List ℕ → Window → ℕ

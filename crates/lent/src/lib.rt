@@ -7,7 +7,7 @@ ghost use Rattle.lent.specs.Lent.{lentRefusal};
 pub fn check_lent(records: &[u32], shapes: &[f32], cells: &[u32], w: Window) -> u32
     ensures { λ r. ⌜ r ≡ lentRefusal (now (records .entry)) (now (shapes .entry)) (now (cells .entry)) w ⌝ }
 {
-    let tables = tables::check_tables(records, shapes);
+    let tables = table_check::check_tables(records, shapes);
     if tables == 0 {
         return window::check_window(cells, w);
     }

@@ -1,5 +1,6 @@
 -- What the proofs of liquids share.
-pub mod Gaps
+pub mod Answers
 pub mod Cells
+pub mod Constants
+pub mod Reach
 pub mod Walking
-pub mod Sides

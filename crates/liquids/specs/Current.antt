@@ -1,5 +1,5 @@
 -- The Rust's `item_current`: the flows of the cells that an item's box reaches, and what they do to its velocity.
-use mathlib.Core.Bool.{Bool, false, not}
+use mathlib.Core.Bool.{Bool, false, not, _&&_}
 use mathlib.Core.List.{List}
 use Prim.Native.Nat.{ℕ}
 use lib.Dec.{eqb}
@@ -7,10 +7,12 @@ use lib.IntN.{ℤ, pos, negsuc, _-ℤ_}
 use lib.Ieee.{Float, binary64, ofBits, neg}
 use Rattle.base.specs.Choose.{choose}
 use Rattle.base.specs.Ask.{Ask, found, _>>=_, Turn, next, resume}
-use Rattle.floats.specs.Whole.{cellOf}
+use Rattle.floats.specs.Whole.{cellOf, ceilingOf}
 use Rattle.boxes.specs.declared.Vec3.{Vec3}
 use Rattle.boxes.specs.declared.Aabb.{Aabb}
 use Rattle.boxes.specs.Boxes.{plus}
+use Rattle.boxes.specs.Limits.{twoTo, areWithin}
+use Rattle.boxes.specs.Vectors.{zeroVec, scaled, normalised}
 use Rattle.tables.specs.declared.LiquidKind.{LiquidKind}
 use Rattle.tables.specs.declared.LiquidKind.the-variants.{None, Water, Lava}
 use Rattle.tables.specs.declared.LiquidState.{LiquidState}
@@ -20,18 +22,18 @@ use Rattle.ranges.specs.declared.Axis.{Axis}
 use Rattle.ranges.specs.declared.Range.{Range}
 use Rattle.ranges.specs.Ranges.{orZero}
 use Rattle.ranges.specs.Walk.{walk}
+use Rattle.lent.specs.Lent.{unless}
+use Rattle.flow.specs.Liquid.{isLiquid, liquidHeld}
+use Rattle.flow.specs.Flow.{liquidFlow}
 use Rattle.liquids.specs.declared.Stream.{Stream}
 use Rattle.liquids.specs.declared.Streams.{Streams}
 use Rattle.liquids.specs.declared.Current.{Current}
-use Rattle.liquids.specs.Vectors.{zeroVec, scaled, normalised}
-use Rattle.liquids.specs.Liquid.{isLiquid, liquidAsked}
-use Rattle.liquids.specs.Flow.{liquidFlow}
 
 -- ---- cells
 
--- the ceiling of a coordinate, as `cellOf` is its floor: the least whole number that is not below it, which is 0 less the floor of -x
-abbrev pub ceilingOf : Float → ℤ
-ceilingOf x = pos 0 -ℤ cellOf (neg x)
+-- A number of the box is not finite or of size above 2 ^ 26, where `cellOf` stops. Such a box reaches cells that no window holds.
+unfoldable pub beyondReach : Aabb → Bool
+beyondReach aabb = not (areWithin (aabb .min) (twoTo 26) && areWithin (aabb .max) (twoTo 26))
 
 -- lo.floor() .. hi.ceil(), the upper end excluded
 abbrev pub cellsUpTo : Float → Float → Axis
@@ -56,7 +58,7 @@ samePos p q = choose (sameNumber (p .x) (q .x)) (choose (sameNumber (p .y) (q .y
 
 -- if pos == foot_pos { foot_state } else { liquid_at(blocks, pos) }: the cell of the feet is not asked for twice
 unfoldable pub liquidKnown : (Pos → Ask Block) → List ℕ → Pos → LiquidState → Pos → Ask LiquidState
-liquidKnown look records foot footState p = choose (samePos p foot) (found footState) (liquidAsked look records p)
+liquidKnown look records foot footState p = choose (samePos p foot) (found footState) (liquidHeld look records p)
 
 -- ---- flows and counts of the two kinds; of a count it matters whether it is 0, 1 or more
 
@@ -70,13 +72,13 @@ unfoldable pub oneMore : ℕ → ℕ
 oneMore count = choose (eqb count 0) 1 2
 
 -- flows[index] += flow; counts[index] += 1;
-unfoldable pub joined : Stream → Vec3 → Stream
-joined s flow = record { flow = plus (s .flow) flow; count = oneMore (s .count) }
+unfoldable pub streamWith : Stream → Vec3 → Stream
+streamWith s flow = record { flow = plus (s .flow) flow; count = oneMore (s .count) }
 
 unfoldable pub gathered : LiquidKind → Vec3 → Streams → Streams
 gathered None flow s = s
-gathered Water flow s = record { water = joined (s .water) flow; lava = s .lava }
-gathered Lava flow s = record { water = s .water; lava = joined (s .lava) flow }
+gathered Water flow s = record { water = streamWith (s .water) flow; lava = s .lava }
+gathered Lava flow s = record { water = s .water; lava = streamWith (s .lava) flow }
 
 -- one cell
 unfoldable pub currentTurn : (Pos → Ask Block) → List ℕ → Pos → LiquidState → Pos → Streams → Ask (Turn Streams Current)
@@ -102,18 +104,21 @@ unfoldable pub directionOf : Stream → Vec3
 directionOf s = choose (eqb (s .count) 1) (s .flow) (normalised (s .flow))
 
 -- current += direction * acceleration, where there is any flow
-unfoldable pub pushed : Vec3 → Stream → Float → Vec3
-pushed current s acceleration = choose (eqb (s .count) 0) current (plus current (scaled (directionOf s) acceleration))
+unfoldable pub carriedBy : Vec3 → Stream → Float → Vec3
+carriedBy current s acceleration = choose (eqb (s .count) 0) current (plus current (scaled (directionOf s) acceleration))
 
 -- water first; and whether there is water
 unfoldable pub currentOf : Streams → Current
 currentOf s =
     record {
-      flow = pushed (pushed zeroVec (s .water) waterPush) (s .lava) lavaPush;
+      flow = carriedBy (carriedBy zeroVec (s .water) waterPush) (s .lava) lavaPush;
       water = not (eqb (s .water .count) 0);
     }
 
+-- a box out of reach is refused before any cell is asked for
 unfoldable pub itemCurrent : (Pos → Ask Block) → List ℕ → Aabb → Pos → LiquidState → Ask Current
-itemCurrent look records aabb foot footState = do
-  end ← walk (currentTurn look records foot footState) (reachOf aabb) noStreams
-  resume (λ s. found (currentOf s)) end
+itemCurrent look records aabb foot footState =
+    unless (beyondReach aabb) 5
+    (do
+      end ← walk (currentTurn look records foot footState) (reachOf aabb) noStreams
+      resume (λ s. found (currentOf s)) end)

@@ -17,9 +17,9 @@ use Rattle.window.specs.Look.{Block}
 use Rattle.ranges.specs.declared.Range.{Range}
 use Rattle.ranges.specs.Ranges.{cellsBetween}
 use Rattle.ranges.specs.Walk.{walk}
-use Rattle.liquids.specs.Vectors.{one64}
-use Rattle.liquids.specs.Liquid.{isLiquid, liquidAsked}
+use Rattle.flow.specs.Liquid.{isLiquid, liquidHeld}
 use Rattle.liquids.specs.Flotation.{surfaceAt}
+use Rattle.floats.specs.Numbers.{one64}
 
 -- 0.001, and DVec3::splat of it
 abbrev pub thousandth : Float
@@ -28,8 +28,8 @@ thousandth = ofBits binary64 4562254508917369340
 abbrev pub splat : Float → Vec3
 splat d = vec d d d
 
-unfoldable pub inner : Aabb → Aabb
-inner aabb = box (plus (aabb .min) (splat thousandth)) (minus (aabb .max) (splat thousandth))
+unfoldable pub shrunk : Aabb → Aabb
+shrunk aabb = box (plus (aabb .min) (splat thousandth)) (minus (aabb .max) (splat thousandth))
 
 -- upper ends included
 unfoldable pub cellsOf : Aabb → Range
@@ -57,10 +57,10 @@ wetIn feet p state lava =
 
 unfoldable pub livingTurn : (Pos → Ask Block) → List ℕ → Float → Pos → Bool → Ask (Turn Bool LiquidKind)
 livingTurn look records feet p lava = do
-  state ← liquidAsked look records p
+  state ← liquidHeld look records p
   found (wetIn feet p state lava)
 
 unfoldable pub livingLiquid : (Pos → Ask Block) → List ℕ → Aabb → Ask LiquidKind
 livingLiquid look records aabb = do
-  end ← walk (livingTurn look records (inner aabb .min .y)) (cellsOf (inner aabb)) false
+  end ← walk (livingTurn look records (shrunk aabb .min .y)) (cellsOf (shrunk aabb)) false
   resume (λ lava. found (choose lava Lava None)) end

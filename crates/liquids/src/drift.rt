@@ -1,20 +1,20 @@
 // What the flows of the cells that an item's box reaches do to its velocity.
+use crate::AskedCurrent;
 use crate::Current;
-use crate::Currents;
-use crate::Flows;
 use crate::Gathered;
-use crate::Held;
 use crate::Stream;
 use crate::Streams;
-use crate::flow::liquid_flow;
-use crate::is_liquid;
-use crate::liquid_told;
-use crate::vectors::add;
-use crate::vectors::add_scaled;
-use crate::vectors::normalize_or_zero;
-use crate::vectors::zero;
 use boxes::Aabb;
 use boxes::Vec3;
+use boxes::vectors::add;
+use boxes::vectors::add_scaled;
+use boxes::vectors::normalize_or_zero;
+use boxes::vectors::zero;
+use flow::AskedLiquid;
+use flow::AskedVec;
+use flow::is_liquid;
+use flow::liquid_flow;
+use flow::liquid_told;
 use ranges::Axis;
 use ranges::Range;
 use tables::LiquidKind;
@@ -23,8 +23,19 @@ use window::Pos;
 use window::Window;
 ghost use mathlib.Core.Path.{_≡_};
 ghost use Rattle.window.specs.Look.{lookAt};
-ghost use Rattle.liquids.specs.Current.{cellsUpTo, reachOf, sameNumber, samePos, liquidKnown, noStreams, oneMore, joined, gathered, currentTurn, directionOf, pushed, currentOf, itemCurrent};
-ghost use Rattle.liquids.specs.Answers.{heldAsked, turnedOn, currentAsked};
+ghost use Rattle.liquids.specs.Current.{beyondReach, cellsUpTo, reachOf, sameNumber, samePos, liquidKnown, noStreams, oneMore, streamWith, gathered, currentTurn, directionOf, carriedBy, currentOf, itemCurrent};
+ghost use Rattle.flow.specs.Answers.{liquidAsked};
+ghost use Rattle.liquids.specs.Answers.{gatheredAsked, currentAsked};
+
+// A number of the box is not finite or lies beyond 2^26, where `cell` stops: no window holds all cells that the box reaches.
+fn is_beyond(aabb: Aabb) -> bool
+    ensures { λ r. ⌜ r ≡ beyondReach aabb ⌝ }
+{
+    if boxes::are_within(aabb.min, 67108864.0) {
+        return !boxes::are_within(aabb.max, 67108864.0);
+    }
+    true
+}
 
 // The cells from lo.floor() up to hi.ceil(), which is excluded. The ceiling is the floor of the number turned round.
 fn cells_up_to(lo: f64, hi: f64) -> Axis
@@ -77,11 +88,11 @@ pub(crate) fn liquid_known(
     foot: Pos,
     state: LiquidState,
     p: Pos,
-) -> Held
-    ensures { λ r. ⌜ heldAsked r ≡ liquidKnown (lookAt (now (cells .entry)) w) (now (records .entry)) foot state p ⌝ }
+) -> AskedLiquid
+    ensures { λ r. ⌜ liquidAsked r ≡ liquidKnown (lookAt (now (cells .entry)) w) (now (records .entry)) foot state p ⌝ }
 {
     if same_pos(p, foot) {
-        return Held::Is(state);
+        return AskedLiquid::Is(state);
     }
     let cell = window::look(cells, w, p);
     liquid_told(records, cell)
@@ -119,8 +130,8 @@ fn one_more(count: u32) -> u32
     2
 }
 
-fn join(s: Stream, flow: Vec3) -> Stream
-    ensures { λ r. ⌜ r ≡ joined s flow ⌝ }
+fn stream_with(s: Stream, flow: Vec3) -> Stream
+    ensures { λ r. ⌜ r ≡ streamWith s flow ⌝ }
 {
     let before = s.flow;
     let sum = add(before, flow);
@@ -136,11 +147,11 @@ fn gather(kind: LiquidKind, flow: Vec3, s: Streams) -> Streams
     match kind {
         LiquidKind::None => s,
         LiquidKind::Water => {
-            let more = join(water, flow);
+            let more = stream_with(water, flow);
             Streams { water: more, lava }
         }
         LiquidKind::Lava => {
-            let more = join(lava, flow);
+            let more = stream_with(lava, flow);
             Streams { water, lava: more }
         }
     }
@@ -156,16 +167,16 @@ fn current_turn(
     p: Pos,
     s: Streams,
 ) -> Gathered
-    ensures { λ r. ⌜ turnedOn r ≡ currentTurn (lookAt (now (cells .entry)) w) (now (records .entry)) foot state p s ⌝ }
+    ensures { λ r. ⌜ gatheredAsked r ≡ currentTurn (lookAt (now (cells .entry)) w) (now (records .entry)) foot state p s ⌝ }
 {
     match liquid_known(records, cells, w, foot, state, p) {
-        Held::Refused(n) => Gathered::Refused(n),
-        Held::Is(here) => {
+        AskedLiquid::Refused(n) => Gathered::Refused(n),
+        AskedLiquid::Is(here) => {
             let kind = here.kind;
             if is_liquid(kind) {
                 return match liquid_flow(records, cells, w, p, here) {
-                    Flows::Refused(n) => Gathered::Refused(n),
-                    Flows::Is(flow) => Gathered::On(gather(kind, flow, s)),
+                    AskedVec::Refused(n) => Gathered::Refused(n),
+                    AskedVec::Is(flow) => Gathered::On(gather(kind, flow, s)),
                 };
             }
             Gathered::On(s)
@@ -184,8 +195,8 @@ fn direction_of(s: Stream) -> Vec3
     normalize_or_zero(flow)
 }
 
-fn push(current: Vec3, s: Stream, acceleration: f64) -> Vec3
-    ensures { λ r. ⌜ r ≡ pushed current s acceleration ⌝ }
+fn carry(current: Vec3, s: Stream, acceleration: f64) -> Vec3
+    ensures { λ r. ⌜ r ≡ carriedBy current s acceleration ⌝ }
 {
     if s.count == 0 {
         return current;
@@ -200,8 +211,8 @@ fn current_of(s: Streams) -> Current
 {
     let water = s.water;
     let lava = s.lava;
-    let a = push(zero(), water, 0.014);
-    let flow = push(a, lava, 0.0035);
+    let a = carry(zero(), water, 0.014);
+    let flow = carry(a, lava, 0.0035);
     let wet = water.count != 0;
     Current { flow, water: wet }
 }
@@ -214,21 +225,24 @@ pub fn item_current(
     aabb: Aabb,
     foot: Pos,
     state: LiquidState,
-) -> Currents
+) -> AskedCurrent
     ensures { λ r. ⌜ currentAsked r ≡ itemCurrent (lookAt (now (cells .entry)) w) (now (records .entry)) aabb foot state ⌝ }
 {
+    if is_beyond(aabb) {
+        return AskedCurrent::Refused(5);
+    }
     let r = reach_of(aabb);
     let mut s = no_streams();
     let mut t = ranges::start(r);
     while t.y < r.y.count {
         let p = ranges::place(r, t);
         match current_turn(records, cells, w, foot, state, p, s) {
-            Gathered::Refused(n) => return Currents::Refused(n),
+            Gathered::Refused(n) => return AskedCurrent::Refused(n),
             Gathered::On(g) => {
                 s = g;
                 t = ranges::next(r, t);
             }
         }
     }
-    Currents::Is(current_of(s))
+    AskedCurrent::Is(current_of(s))
 }

@@ -1,15 +1,17 @@
 // What liquid an item floats in.
-use crate::Held;
-use crate::Sensed;
+use crate::AskedKind;
 use crate::drift::liquid_known;
 use crate::drift::same_pos;
-use crate::is_lava;
-use crate::is_liquid;
-use crate::is_water;
-use crate::liquid_at;
-use crate::vectors::add_scaled;
-use crate::vectors::unit_y;
 use boxes::Vec3;
+use boxes::vectors::add_scaled;
+use boxes::vectors::unit_y;
+use flow::AskedLiquid;
+use flow::is_lava;
+use flow::is_liquid;
+use flow::is_water;
+use flow::liquid_at;
+use ranges::cell_holding;
+use ranges::cell_under;
 use tables::LiquidKind;
 use tables::LiquidState;
 use window::Pos;
@@ -17,32 +19,15 @@ use window::Window;
 ghost use mathlib.Core.Path.{_≡_};
 ghost use mathlib.Core.Bool.{_||_};
 ghost use Rattle.window.specs.Look.{lookAt};
-ghost use Rattle.liquids.specs.Liquid.{isFalling};
-ghost use Rattle.liquids.specs.Flotation.{raised, cellAt, cellUnder, surfaceAt, underWater, inLava, waterState, itemFlotation};
-ghost use Rattle.liquids.specs.Answers.{heldAsked, kindAsked};
+ghost use Rattle.flow.specs.Liquid.{isFalling};
+ghost use Rattle.liquids.specs.Flotation.{movedUp, surfaceAt, underWater, inLava, waterState, itemFlotation};
+ghost use Rattle.flow.specs.Answers.{liquidAsked};
+ghost use Rattle.liquids.specs.Answers.{kindAsked};
 
-fn raise(position: Vec3, d: f64) -> Vec3
-    ensures { λ r. ⌜ r ≡ raised position d ⌝ }
+fn move_up(position: Vec3, d: f64) -> Vec3
+    ensures { λ r. ⌜ r ≡ movedUp position d ⌝ }
 {
     add_scaled(position, unit_y(), d)
-}
-
-pub fn cell_at(v: Vec3) -> Pos
-    ensures { λ r. ⌜ r ≡ cellAt v ⌝ }
-{
-    let x = floats::cell(v.x);
-    let y = floats::cell(v.y);
-    let z = floats::cell(v.z);
-    Pos { x, y, z }
-}
-
-fn cell_under(v: Vec3) -> Pos
-    ensures { λ r. ⌜ r ≡ cellUnder v ⌝ }
-{
-    let x = floats::cell(v.x);
-    let y = floats::cell(v.y) - 1;
-    let z = floats::cell(v.z);
-    Pos { x, y, z }
 }
 
 fn is_falling(state: LiquidState) -> bool
@@ -77,7 +62,7 @@ fn is_under_water(point: Vec3, state: LiquidState) -> bool
 {
     let kind = state.kind;
     if is_water(kind) {
-        return point.y < surface_at(cell_at(point), state.depth);
+        return point.y < surface_at(cell_holding(point), state.depth);
     }
     false
 }
@@ -102,14 +87,14 @@ fn water_state(
     wire: Pos,
     here: LiquidState,
     p: Pos,
-) -> Held
-    ensures { λ r. ⌜ heldAsked r ≡ waterState (lookAt (now (cells .entry)) w) (now (records .entry)) foot state wire here p ⌝ }
+) -> AskedLiquid
+    ensures { λ r. ⌜ liquidAsked r ≡ waterState (lookAt (now (cells .entry)) w) (now (records .entry)) foot state wire here p ⌝ }
 {
     if same_pos(p, foot) {
-        return Held::Is(state);
+        return AskedLiquid::Is(state);
     }
     if same_pos(p, wire) {
-        return Held::Is(here);
+        return AskedLiquid::Is(here);
     }
     liquid_at(records, cells, w, p)
 }
@@ -124,32 +109,33 @@ pub fn item_flotation(
     position: Vec3,
     foot: Pos,
     state: LiquidState,
-) -> Sensed
+) -> AskedKind
     ensures { λ r. ⌜ kindAsked r ≡ itemFlotation (lookAt (now (cells .entry)) w) (now (records .entry)) offset height position foot state ⌝ }
 {
-    let wire = raise(position, offset);
-    let at = cell_at(wire);
+    let wire = move_up(position, offset);
+    let at = cell_holding(wire);
     let here = match liquid_known(records, cells, w, foot, state, at) {
-        Held::Refused(n) => return Sensed::Refused(n),
-        Held::Is(s) => s,
+        AskedLiquid::Refused(n) => return AskedKind::Refused(n),
+        AskedLiquid::Is(s) => s,
     };
     let below = match liquid_known(records, cells, w, foot, state, cell_under(wire)) {
-        Held::Refused(n) => return Sensed::Refused(n),
-        Held::Is(s) => s,
+        AskedLiquid::Refused(n) => return AskedKind::Refused(n),
+        AskedLiquid::Is(s) => s,
     };
     if either_falls(here, below) {
-        return Sensed::Is(LiquidKind::None);
+        return AskedKind::Is(LiquidKind::None);
     }
-    let point = raise(position, offset + height);
-    let over = match water_state(records, cells, w, foot, state, at, here, cell_at(point)) {
-        Held::Refused(n) => return Sensed::Refused(n),
-        Held::Is(s) => s,
+    let point = move_up(position, offset + height);
+    let p = cell_holding(point);
+    let over = match water_state(records, cells, w, foot, state, at, here, p) {
+        AskedLiquid::Refused(n) => return AskedKind::Refused(n),
+        AskedLiquid::Is(s) => s,
     };
     if is_under_water(point, over) {
-        return Sensed::Is(LiquidKind::Water);
+        return AskedKind::Is(LiquidKind::Water);
     }
     if is_in_lava(here) {
-        return Sensed::Is(LiquidKind::Lava);
+        return AskedKind::Is(LiquidKind::Lava);
     }
-    Sensed::Is(LiquidKind::None)
+    AskedKind::Is(LiquidKind::None)
 }

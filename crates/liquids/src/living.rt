@@ -1,13 +1,13 @@
 // The liquid that a living body is in.
-use crate::Held;
+use crate::AskedKind;
 use crate::LiquidAnswer;
 use crate::Search;
-use crate::Sensed;
 use crate::flotation::surface_at;
-use crate::is_liquid;
-use crate::liquid_told;
 use boxes::Aabb;
 use boxes::Vec3;
+use flow::AskedLiquid;
+use flow::is_liquid;
+use flow::liquid_told;
 use ranges::Range;
 use tables::LiquidKind;
 use tables::LiquidState;
@@ -16,11 +16,11 @@ use window::Window;
 ghost use mathlib.Core.Path.{_≡_};
 ghost use Rattle.base.specs.Ask.{found};
 ghost use Rattle.window.specs.Look.{lookAt};
-ghost use Rattle.liquids.specs.Living.{inner, cellsOf, surfaceOf, wetIn, livingTurn, livingLiquid};
+ghost use Rattle.liquids.specs.Living.{shrunk, cellsOf, surfaceOf, wetIn, livingTurn, livingLiquid};
 ghost use Rattle.liquids.specs.Answers.{kindAsked, searchAsked, livingEntry};
 
-fn inner_of(aabb: Aabb) -> Aabb
-    ensures { λ r. ⌜ r ≡ inner aabb ⌝ }
+fn shrink(aabb: Aabb) -> Aabb
+    ensures { λ r. ⌜ r ≡ shrunk aabb ⌝ }
 {
     Aabb {
         min: Vec3 {
@@ -80,16 +80,16 @@ fn living_turn(records: &[u32], cells: &[u32], w: Window, feet: f64, p: Pos, lav
 {
     let cell = window::look(cells, w, p);
     match liquid_told(records, cell) {
-        Held::Refused(n) => Search::Refused(n),
-        Held::Is(state) => wet_in(feet, p, state, lava),
+        AskedLiquid::Refused(n) => Search::Refused(n),
+        AskedLiquid::Is(state) => wet_in(feet, p, state, lava),
     }
 }
 
 // The liquid that a living body is in, for any box: it stops at the first water. It refuses 5 alone.
-pub fn living_liquid_in(records: &[u32], cells: &[u32], w: Window, aabb: Aabb) -> Sensed
+pub fn living_liquid_in(records: &[u32], cells: &[u32], w: Window, aabb: Aabb) -> AskedKind
     ensures { λ r. ⌜ kindAsked r ≡ livingLiquid (lookAt (now (cells .entry)) w) (now (records .entry)) aabb ⌝ }
 {
-    let b = inner_of(aabb);
+    let b = shrink(aabb);
     let feet = b.min.y;
     let r = cells_of(b);
     let mut lava = false;
@@ -97,8 +97,8 @@ pub fn living_liquid_in(records: &[u32], cells: &[u32], w: Window, aabb: Aabb) -
     while t.y < r.y.count {
         let p = ranges::place(r, t);
         match living_turn(records, cells, w, feet, p, lava) {
-            Search::Refused(n) => return Sensed::Refused(n),
-            Search::Done(kind) => return Sensed::Is(kind),
+            Search::Refused(n) => return AskedKind::Refused(n),
+            Search::Done(kind) => return AskedKind::Is(kind),
             Search::On(l) => {
                 lava = l;
                 t = ranges::next(r, t);
@@ -106,9 +106,9 @@ pub fn living_liquid_in(records: &[u32], cells: &[u32], w: Window, aabb: Aabb) -
         }
     }
     if lava {
-        return Sensed::Is(LiquidKind::Lava);
+        return AskedKind::Is(LiquidKind::Lava);
     }
-    Sensed::Is(LiquidKind::None)
+    AskedKind::Is(LiquidKind::None)
 }
 
 // For hosts: tables, window and box are checked before any cell is asked for.
@@ -121,25 +121,20 @@ pub fn living_liquid(
 ) -> LiquidAnswer
     ensures { λ r. ⌜ r ≡ livingEntry (now (records .entry)) (now (shapes .entry)) (now (cells .entry)) w aabb ⌝ }
 {
-    if tables::check_tables(records, shapes) != 0 {
+    let bad = lent::check_lent(records, shapes, cells, w);
+    if bad != 0 {
         return LiquidAnswer {
-            refusal: 1,
-            kind: LiquidKind::None,
-        };
-    }
-    if window::check_window(cells, w) != 0 {
-        return LiquidAnswer {
-            refusal: 2,
+            refusal: bad,
             kind: LiquidKind::None,
         };
     }
     if boxes::is_box(aabb) {
         return match living_liquid_in(records, cells, w, aabb) {
-            Sensed::Refused(n) => LiquidAnswer {
+            AskedKind::Refused(n) => LiquidAnswer {
                 refusal: n,
                 kind: LiquidKind::None,
             },
-            Sensed::Is(kind) => LiquidAnswer { refusal: 0, kind },
+            AskedKind::Is(kind) => LiquidAnswer { refusal: 0, kind },
         };
     }
     LiquidAnswer {

@@ -1,4 +1,4 @@
--- Collection cell by cell and box by box, as the code does it, comes to `collectBlockBoxes`, and a move over it to `moveAabb`. Assumes nothing.
+-- Collection cell by cell and box by box, as the code does it, comes to `collectUpTo`, and a move over it to `moveAabb`. Assumes nothing.
 use mathlib.Core.Path.{_≡_, refl, sym, ap, _∙_}
 use mathlib.Core.Bool.{Bool, true, false}
 use mathlib.Core.List.{List, [], _∷_, _++_}
@@ -14,27 +14,28 @@ use Rattle.base.specs.Choose.{choose}
 use Rattle.base.specs.Loop.{listed}
 use Rattle.base.specs.Ask.{Ask, refused, found, _>>=_, Turn, next, done, onward, turning}
 use Rattle.boxes.specs.declared.Aabb.{Aabb}
-use Rattle.boxes.specs.declared.BoxList.{BoxList}
-use Rattle.boxes.specs.declared.Vec3.{Vec3}
-use Rattle.boxes.specs.declared.Request.{Request}
-use Rattle.boxes.specs.declared.Sweep.{Sweep}
-use Rattle.boxes.specs.declared.MoveResult.{MoveResult}
+use Rattle.sweeps.specs.declared.BoxList.{BoxList}
+use Rattle.sweeps.specs.declared.Request.{Request}
+use Rattle.sweeps.specs.declared.Sweep.{Sweep}
+use Rattle.sweeps.specs.declared.MoveResult.{MoveResult}
 use Rattle.boxes.specs.Boxes.{overlap}
-use Rattle.boxes.specs.Passes.{sweepOf, endOf}
-use Rattle.boxes.proofs.Shape.{moves}
-use Rattle.boxes.specs.Lists.{room, listOf, emptyList, noBox, held}
+use Rattle.sweeps.specs.Passes.{sweepOf, endOfMove}
+use Rattle.sweeps.proofs.Shape.{moves}
+use Rattle.sweeps.specs.Lists.{room, listOf, emptyList, noBox, held}
 use Rattle.window.specs.declared.Pos.{Pos}
 use Rattle.window.specs.declared.Window.{Window}
 use Rattle.window.specs.Look.{Block, lookAt}
 use Rattle.ranges.specs.declared.Range.{Range}
-use Rattle.ranges.specs.Ranges.{placeAt}
+use Rattle.ranges.specs.declared.At.{At}
+use Rattle.ranges.specs.Ranges.{placeAt, placeOf, startOf, nextOf, trimmed}
 use Rattle.ranges.specs.Walk.{line, layer, walk}
-use Rattle.moves.specs.Collect.{cellShape, offer, offerAll, visit, push, hit, isHit, rangeOf, collectBlockBoxes, collidesWithBlocks}
+use Rattle.ranges.proofs.Walks.{walk-trimmed, rest, rest-start, rest-turn, rest-end, Within, start-within, next-within, left, next-less}
+use Rattle.moves.specs.Collect.{cellShape, offer, offerAll, visit, push, rangeOf, collectUpTo}
 use Rattle.tables.specs.Tables.{boxesAt}
-use Rattle.moves.specs.declared.Shape.{Shape}
-use Rattle.moves.specs.Parts.{shapeIn, countOf, nthAabb}
+use Rattle.solids.specs.declared.Shape.{Shape}
+use Rattle.solids.specs.Parts.{shapeIn, countOf, nthAabb}
 use Rattle.moves.specs.Answers.{heldAsked, sweptArea, moveAabb}
-use Rattle.moves.proofs.Boxes.{listed-all}
+use Rattle.solids.proofs.Boxes.{listed-all}
 
 -- ---- one after the other
 then-then : {S R : Type 0} (m : Ask (Turn S R)) (k l : S → Ask (Turn S R)) → ((m >>= onward k) >>= onward l) ≡ (m >>= onward (λ s. k s >>= onward l))
@@ -70,174 +71,180 @@ unfolding listed offerAll turning
 offers accept area g zero i s = refl
 offers {S = S} accept area g (suc n) i s = ap (λ (k : S → Ask (Turn S Bool)). offer accept area (g i) s >>= onward k) (λ j a. offers accept area g n (i + 1) a j)
 
--- ---- what is left of a walk, in each of the four loops: layers, the lines of a layer, the cells of a line, the boxes of a cell
-module _ {S : Type 0} (accept : Aabb → S → Ask (Turn S Bool)) (look : Pos → Ask Block) (records : List ℕ) (shapes : List Float) (area : Aabb) (r : Range) where
-  abbrev visiting : Pos → S → Ask (Turn S Bool)
+-- ---- the boxes of a cell from number k on, and what comes after the cell
+module _ {S : Type 0} (accept : Aabb → S → Ask (Turn S Bool)) (area : Aabb) (after : S → Ask (Turn S Bool)) (g : ℕ → Aabb) (n k : ℕ) (s : S) where
+  unfoldable pub boxesFrom : Ask (Turn S Bool)
+  boxesFrom = from (λ j. offer accept area (g j)) n after k s
+
+  pub boxes-end : n ≤ k → boxesFrom ≡ after s
+  unfolding boxesFrom
+  boxes-end h = from-end (λ j. offer accept area (g j)) n after k s h
+
+-- a box, by what comes of it
+module _ {S : Type 0} (accept : Aabb → S → Ask (Turn S Bool)) (area : Aabb) (after : S → Ask (Turn S Bool)) (g : ℕ → Aabb) (n k : ℕ) (s : S) (b : Aabb) (h : k < n) (e : b ≡ g k) where
+  offered : (m : Ask (Turn S Bool)) → offer accept area b s ≡ m → boxesFrom accept area after g n k s ≡ (m >>= onward (boxesFrom accept area after g n (k + 1)))
+  unfolding boxesFrom
+  offered m o =
+      from-turn (λ j. offer accept area (g j)) n after k s h
+      ∙ ap (λ (a : Ask (Turn S Bool)). a >>= onward (from (λ j. offer accept area (g j)) n after (k + 1))) (ap (λ (a : Aabb). offer accept area a s) (sym e) ∙ o)
+
+  pub box-next : (a : S) → offer accept area b s ≡ found (next a) → boxesFrom accept area after g n k s ≡ boxesFrom accept area after g n (k + 1) a
+  box-next a o = offered (found (next a)) o
+
+  pub box-refused : (j : ℕ) → offer accept area b s ≡ refused j → boxesFrom accept area after g n k s ≡ refused j
+  box-refused j o = offered (refused j) o
+
+module _ {S : Type 0} (accept : Aabb → S → Ask (Turn S Bool)) (look : Pos → Ask Block) (records : List ℕ) (shapes : List Float) (area : Aabb) where
+  abbrev pub visiting : Pos → S → Ask (Turn S Bool)
   visiting = visit accept area look records shapes
 
-  abbrev pub all : S → Ask (Turn S Bool)
-  all = walk visiting r
-
-  unfoldable pub layersFrom : ℕ → S → Ask (Turn S Bool)
-  layersFrom = from (layer visiting r) (r .y .count) (λ s. found (next s))
-
-  unfoldable pub linesFrom : ℕ → ℕ → S → Ask (Turn S Bool)
-  linesFrom y = from (line visiting r y) (r .x .count) (layersFrom (y + 1))
-
-  unfoldable pub cellsFrom : ℕ → ℕ → ℕ → S → Ask (Turn S Bool)
-  cellsFrom y x = from (λ z. visiting (placeAt r x y z)) (r .z .count) (linesFrom y (x + 1))
-
-  unfoldable pub boxesFrom : ℕ → ℕ → ℕ → (ℕ → Aabb) → ℕ → ℕ → S → Ask (Turn S Bool)
-  boxesFrom y x z g n = from (λ k. offer accept area (g k)) n (cellsFrom y x (z + 1))
-
-  -- begun
-  pub walk-begins : (s : S) → layersFrom 0 s ≡ all s
-  unfolding layersFrom walk
-  walk-begins s = from-start (layer visiting r) (r .y .count) (λ a. found (next a)) s ∙ then-nothing (turning (layer visiting r) (r .y .count) 0 s)
-
-  pub layer-begins : (y : ℕ) (s : S) → y < r .y .count → layersFrom y s ≡ linesFrom y 0 s
-  unfolding layersFrom linesFrom layer
-  layer-begins y s h = from-turn (layer visiting r) (r .y .count) (λ a. found (next a)) y s h ∙ sym (from-start (line visiting r y) (r .x .count) (layersFrom (y + 1)) s)
-
-  pub line-begins : (y x : ℕ) (s : S) → x < r .x .count → linesFrom y x s ≡ cellsFrom y x 0 s
-  unfolding linesFrom cellsFrom line
-  line-begins y x s h = from-turn (line visiting r y) (r .x .count) (layersFrom (y + 1)) x s h ∙ sym (from-start (λ z. visiting (placeAt r x y z)) (r .z .count) (linesFrom y (x + 1)) s)
-
-  module _ (y x z : ℕ) (s : S) (h : z < r .z .count) where
-    turn : cellsFrom y x z s ≡ (visiting (placeAt r x y z) s >>= onward (cellsFrom y x (z + 1)))
-    unfolding cellsFrom
-    turn = from-turn (λ k. visiting (placeAt r x y k)) (r .z .count) (linesFrom y (x + 1)) z s h
-
-    pub cell-refused : (k : ℕ) → cellShape look records (placeAt r x y z) ≡ refused k → cellsFrom y x z s ≡ refused k
+  -- ---- a cell: `whole` is what is left from it on, and begins with it
+  module _ (p : Pos) (after : S → Ask (Turn S Bool)) (s : S) (whole : Ask (Turn S Bool)) (turn : whole ≡ (visiting p s >>= onward after)) where
+    pub cell-refused : (k : ℕ) → cellShape look records p ≡ refused k → whole ≡ refused k
     unfolding visit
     cell-refused k e = turn ∙ (rw e)
 
-    pub cell-begins : (q : Shape) (shape : List Float) (n : ℕ) → cellShape look records (placeAt r x y z) ≡ found (shapeIn q) → shape ≡ boxesAt shapes (q .first) (q .count) → n ≡ countOf (q .cube) (q .count) shape
-        → cellsFrom y x z s ≡ boxesFrom y x z (nthAabb (q .cube) shape (placeAt r x y z)) n 0 s
+    pub cell-begins : (q : Shape) (shape : List Float) (n : ℕ) → cellShape look records p ≡ found (shapeIn q) → shape ≡ boxesAt shapes (q .first) (q .count) → n ≡ countOf (q .cube) (q .count) shape
+        → whole ≡ boxesFrom accept area after (nthAabb (q .cube) shape p) n 0 s
     unfolding visit boxesFrom
     cell-begins q shape n e o m =
-        let g = nthAabb (q .cube) shape (placeAt r x y z) in
+        let g = nthAabb (q .cube) shape p in
         turn
         ∙ (rw e
-        (ap (λ (bs : List Aabb). offerAll accept area bs s >>= onward (cellsFrom y x (z + 1))) (listed-all shapes shape (placeAt r x y z) q n o m)
-        ∙ ap (λ (a : Ask (Turn S Bool)). a >>= onward (cellsFrom y x (z + 1))) (offers accept area g n 0 s)
-        ∙ sym (from-start (λ k. offer accept area (g k)) n (cellsFrom y x (z + 1)) s)))
+        (ap (λ (bs : List Aabb). offerAll accept area bs s >>= onward after) (listed-all shapes shape p q n o m)
+        ∙ ap (λ (a : Ask (Turn S Bool)). a >>= onward after) (offers accept area g n 0 s)
+        ∙ sym (from-start (λ k. offer accept area (g k)) n after s)))
 
-  -- a box, by what comes of it
-  module _ (y x z : ℕ) (g : ℕ → Aabb) (n k : ℕ) (s : S) (b : Aabb) (h : k < n) (e : b ≡ g k) where
-    offered : (m : Ask (Turn S Bool)) → offer accept area b s ≡ m → boxesFrom y x z g n k s ≡ (m >>= onward (boxesFrom y x z g n (k + 1)))
-    unfolding boxesFrom
-    offered m o =
-        from-turn (λ j. offer accept area (g j)) n (cellsFrom y x (z + 1)) k s h
-        ∙ ap (λ (a : Ask (Turn S Bool)). a >>= onward (boxesFrom y x z g n (k + 1))) (ap (λ (a : Aabb). offer accept area a s) (sym e) ∙ o)
+  module _ (r : Range) where
+    abbrev pub all : S → Ask (Turn S Bool)
+    all = walk visiting r
 
-    pub box-next : (a : S) → offer accept area b s ≡ found (next a) → boxesFrom y x z g n k s ≡ boxesFrom y x z g n (k + 1) a
-    box-next a o = offered (found (next a)) o
+    -- ---- what is left of a walk, in each of the move's three loops: layers, the lines of a layer, the cells of a line
+    unfoldable pub layersFrom : ℕ → S → Ask (Turn S Bool)
+    layersFrom = from (layer visiting r) (r .y .count) (λ s. found (next s))
 
-    pub box-refused : (j : ℕ) → offer accept area b s ≡ refused j → boxesFrom y x z g n k s ≡ refused j
-    box-refused j o = offered (refused j) o
+    unfoldable pub linesFrom : ℕ → ℕ → S → Ask (Turn S Bool)
+    linesFrom y = from (line visiting r y) (r .x .count) (layersFrom (y + 1))
 
-    pub box-done : (v : Bool) → offer accept area b s ≡ found (done v) → boxesFrom y x z g n k s ≡ found (done v)
-    box-done v o = offered (found (done v)) o
+    unfoldable pub cellsFrom : ℕ → ℕ → ℕ → S → Ask (Turn S Bool)
+    cellsFrom y x = from (λ z. visiting (placeAt r x y z)) (r .z .count) (linesFrom y (x + 1))
 
-  -- through
-  pub boxes-end : (y x z : ℕ) (g : ℕ → Aabb) (n k : ℕ) (s : S) → n ≤ k → boxesFrom y x z g n k s ≡ cellsFrom y x (z + 1) s
-  unfolding boxesFrom
-  boxes-end y x z g n k s h = from-end (λ j. offer accept area (g j)) n (cellsFrom y x (z + 1)) k s h
+    -- begun
+    pub walk-begins : (s : S) → layersFrom 0 s ≡ all s
+    unfolding layersFrom walk
+    walk-begins s = from-start (layer visiting r) (r .y .count) (λ a. found (next a)) s ∙ then-nothing (turning (layer visiting r) (r .y .count) 0 s)
 
-  pub cells-end : (y x z : ℕ) (s : S) → r .z .count ≤ z → cellsFrom y x z s ≡ linesFrom y (x + 1) s
-  unfolding cellsFrom
-  cells-end y x z s h = from-end (λ k. visiting (placeAt r x y k)) (r .z .count) (linesFrom y (x + 1)) z s h
+    pub layer-begins : (y : ℕ) (s : S) → y < r .y .count → layersFrom y s ≡ linesFrom y 0 s
+    unfolding layersFrom linesFrom layer
+    layer-begins y s h = from-turn (layer visiting r) (r .y .count) (λ a. found (next a)) y s h ∙ sym (from-start (line visiting r y) (r .x .count) (layersFrom (y + 1)) s)
 
-  pub lines-end : (y x : ℕ) (s : S) → r .x .count ≤ x → linesFrom y x s ≡ layersFrom (y + 1) s
-  unfolding linesFrom
-  lines-end y x s h = from-end (line visiting r y) (r .x .count) (layersFrom (y + 1)) x s h
+    pub line-begins : (y x : ℕ) (s : S) → x < r .x .count → linesFrom y x s ≡ cellsFrom y x 0 s
+    unfolding linesFrom cellsFrom line
+    line-begins y x s h = from-turn (line visiting r y) (r .x .count) (layersFrom (y + 1)) x s h ∙ sym (from-start (λ z. visiting (placeAt r x y z)) (r .z .count) (linesFrom y (x + 1)) s)
 
-  pub layers-end : (y : ℕ) (s : S) → r .y .count ≤ y → layersFrom y s ≡ found (next s)
-  unfolding layersFrom
-  layers-end y s h = from-end (layer visiting r) (r .y .count) (λ a. found (next a)) y s h
+    pub cells-turn : (y x z : ℕ) (s : S) → z < r .z .count → (p : Pos) → p ≡ placeAt r x y z → cellsFrom y x z s ≡ (visiting p s >>= onward (cellsFrom y x (z + 1)))
+    unfolding cellsFrom
+    cells-turn y x z s h p e = rw e (from-turn (λ k. visiting (placeAt r x y k)) (r .z .count) (linesFrom y (x + 1)) z s h)
 
--- ---- the list in place
-pub record Room (l : BoxList) : Type 0 where
-  pub whole : length (l .boxes) ≡ 128
-  pub counts : l .count ≤ 128
+    -- through
+    pub cells-end : (y x z : ℕ) (s : S) → r .z .count ≤ z → cellsFrom y x z s ≡ linesFrom y (x + 1) s
+    unfolding cellsFrom
+    cells-end y x z s h = from-end (λ k. visiting (placeAt r x y k)) (r .z .count) (linesFrom y (x + 1)) z s h
 
-module _ (area b : Aabb) (l m : BoxList) (room-l : Room l) where
+    pub lines-end : (y x : ℕ) (s : S) → r .x .count ≤ x → linesFrom y x s ≡ layersFrom (y + 1) s
+    unfolding linesFrom
+    lines-end y x s h = from-end (line visiting r y) (r .x .count) (layersFrom (y + 1)) x s h
+
+    pub layers-end : (y : ℕ) (s : S) → r .y .count ≤ y → layersFrom y s ≡ found (next s)
+    unfolding layersFrom
+    layers-end y s h = from-end (layer visiting r) (r .y .count) (λ a. found (next a)) y s h
+
+    -- ---- and in the one loop of the entries, from a cell of the range on
+    abbrev pub cellFrom : At → S → Ask (Turn S Bool)
+    cellFrom = rest visiting r
+
+    pub range-begins : (t : At) (s : S) → t ≡ startOf r → Within r t × (cellFrom t s ≡ all s)
+    range-begins t s e = rw e (start-within r, rest-start visiting r s)
+
+    pub range-ends : (t : At) (s : S) → r .y .count ≤ t .y → cellFrom t s ≡ found (next s)
+    range-ends t s h = rest-end visiting r t s h
+
+    module _ (t : At) (within : Within r t) (h : t .y < r .y .count) where
+      pub cell-turn : (s : S) (p : Pos) → p ≡ placeOf r t → cellFrom t s ≡ (visiting p s >>= onward (cellFrom (nextOf r t)))
+      cell-turn s p e = rw e (rest-turn visiting r t s h (within .x h) (within .z h))
+
+      pub cell-next : (t' : At) → t' ≡ nextOf r t → (s : S) → Within r t' × (cellFrom t' s ≡ cellFrom (nextOf r t) s)
+      cell-next t' e s = rw e (next-within r t h (within .x h) (within .z h), refl)
+
+pub cell-less : (r : Range) (t : At) → Within r t → t .y < r .y .count → (t' : At) → t' ≡ nextOf r t → left r t' < left r t
+cell-less r t within h t' e = rw e (next-less r t h (within .x h) (within .z h))
+
+-- ---- boxes in place: so much room, and so many of them count
+pub record Room (most : ℕ) (bs : List Aabb) (count : ℕ) : Type 0 where
+  pub whole : length bs ≡ most
+  pub counts : count ≤ most
+
+module _ (most cap : ℕ) (area b : Aabb) (bs cs : List Aabb) (i j : ℕ) (has : Room most bs i) where
   -- one box more
-  pub kept : m ≡ record { boxes = set (l .boxes) (l .count) b; count = l .count + 1 } → l .count < 128 → overlap b area ≡ true → Room m × (offer push area b (listOf l) ≡ found (next (listOf m)))
+  pub kept : cs ≡ set bs i b → j ≡ i + 1 → i < most → i < cap → overlap b area ≡ true → Room most cs j × (offer (push cap) area b (take i bs) ≡ found (next (take j cs)))
   unfolding choose
-  kept e h o =
-      let w = room-l .whole in
-      let n : length (listOf l) ≡ l .count = length-take-le (l .count) (l .boxes) (omega arith) in
-      let t : ltb (length (listOf l)) room ≡ true = lt-ltb (length (listOf l)) room (omega arith) in
-      let g : l .count < length (l .boxes) = omega arith in
-      let s : take (l .count + 1) (set (l .boxes) (l .count) b) ≡ listOf l ++ (b ∷ []) = rw (add-one, take-suc-set) in
-      rw e (record { whole = length-set (l .boxes) (l .count) b ∙ w; counts = omega arith }, rw (o, t, s))
+  kept e f h g o =
+      let w = has .whole in
+      let n : length (take i bs) ≡ i = length-take-le i bs (omega arith) in
+      let t : ltb (length (take i bs)) cap ≡ true = lt-ltb (length (take i bs)) cap (omega arith) in
+      let l : i < length bs = omega arith in
+      let s : take (i + 1) (set bs i b) ≡ take i bs ++ (b ∷ []) = rw (add-one, take-suc-set) in
+      rw (e, f) (record { whole = length-set bs i b ∙ w; counts = omega arith }, rw (o, t, s))
 
   -- a box that does not overlap
-  pub passed : m ≡ l → overlap b area ≡ false → Room m × (offer push area b (listOf l) ≡ found (next (listOf m)))
+  pub passed : cs ≡ bs → j ≡ i → overlap b area ≡ false → Room most cs j × (offer (push cap) area b (take i bs) ≡ found (next (take j cs)))
   unfolding choose
-  passed e o = rw e (room-l, rw o)
+  passed e f o = rw (e, f) (has, rw o)
 
-pub full : (area b : Aabb) (l : BoxList) → Room l → 128 ≤ l .count → overlap b area ≡ true → offer push area b (listOf l) ≡ refused 6
-unfolding choose
-full area b l room-l h o =
-    let w = room-l .whole in
-    let c = room-l .counts in
-    let n : length (listOf l) ≡ l .count = length-take-le (l .count) (l .boxes) (omega arith) in
-    let t : ltb (length (listOf l)) room ≡ false = le-ltb (length (listOf l)) room (omega arith) in
-    rw (o, t)
+module _ (most : ℕ) (bs : List Aabb) (i : ℕ) (has : Room most bs i) where
+  counted : length (take i bs) ≡ i
+  counted = let w = has .whole in let c = has .counts in length-take-le i bs (omega arith)
 
--- every box of such a list counts
-pub fully : (l : BoxList) → Room l → l .count ≡ min (l .count) room
-fully l room-l = let c = room-l .counts in omega arith
+  pub full : (cap : ℕ) (area b : Aabb) → cap ≤ i → overlap b area ≡ true → offer (push cap) area b (take i bs) ≡ refused 6
+  unfolding choose
+  full cap area b h o =
+      let n = counted in
+      let t : ltb (length (take i bs)) cap ≡ false = le-ltb (length (take i bs)) cap (omega arith) in
+      rw (o, t)
 
--- ---- the answers, for r the range of the area
-module _ (look : Pos → Ask Block) (records : List ℕ) (shapes : List Float) (area : Aabb) (r : Range) (e : r ≡ rangeOf area) where
-  pub was-collected : (l : BoxList) → found (next (listOf l)) ≡ all push look records shapes area r [] → collectBlockBoxes look records shapes area ≡ found (listOf l)
-  unfolding collectBlockBoxes
-  was-collected l h = rw (← e, ← h)
+  -- every box counts
+  pub fully : i ≡ min i most
+  fully = let c = has .counts in omega arith
 
-  pub was-refused : (k : ℕ) → refused k ≡ all push look records shapes area r [] → collectBlockBoxes look records shapes area ≡ refused k
-  unfolding collectBlockBoxes
-  was-refused k h = rw (← e, ← h)
+pub empty-list : (l : BoxList) → l ≡ emptyList → Room room (l .boxes) (l .count) × (listOf l ≡ [])
+unfolding emptyList
+empty-list l e = rw e (record { whole = length-replicate 128 noBox; counts = omega arith }, refl)
 
-  pub collected : (l : BoxList) → Room l → found (next (listOf l)) ≡ all push look records shapes area r [] → record { refusal = 0; count = l .count; boxes = listOf l } ≡ heldAsked (collectBlockBoxes look records shapes area)
-  collected l q h =
-      let w = q .whole in
-      let c = q .counts in
-      let n : length (listOf l) ≡ l .count = length-take-le (l .count) (l .boxes) (omega arith) in
-      rw (was-collected l h, n)
+-- ---- the answers, for r the range of the area as `range_of` answers it
+module _ (cap : ℕ) (look : Pos → Ask Block) (records : List ℕ) (shapes : List Float) (area : Aabb) (r : Range) (e : r ≡ trimmed (rangeOf area)) where
+  pub was-collected : (bs : List Aabb) → found (next bs) ≡ all (push cap) look records shapes area r [] → collectUpTo cap look records shapes area ≡ found bs
+  unfolding collectUpTo
+  was-collected bs h = rw (← walk-trimmed (visiting (push cap) look records shapes area) (rangeOf area) [], ← e, ← h)
 
-  pub not-collected : (k : ℕ) → refused k ≡ all push look records shapes area r [] → held k [] ≡ heldAsked (collectBlockBoxes look records shapes area)
+  pub was-refused : (k : ℕ) → refused k ≡ all (push cap) look records shapes area r [] → collectUpTo cap look records shapes area ≡ refused k
+  unfolding collectUpTo
+  was-refused k h = rw (← walk-trimmed (visiting (push cap) look records shapes area) (rangeOf area) [], ← e, ← h)
+
+  pub collected : (most : ℕ) (bs : List Aabb) (i : ℕ) → Room most bs i → found (next (take i bs)) ≡ all (push cap) look records shapes area r [] → record { refusal = 0; count = i; boxes = take i bs } ≡ heldAsked (collectUpTo cap look records shapes area)
+  collected most bs i has h = rw (was-collected (take i bs) h, counted most bs i has)
+
+  pub not-collected : (k : ℕ) → refused k ≡ all (push cap) look records shapes area r [] → held k [] ≡ heldAsked (collectUpTo cap look records shapes area)
   not-collected k h = rw (was-refused k h)
 
-  pub hit-told : (m : Ask (Turn Bool Bool)) → m ≡ all hit look records shapes area r false → (m >>= λ t. found (isHit t)) ≡ collidesWithBlocks look records shapes area
-  unfolding collidesWithBlocks
-  hit-told m h = rw (← e, ← h)
-
 -- ---- the move over what was collected from the swept area
-module _ (cells : List ℕ) (w : Window) (records : List ℕ) (shapes : List Float) (aabb : Aabb) (delta : Vec3) (step : Float) (ground : Bool) (area : Aabb) (e : area ≡ sweptArea aabb delta step) (r : Range) (er : r ≡ rangeOf area) where
-  abbrev request : Request
-  request = record { aabb = aabb; delta = delta; step = step; ground = ground }
+module _ (cells : List ℕ) (w : Window) (records : List ℕ) (shapes : List Float) (q : Request) (area : Aabb) (e : area ≡ sweptArea (q .aabb) (q .delta) (q .step)) where
+  abbrev whole-move : Ask MoveResult
+  whole-move = moveAabb (lookAt cells w) records shapes (q .aabb) (q .delta) (q .step) (q .ground)
 
-  pub moved : (l : BoxList) → found (next (listOf l)) ≡ all push (lookAt cells w) records shapes area r [] → (s : Sweep) → s ≡ sweepOf (listOf l) request → (m : MoveResult) → m ≡ endOf request s → found m ≡ moveAabb (lookAt cells w) records shapes aabb delta step ground
+  pub moved : (r : Range) → r ≡ trimmed (rangeOf area) → (bs : List Aabb) → found (next bs) ≡ all (push room) (lookAt cells w) records shapes area r [] → (s : Sweep) → s ≡ sweepOf bs q → (m : MoveResult) → m ≡ endOfMove q s → found m ≡ whole-move
   unfolding moveAabb
-  moved l h s es m em = rw (← e, was-collected (lookAt cells w) records shapes area r er l h, em, moves (listOf l) request s es)
+  moved r er bs h s es m em = rw (← e, was-collected room (lookAt cells w) records shapes area r er bs h, em, moves bs q s es)
 
-  pub not-moved : (k : ℕ) → refused k ≡ all push (lookAt cells w) records shapes area r [] → refused k ≡ moveAabb (lookAt cells w) records shapes aabb delta step ground
+  pub not-moved : (r : Range) → r ≡ trimmed (rangeOf area) → (k : ℕ) → refused k ≡ all (push room) (lookAt cells w) records shapes area r [] → refused k ≡ whole-move
   unfolding moveAabb
-  not-moved k h = rw (← e, was-refused (lookAt cells w) records shapes area r er k h)
-
--- a box that overlaps is a hit, and another is none
-pub is-hit : (area b : Aabb) → overlap b area ≡ true → offer hit area b false ≡ found (done true)
-unfolding choose
-is-hit area b o = rw o
-
-pub no-hit : (area b : Aabb) → overlap b area ≡ false → offer hit area b false ≡ found (next false)
-unfolding choose
-no-hit area b o = rw o
-
-pub empty-room : (l : BoxList) → l ≡ emptyList → Room l × (listOf l ≡ [])
-unfolding emptyList
-empty-room l e = rw e (record { whole = length-replicate 128 noBox; counts = omega arith }, refl)
+  not-moved r er k h = rw (← e, was-refused room (lookAt cells w) records shapes area r er k h)

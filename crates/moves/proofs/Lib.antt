@@ -1,5 +1,6 @@
 -- The laws of collection.
-pub mod Boxes
 pub mod Collects
 pub mod Refuses
 pub mod Order
+pub mod Caps
+pub mod Unique

@@ -14,7 +14,7 @@ use Rattle.base.specs.Choose.{choose}
 use Rattle.base.specs.Ask.{Ask, refused, found, _>>=_, Turn, next, done, onward, turning}
 use Rattle.boxes.specs.declared.Aabb.{Aabb}
 use Rattle.boxes.specs.Boxes.{overlap}
-use Rattle.boxes.specs.Lists.{room}
+use Rattle.sweeps.specs.Lists.{room}
 use Rattle.window.specs.declared.Pos.{Pos}
 use Rattle.window.specs.declared.Window.{Window}
 use Rattle.window.specs.Window.{inside}
@@ -23,8 +23,8 @@ use Rattle.window.proofs.Cells.{outside-refused}
 use Rattle.ranges.specs.declared.Range.{Range}
 use Rattle.ranges.specs.Ranges.{placeAt}
 use Rattle.ranges.specs.Walk.{line, layer, walk}
-use Rattle.moves.specs.Collect.{CellShape, aabbsOf, cellShape, offer, offerAll, visit, push, pushed, rangeOf, collectBlockBoxes}
-use Rattle.moves.specs.Settled.{settled, settledBoxes, overlapping, joined, inOrder}
+use Rattle.moves.specs.Collect.{CellShape, aabbsOf, cellShape, offer, offerAll, visit, push, pushed, rangeOf, collectUpTo, collectBlockBoxes}
+use Rattle.moves.specs.Settled.{settled, settledBoxes, overlapping, appended, inOrder}
 
 no : {A : Type 0} → _≡_ {A = ℕ} 0 1 → A
 no e = absurd (omega arith)
@@ -43,12 +43,12 @@ passed (found (done r)) k b e = no cc
 -- ---- lists that grow by what each turn adds
 module _ {A R : Type 0} where
   grows : (f : ℕ → List A → Ask (Turn (List A) R)) (g : ℕ → List A) → ((i : ℕ) (s t : List A) → f i s ≡ found (next t) → t ≡ s ++ g i)
-      → (k i : ℕ) (s t : List A) → turning f k i s ≡ found (next t) → t ≡ s ++ joined g k i
-  unfolding turning joined
+      → (k i : ℕ) (s t : List A) → turning f k i s ≡ found (next t) → t ≡ s ++ appended g k i
+  unfolding turning appended
   grows f g h zero i s t e = let q : t ≡ s = cc in q ∙ sym (append-nil s)
   grows f g h (suc k) i s t e =
       let p = passed (f i s) (turning f k (i + 1)) t e in
-      grows f g h k (i + 1) (p .at) t (p .then) ∙ ap (λ (l : List A). l ++ joined g k (i + 1)) (h i s (p .at) (p .first)) ∙ append-assoc s (g i) (joined g k (i + 1))
+      grows f g h k (i + 1) (p .at) t (p .then) ∙ ap (λ (l : List A). l ++ appended g k (i + 1)) (h i s (p .at) (p .first)) ∙ append-assoc s (g i) (appended g k (i + 1))
 
   walk-grows : (f : Pos → List A → Ask (Turn (List A) R)) (g : Pos → List A) (r : Range) → ((p : Pos) (s t : List A) → f p s ≡ found (next t) → t ≡ s ++ g p)
       → (s t : List A) → walk f r s ≡ found (next t) → t ≡ s ++ inOrder g r
@@ -97,13 +97,13 @@ unfolding walk layer line
 walks-on b f r h = loops-on b (layer f r) (λ y. loops-on b (line f r y) (λ x. loops-on b _ (λ z. h (placeAt r x y z)) (r .z .count) 0) (r .x .count) 0) (r .y .count) 0
 
 -- ---- what is in one of the lists is in all of them together
-in-joined-at : {A : Type 0} (a : A) (g : ℕ → List A) (k i j : ℕ) → j < k → List·Memᴰ a (g (i + j)) → List·Memᴰ a (joined g k i)
-unfolding joined
+in-joined-at : {A : Type 0} (a : A) (g : ℕ → List A) (k i j : ℕ) → j < k → List·Memᴰ a (g (i + j)) → List·Memᴰ a (appended g k i)
+unfolding appended
 in-joined-at a g zero i j h m = absurd (omega arith)
-in-joined-at a g (suc k) i zero h m = let z : i + 0 ≡ i = omega arith in Memᴰ·append-left (joined g k (i + 1)) (rw z at m)
+in-joined-at a g (suc k) i zero h m = let z : i + 0 ≡ i = omega arith in Memᴰ·append-left (appended g k (i + 1)) (rw z at m)
 in-joined-at a g (suc k) i (suc j) h m = let z : i + suc j ≡ i + 1 + j = omega arith in Memᴰ·append-right (g i) (in-joined-at a g k (i + 1) j (omega arith) (rw z at m))
 
-in-joined : {A : Type 0} (a : A) (g : ℕ → List A) (k j : ℕ) → j < k → List·Memᴰ a (g j) → List·Memᴰ a (joined g k 0)
+in-joined : {A : Type 0} (a : A) (g : ℕ → List A) (k j : ℕ) → j < k → List·Memᴰ a (g j) → List·Memᴰ a (appended g k 0)
 in-joined a g k j h m = let z : j ≡ 0 + j = omega arith in in-joined-at a g k 0 j h (rw z at m)
 
 in-overlapping : (area b : Aabb) (bs : List Aabb) → List·Memᴰ b bs → overlap b area ≡ true → List·Memᴰ b (overlapping area bs)
@@ -120,7 +120,7 @@ in-overlapping area b (c ∷ bs) m o = go (List·Memᴰ·cases-cons m) (λ n. in
 
 -- ---- a cell adds those of its boxes that overlap
 module _ (area : Aabb) where
-  box-adds : (b : Aabb) (s t : List Aabb) → offer push area b s ≡ found (next t) → t ≡ s ++ overlapping area (b ∷ [])
+  box-adds : (b : Aabb) (s t : List Aabb) → offer (push room) area b s ≡ found (next t) → t ≡ s ++ overlapping area (b ∷ [])
   unfolding overlapping choose
   box-adds b s t e = go (overlap b area) (ltb (length s) room) e
     where
@@ -137,18 +137,18 @@ module _ (area : Aabb) where
       go true = refl
       go false = refl
 
-  boxes-add : (bs s t : List Aabb) → offerAll push area bs s ≡ found (next t) → t ≡ s ++ overlapping area bs
+  boxes-add : (bs s t : List Aabb) → offerAll (push room) area bs s ≡ found (next t) → t ≡ s ++ overlapping area bs
   unfolding offerAll
   boxes-add [] s t e = unfold overlapping in (let q : t ≡ s = cc in q ∙ sym (append-nil s))
   boxes-add (b ∷ bs) s t e =
-      let p = passed (offer push area b s) (offerAll push area bs) t e in
+      let p = passed (offer (push room) area b s) (offerAll (push room) area bs) t e in
       boxes-add bs (p .at) t (p .then)
       ∙ ap (λ (l : List Aabb). l ++ overlapping area bs) (box-adds b s (p .at) (p .first))
       ∙ append-assoc s (overlapping area (b ∷ [])) (overlapping area bs)
       ∙ ap (λ (l : List Aabb). s ++ l) (sym (one-more b bs))
 
   -- no box ends it
-  box-goes-on : (b : Aabb) (s : List Aabb) (v : Bool) → offer push area b s ≡ found (done v) → ⊥
+  box-goes-on : (b : Aabb) (s : List Aabb) (v : Bool) → offer (push room) area b s ≡ found (done v) → ⊥
   unfolding choose
   box-goes-on b s v e = go (overlap b area) (ltb (length s) room) e
     where
@@ -157,36 +157,36 @@ module _ (area : Aabb) where
       go true false e = no cc
       go false c e = no cc
 
-  boxes-go-on : (bs s : List Aabb) (v : Bool) → offerAll push area bs s ≡ found (done v) → ⊥
+  boxes-go-on : (bs s : List Aabb) (v : Bool) → offerAll (push room) area bs s ≡ found (done v) → ⊥
   unfolding offerAll
   boxes-go-on [] s v e = no cc
-  boxes-go-on (b ∷ bs) s v e = undone (offer push area b s) (offerAll push area bs) v (box-goes-on b s v) (λ a. boxes-go-on bs a v) e
+  boxes-go-on (b ∷ bs) s v e = undone (offer (push room) area b s) (offerAll (push room) area bs) v (box-goes-on b s v) (λ a. boxes-go-on bs a v) e
 
 module _ (look : Pos → Ask Block) (records : List ℕ) (shapes : List Float) (area : Aabb) where
   abbrev pub keptOf : Pos → List Aabb
   keptOf p = overlapping area (settledBoxes look records shapes p)
 
-  cell-adds : (p : Pos) (s t : List Aabb) → visit push area look records shapes p s ≡ found (next t) → t ≡ s ++ keptOf p
+  cell-adds : (p : Pos) (s t : List Aabb) → visit (push room) area look records shapes p s ≡ found (next t) → t ≡ s ++ keptOf p
   unfolding visit settledBoxes
   cell-adds p s t e = go (cellShape look records p) e
     where
-      go : (m : Ask CellShape) → (m >>= (λ shape. offerAll push area (aabbsOf shapes p shape) s)) ≡ found (next t) → t ≡ s ++ overlapping area (settled shapes p m)
+      go : (m : Ask CellShape) → (m >>= (λ shape. offerAll (push room) area (aabbsOf shapes p shape) s)) ≡ found (next t) → t ≡ s ++ overlapping area (settled shapes p m)
       go (refused k) e = no cc
       go (found shape) e = boxes-add area (aabbsOf shapes p shape) s t e
 
-  cell-goes-on : (v : Bool) (p : Pos) (s : List Aabb) → visit push area look records shapes p s ≡ found (done v) → ⊥
+  cell-goes-on : (v : Bool) (p : Pos) (s : List Aabb) → visit (push room) area look records shapes p s ≡ found (done v) → ⊥
   unfolding visit
   cell-goes-on v p s e = go (cellShape look records p) e
     where
-      go : (m : Ask CellShape) → (m >>= (λ shape. offerAll push area (aabbsOf shapes p shape) s)) ≡ found (done v) → ⊥
+      go : (m : Ask CellShape) → (m >>= (λ shape. offerAll (push room) area (aabbsOf shapes p shape) s)) ≡ found (done v) → ⊥
       go (refused k) e = no cc
       go (found shape) e = boxes-go-on area (aabbsOf shapes p shape) s v e
 
   -- ---- a collection that is not refused
   module _ (bs : List Aabb) (e : collectBlockBoxes look records shapes area ≡ found bs) where
-    walked : walk (visit push area look records shapes) (rangeOf area) [] ≡ found (next bs)
-    unfolding collectBlockBoxes
-    walked = go (walk (visit push area look records shapes) (rangeOf area) []) (λ v. walks-on v (visit push area look records shapes) (rangeOf area) (cell-goes-on v) []) e
+    walked : walk (visit (push room) area look records shapes) (rangeOf area) [] ≡ found (next bs)
+    unfolding collectUpTo
+    walked = go (walk (visit (push room) area look records shapes) (rangeOf area) []) (λ v. walks-on v (visit (push room) area look records shapes) (rangeOf area) (cell-goes-on v) []) e
       where
         go : (m : Ask (Turn (List Aabb) Bool)) → ((v : Bool) → m ≡ found (done v) → ⊥) → (m >>= λ t. found (pushed t)) ≡ found bs → m ≡ found (next bs)
         go (refused k) h e = no cc
@@ -195,16 +195,16 @@ module _ (look : Pos → Ask Block) (records : List ℕ) (shapes : List Float) (
 
     -- the list and its order
     pub collected-is : bs ≡ inOrder keptOf (rangeOf area)
-    collected-is = walk-grows (visit push area look records shapes) keptOf (rangeOf area) cell-adds [] bs walked
+    collected-is = walk-grows (visit (push room) area look records shapes) keptOf (rangeOf area) cell-adds [] bs walked
 
     -- every cell of the range was settled
     pub all-settled : (x y z : ℕ) → x < rangeOf area .x .count → y < rangeOf area .y .count → z < rangeOf area .z .count → (shape : CellShape) × (cellShape look records (placeAt (rangeOf area) x y z) ≡ found shape)
     unfolding visit
     all-settled x y z hx hy hz =
-        let w = walk-each (visit push area look records shapes) (rangeOf area) x y z hx hy hz [] bs walked in
+        let w = walk-each (visit (push room) area look records shapes) (rangeOf area) x y z hx hy hz [] bs walked in
         go (cellShape look records (placeAt (rangeOf area) x y z)) (w .from) (w .to) (w .went)
       where
-        go : (m : Ask CellShape) (s t : List Aabb) → (m >>= (λ shape. offerAll push area (aabbsOf shapes (placeAt (rangeOf area) x y z) shape) s)) ≡ found (next t) → (shape : CellShape) × (m ≡ found shape)
+        go : (m : Ask CellShape) (s t : List Aabb) → (m >>= (λ shape. offerAll (push room) area (aabbsOf shapes (placeAt (rangeOf area) x y z) shape) s)) ≡ found (next t) → (shape : CellShape) × (m ≡ found shape)
         go (refused k) s t e = no cc
         go (found shape) s t e = (shape, refl)
 

@@ -12,6 +12,7 @@ use Rattle.base.specs.Choose.{choose}
 use Rattle.base.specs.Ask.{Ask, refused, found, _>>=_, asking, Turn, next, done, resume, onward, turning}
 use Rattle.boxes.specs.declared.Aabb.{Aabb}
 use Rattle.boxes.specs.declared.Vec3.{Vec3}
+use Rattle.sweeps.specs.Lists.{room}
 use Rattle.cover.specs.declared.Side.{Side}
 use Rattle.cover.specs.declared.Side.the-variants.{North, East, South, West}
 use Rattle.window.specs.declared.Pos.{Pos}
@@ -21,9 +22,9 @@ use Rattle.window.specs.Look.{Block, none, some, lookAt}
 use Rattle.ranges.specs.declared.Range.{Range}
 use Rattle.ranges.specs.Walk.{line, layer, walk}
 use Rattle.connect.specs.declared.Joined.{Joined}
-use Rattle.connect.specs.Connect.{connectsAs, joins, post, besideNeighbours, connectedState}
+use Rattle.connect.specs.Connect.{connectKind, joins, post, besideNeighbours, connectedState}
 use Rattle.moves.specs.Answers.{moveAabb}
-use Rattle.moves.specs.Collect.{connectedShape, shapeOf, cellShape, offer, offerAll, visit, push, hit, collectBlockBoxes, collidesWithBlocks}
+use Rattle.moves.specs.Collect.{connectedShape, shapeOf, cellShape, offer, offerAll, visit, push, hit, collectUpTo, collectBlockBoxes, collidesWithBlocks}
 
 -- what a refusal's number can be
 pub record Refuses {A : Type 0} (P : ℕ → Type 0) (m : Ask A) : Type 0 where
@@ -105,14 +106,14 @@ module _ (look : Pos → Ask Block) (h : (p : Pos) → Refuses Five (look p)) (r
 
   pub connected-refuses : (p : Pos) (state : ℕ) → Refuses Five (connectedState look records p state)
   unfolding connectedState
-  connected-refuses p state = either (eqb (connectsAs records state) 0) (found state) _ (finds state) (beside-refuses p (connectsAs records state) state)
+  connected-refuses p state = either (eqb (connectKind records state) 0) (found state) _ (finds state) (beside-refuses p (connectKind records state) state)
 
   block-refuses : (p : Pos) (b : Block) → Refuses Five (shapeOf look records p b)
   unfolding shapeOf connectedShape
   block-refuses p none = finds _
   block-refuses p (some id) = either _ _ _ (after _ _ (connected-refuses p id) (λ s. finds _)) (finds _)
 
-  cell-refuses : (p : Pos) → Refuses Five (cellShape look records p)
+  pub cell-refuses : (p : Pos) → Refuses Five (cellShape look records p)
   unfolding cellShape
   cell-refuses p = after (look p) _ (h p) (block-refuses p)
 
@@ -127,13 +128,16 @@ module _ (look : Pos → Ask Block) (h : (p : Pos) → Refuses Five (look p)) (r
     unfolding visit
     visit-refuses p s = after (cellShape look records p) _ (wider _ five (cell-refuses p)) (λ shape. offers-refuse _ s)
 
-push-refuses : (b : Aabb) (bs : List Aabb) → Refuses FiveOrSix (push b bs)
-push-refuses b bs = either _ _ _ (finds _) (names 6 (inr refl))
+push-refuses : (cap : ℕ) (b : Aabb) (bs : List Aabb) → Refuses FiveOrSix (push cap b bs)
+push-refuses cap b bs = either _ _ _ (finds _) (names 6 (inr refl))
+
+pub capped-refuses : (cap : ℕ) (cells : List ℕ) (w : Window) (records : List ℕ) (shapes : List Float) (area : Aabb) → Refuses FiveOrSix (collectUpTo cap (lookAt cells w) records shapes area)
+unfolding collectUpTo
+capped-refuses cap cells w records shapes area =
+    after _ _ (walks _ _ (visit-refuses (lookAt cells w) (look-refuses cells w) records (λ n e. inl e) (push cap) (push-refuses cap) area shapes) []) (λ t. finds _)
 
 pub collect-refuses : (cells : List ℕ) (w : Window) (records : List ℕ) (shapes : List Float) (area : Aabb) → Refuses FiveOrSix (collectBlockBoxes (lookAt cells w) records shapes area)
-unfolding collectBlockBoxes
-collect-refuses cells w records shapes area =
-    after _ _ (walks _ _ (visit-refuses (lookAt cells w) (look-refuses cells w) records (λ n e. inl e) push push-refuses area shapes) []) (λ t. finds _)
+collect-refuses = capped-refuses room
 
 pub collides-refuses : (cells : List ℕ) (w : Window) (records : List ℕ) (shapes : List Float) (area : Aabb) → Refuses Five (collidesWithBlocks (lookAt cells w) records shapes area)
 unfolding collidesWithBlocks

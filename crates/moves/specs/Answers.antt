@@ -2,30 +2,26 @@
 use mathlib.Core.Bool.{Bool, true, false, not, _&&_}
 use mathlib.Core.List.{List, []}
 use Prim.Native.Nat.{ℕ}
-use lib.Dec.{eqb}
-use lib.ListN.{length}
 use lib.Ieee.{Float}
-use Rattle.base.specs.Choose.{choose}
 use Rattle.base.specs.Ask.{Ask, refused, found, _>>=_}
 use Rattle.floats.specs.Numbers.{zero64}
 use Rattle.boxes.specs.declared.Vec3.{Vec3}
 use Rattle.boxes.specs.declared.Aabb.{Aabb}
-use Rattle.boxes.specs.declared.MoveResult.{MoveResult}
-use Rattle.boxes.specs.declared.MoveAnswer.{MoveAnswer}
+use Rattle.sweeps.specs.declared.MoveResult.{MoveResult}
+use Rattle.sweeps.specs.declared.MoveAnswer.{MoveAnswer}
 use Rattle.boxes.specs.Boxes.{vec, expandTowards}
-use Rattle.boxes.specs.Lists.{Held, held}
-use Rattle.boxes.specs.Move.{moveOver}
+use Rattle.sweeps.specs.Lists.{Held, held}
+use Rattle.sweeps.specs.Move.{moveOver}
 use Rattle.boxes.specs.Limits.{isBox, isDelta, isStep}
-use Rattle.boxes.specs.Entry.{refusedMove}
-use Rattle.tables.specs.Check.{tableRefusal}
+use Rattle.sweeps.specs.Entry.{refusedMove}
 use Rattle.window.specs.declared.Pos.{Pos}
 use Rattle.window.specs.declared.Window.{Window}
-use Rattle.window.specs.Window.{windowRefusal}
 use Rattle.window.specs.Look.{Block, lookAt}
-use Rattle.moves.specs.declared.Collision.{Collision}
-use Rattle.moves.specs.declared.Collision.the-variants.{Is, Refused}
-use Rattle.moves.specs.declared.Moved.{Moved}
-use Rattle.moves.specs.declared.Moved.the-variants.{To, Refused as MoveRefused}
+use Rattle.lent.specs.Lent.{unless, sound}
+use Rattle.moves.specs.declared.AskedHit.{AskedHit}
+use Rattle.moves.specs.declared.AskedHit.the-variants.{Is, Refused}
+use Rattle.moves.specs.declared.AskedMove.{AskedMove}
+use Rattle.moves.specs.declared.AskedMove.the-variants.{To, Refused as MoveRefused}
 use Rattle.moves.specs.declared.HitAnswer.{HitAnswer}
 use Rattle.moves.specs.Collect.{collectBlockBoxes, collidesWithBlocks}
 
@@ -34,7 +30,7 @@ abbrev pub heldAsked : Ask (List Aabb) → Held
 heldAsked (refused n) = held n []
 heldAsked (found bs) = held 0 bs
 
-abbrev pub hitAsked : Collision → Ask Bool
+abbrev pub hitAsked : AskedHit → Ask Bool
 hitAsked (Is b) = found b
 hitAsked (Refused n) = refused n
 
@@ -48,7 +44,7 @@ moveAabb look records shapes aabb delta stepHeight wasOnGround = do
   boxes ← collectBlockBoxes look records shapes (sweptArea aabb delta stepHeight)
   found (moveOver boxes aabb delta stepHeight wasOnGround)
 
-abbrev pub movedAsked : Moved → Ask MoveResult
+abbrev pub movedAsked : AskedMove → Ask MoveResult
 movedAsked (To m) = found m
 movedAsked (MoveRefused n) = refused n
 
@@ -58,16 +54,6 @@ moveAnswer aabb (refused n) = record { refusal = n; result = refusedMove aabb }
 moveAnswer aabb (found m) = record { refusal = 0; result = m }
 
 -- ---- what a host calls: 1, 2, 3 and 4 in order, before any cell is asked for; then 5 or 6
-
--- what is asked, or the first refusal of a row of tests
-abbrev pub unless : {A : Type 0} → Bool → ℕ → Ask A → Ask A
-unless bad n ask = choose bad (refused n) ask
-
-abbrev pub sound : {A : Type 0} → List ℕ → List Float → List ℕ → Window → Ask A → Ask A
-sound records shapes cells w ask =
-    unless (not (eqb (tableRefusal records shapes) 0)) 1
-    (unless (not (eqb (windowRefusal (length cells) w) 0)) 2
-    ask)
 
 unfoldable pub collectEntry : List ℕ → List Float → List ℕ → Window → Aabb → Held
 collectEntry records shapes cells w area =

@@ -5,69 +5,19 @@ use mathlib.Core.List.{List, [], _∷_, _++_}
 use Prim.Native.Nat.{ℕ}
 use lib.Dec.{ltb}
 use lib.ListN.{length}
-use lib.Ieee.{Float, binary64, ofInt, ofBits}
+use lib.Ieee.{Float}
 use Rattle.base.specs.Choose.{choose}
-use Rattle.base.specs.Loop.{listed}
 use Rattle.base.specs.Ask.{Ask, refused, found, _>>=_, Turn, next, done, onward}
-use Rattle.boxes.specs.declared.Vec3.{Vec3}
 use Rattle.boxes.specs.declared.Aabb.{Aabb}
-use Rattle.boxes.specs.Boxes.{vec, plus, box, offsetBy, overlap}
-use Rattle.boxes.specs.Lists.{room}
-use Rattle.cover.specs.Cover.{boxCount}
-use Rattle.tables.specs.declared.ShapeBox.{ShapeBox}
-use Rattle.tables.specs.Tables.{wordAt, isRegistered, boxesAt, boxAt}
+use Rattle.boxes.specs.Boxes.{overlap}
+use Rattle.sweeps.specs.Lists.{room}
 use Rattle.window.specs.declared.Pos.{Pos}
-use Rattle.window.specs.Look.{Block, none, some}
+use Rattle.window.specs.Look.{Block}
 use Rattle.ranges.specs.declared.Range.{Range}
 use Rattle.ranges.specs.Ranges.{cellsBetween, layersBetween}
 use Rattle.ranges.specs.Walk.{walk}
-use Rattle.connect.specs.Connect.{connectedState}
-
--- ---- the boxes of a cell
-
--- pos.as_dvec3()
-abbrev pub originOf : Pos → Vec3
-originOf p = vec (ofInt binary64 (p .x)) (ofInt binary64 (p .y)) (ofInt binary64 (p .z))
-
-abbrev pub one64 : Float
-one64 = ofBits binary64 4607182418800017408
-
--- Aabb::new(origin, origin + DVec3::ONE)
-abbrev pub cubeAt : Pos → Aabb
-cubeAt p = box (originOf p) (plus (originOf p) (vec one64 one64 one64))
-
--- the Rust's to_aabb
-abbrev pub toAabb : ShapeBox → Aabb
-toAabb b = box (vec (b .x0) (b .y0) (b .z0)) (vec (b .x1) (b .y1) (b .z1))
-
--- block_collision_aabbs(state).map(|b| b.offset(origin)), for the part of the shapes that is the state's
-abbrev pub shapeAabbs : List Float → Pos → List Aabb
-shapeAabbs shape p = listed (λ k. offsetBy (toAabb (boxAt shape k)) (originOf p)) (boxCount shape) 0
-
--- what stands in a cell: a full cube, or the boxes of a state, by words 7 and 8
-pub data CellShape : Type 0 where
-  cube : CellShape
-  boxes : ℕ → ℕ → CellShape
-
-abbrev pub aabbsOf : List Float → Pos → CellShape → List Aabb
-aabbsOf shapes p cube = cubeAt p ∷ []
-aabbsOf shapes p (boxes first count) = shapeAabbs (boxesAt shapes first count) p
-
--- a registered state has the shape that it has beside its neighbours
-unfoldable pub connectedShape : (Pos → Ask Block) → List ℕ → Pos → ℕ → Ask CellShape
-connectedShape look records p id = do
-  state ← connectedState look records p id
-  found (boxes (wordAt records state 7) (wordAt records state 8))
-
--- what is not loaded is a full cube, what is not registered nothing
-unfoldable pub shapeOf : (Pos → Ask Block) → List ℕ → Pos → Block → Ask CellShape
-shapeOf look records p none = found cube
-shapeOf look records p (some id) = choose (isRegistered records id) (connectedShape look records p id) (found (boxes 0 0))
-
-unfoldable pub cellShape : (Pos → Ask Block) → List ℕ → Pos → Ask CellShape
-cellShape look records p = do
-  block ← look p
-  shapeOf look records p block
+pub use Rattle.solids.specs.Shapes.{originOf, cubeAt, toAabb, shapeAabbs, CellShape, cube, boxes, aabbsOf}
+unfoldable pub use Rattle.solids.specs.Shapes.{connectedShape, shapeOf, cellShape}
 
 -- ---- visiting them: a box that strictly overlaps the area is offered, and `accept` goes on, is done, or refuses
 module _ {S : Type 0} (accept : Aabb → S → Ask (Turn S Bool)) (area : Aabb) where
@@ -95,18 +45,22 @@ rangeOf area =
 abbrev pub anyBlockBox : {S : Type 0} → (Aabb → S → Ask (Turn S Bool)) → (Pos → Ask Block) → List ℕ → List Float → Aabb → S → Ask (Turn S Bool)
 anyBlockBox accept look records shapes area s = walk (visit accept area look records shapes) (rangeOf area) s
 
--- |aabb| { out.push(aabb); false }, where a 129th box is 6
-abbrev pub push : Aabb → List Aabb → Ask (Turn (List Aabb) Bool)
-push b bs = choose (ltb (length bs) room) (found (next (bs ++ (b ∷ [])))) (refused 6)
+-- |aabb| { out.push(aabb); false }, where one box more than the cap is 6
+abbrev pub push : ℕ → Aabb → List Aabb → Ask (Turn (List Aabb) Bool)
+push cap b bs = choose (ltb (length bs) cap) (found (next (bs ++ (b ∷ [])))) (refused 6)
 
 abbrev pub pushed : Turn (List Aabb) Bool → List Aabb
 pushed (next bs) = bs
 pushed (done b) = []
 
-unfoldable pub collectBlockBoxes : (Pos → Ask Block) → List ℕ → List Float → Aabb → Ask (List Aabb)
-collectBlockBoxes look records shapes area = do
-  t ← anyBlockBox push look records shapes area []
+unfoldable pub collectUpTo : ℕ → (Pos → Ask Block) → List ℕ → List Float → Aabb → Ask (List Aabb)
+collectUpTo cap look records shapes area = do
+  t ← anyBlockBox (push cap) look records shapes area []
   found (pushed t)
+
+-- into the list, whose 129th box is 6
+abbrev pub collectBlockBoxes : (Pos → Ask Block) → List ℕ → List Float → Aabb → Ask (List Aabb)
+collectBlockBoxes look records shapes area = collectUpTo room look records shapes area
 
 -- |_| true: it stops at its first hit
 abbrev pub hit : Aabb → Bool → Ask (Turn Bool Bool)

@@ -27,10 +27,10 @@ overlapping area [] = []
 overlapping area (b ∷ bs) = choose (overlap b area) (b ∷ overlapping area bs) (overlapping area bs)
 
 -- the lists g i, g (i + 1) and so on, one after the other, as many as the first number says
-unfoldable pub joined : {A : Type 0} → (ℕ → List A) → ℕ → ℕ → List A
-joined g zero i = []
-joined g (suc k) i = g i ++ joined g k (i + 1)
+unfoldable pub appended : {A : Type 0} → (ℕ → List A) → ℕ → ℕ → List A
+appended g zero i = []
+appended g (suc k) i = g i ++ appended g k (i + 1)
 
 -- over the cells of a range: y, then x, then z
 unfoldable pub inOrder : {A : Type 0} → (Pos → List A) → Range → List A
-inOrder g r = joined (λ y. joined (λ x. joined (λ z. g (placeAt r x y z)) (r .z .count) 0) (r .x .count) 0) (r .y .count) 0
+inOrder g r = appended (λ y. appended (λ x. appended (λ z. g (placeAt r x y z)) (r .z .count) 0) (r .x .count) 0) (r .y .count) 0

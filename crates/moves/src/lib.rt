@@ -3,47 +3,36 @@ mod through;
 
 pub use through::move_through;
 use boxes::Aabb;
-use boxes::BoxList;
-use boxes::Collected;
-use boxes::MoveAnswer;
-use boxes::MoveResult;
 use boxes::Vec3;
-use connect::Connected;
-use ranges::At;
 use ranges::Range;
-use window::Cell;
+use solids::AskedShape;
+use solids::Shape;
+use sweeps::BoxList;
+use sweeps::Collected;
+use sweeps::MoveAnswer;
+use sweeps::MoveResult;
 use window::Pos;
 use window::Window;
 ghost use mathlib.Core.Path.{_≡_};
-ghost use Rattle.boxes.specs.Lists.{heldIn};
-ghost use Rattle.tables.specs.Tables.{boxAt};
+ghost use Prim.Native.Nat.{_≤_};
+ghost use Rattle.sweeps.specs.Lists.{room, heldIn};
+ghost use Rattle.tables.specs.Tables.{boxesAt};
+ghost use Rattle.ranges.specs.Ranges.{trimmed};
+ghost use Rattle.solids.specs.Parts.{countOf, nthAabb};
 ghost use Rattle.window.specs.Look.{lookAt};
-ghost use Rattle.moves.specs.Collect.{originOf, cubeAt, toAabb, connectedShape, cellShape, rangeOf, collectBlockBoxes, collidesWithBlocks};
-ghost use Rattle.moves.specs.Parts.{partAsked, countOf, nthAabb};
+ghost use Rattle.moves.specs.Collect.{rangeOf, collectUpTo, collectBlockBoxes, collidesWithBlocks};
 ghost use Rattle.moves.specs.Answers.{heldAsked, hitAsked, moveAnswer, collectEntry, collidesEntry, moveEntry};
 ghost use mathlib.Core.Bool.{_&&_};
 ghost use Rattle.base.specs.Ask.{refused};
 ghost use Rattle.boxes.specs.Limits.{isBox, isDelta};
 
-// What stands in a cell: a full cube, or the boxes of the shapes by the two words of a record.
-struct Shape {
-    cube: bool,
-    first: u32,
-    count: u32,
-}
-
-enum Part {
-    Is(Shape),
-    Refused(u32),
-}
-
-pub enum Collision {
+pub enum AskedHit {
     Is(bool),
     Refused(u32),
 }
 
 // A move, or the number of a refusal.
-pub enum Moved {
+pub enum AskedMove {
     To(MoveResult),
     Refused(u32),
 }
@@ -54,214 +43,94 @@ pub struct HitAnswer {
     pub hit: bool,
 }
 
-fn origin_of(p: Pos) -> Vec3
-    ensures { λ r. ⌜ r ≡ originOf p ⌝ }
-{
-    let x = p.x as f64;
-    let y = p.y as f64;
-    let z = p.z as f64;
-    Vec3 { x, y, z }
-}
-
-fn cube_at(p: Pos) -> Aabb
-    ensures { λ r. ⌜ r ≡ cubeAt p ⌝ }
-{
-    let o = origin_of(p);
-    let far = Vec3 {
-        x: o.x + 1.0,
-        y: o.y + 1.0,
-        z: o.z + 1.0,
-    };
-    Aabb { min: o, max: far }
-}
-
-// What a registered record at p has beside its neighbours.
-fn part_of(records: &[u32], cells: &[u32], w: Window, p: Pos, id: u32) -> Part
-    ensures { λ r. ⌜ partAsked r ≡ connectedShape (lookAt (now (cells .entry)) w) (now (records .entry)) p id ⌝ }
-{
-    let state = connect::connected_state(records, cells, w, p, id);
-    match state {
-        Connected::Refused(n) => Part::Refused(n),
-        Connected::State(s) => {
-            let first = tables::word(records, s, 7);
-            let count = tables::word(records, s, 8);
-            Part::Is(Shape {
-                cube: false,
-                first,
-                count,
-            })
-        }
-    }
-}
-
-// What stands in the cell at p. A record that connects as nothing has its own boxes, and is done with here.
-fn part_at(records: &[u32], cells: &[u32], w: Window, p: Pos) -> Part
-    ensures { λ r. ⌜ partAsked r ≡ cellShape (lookAt (now (cells .entry)) w) (now (records .entry)) p ⌝ }
-{
-    let cell = window::look(cells, w, p);
-    match cell {
-        Cell::Outside => Part::Refused(5),
-        Cell::Unloaded => Part::Is(Shape {
-            cube: true,
-            first: 0,
-            count: 1,
-        }),
-        Cell::State(id) => {
-            let h = tables::head_at(records, id);
-            if h.registered {
-                if h.kind == 0 {
-                    return Part::Is(Shape {
-                        cube: false,
-                        first: h.first,
-                        count: h.count,
-                    });
-                }
-                return part_of(records, cells, w, p, id);
-            }
-            Part::Is(Shape {
-                cube: false,
-                first: 0,
-                count: 0,
-            })
-        }
-    }
-}
-
-// How many boxes a cell has: `shape` is the part of the shapes that is `count` boxes, or nothing where that is not there whole.
-fn count_of(cube: bool, count: u32, shape: &[f32]) -> u32
-    ensures { λ r. ⌜ r ≡ countOf cube count (now (shape .entry)) ⌝ }
-{
-    if cube {
-        return 1;
-    }
-    if shape.len() == 0 {
-        return 0;
-    }
-    count
-}
-
-fn shape_aabb(shape: &[f32], k: u32) -> Aabb
-    ensures { λ r. ⌜ r ≡ toAabb (boxAt (now (shape .entry)) k) ⌝ }
-{
-    let b = tables::box_at(shape, k);
-    Aabb {
-        min: Vec3 {
-            x: b.x0,
-            y: b.y0,
-            z: b.z0,
-        },
-        max: Vec3 {
-            x: b.x1,
-            y: b.y1,
-            z: b.z1,
-        },
-    }
-}
-
-// Box k of a cell, in the world's coordinates.
-fn nth_aabb(cube: bool, shape: &[f32], p: Pos, k: u32) -> Aabb
-    ensures { λ r. ⌜ r ≡ nthAabb cube (now (shape .entry)) p k ⌝ }
-{
-    if cube {
-        return cube_at(p);
-    }
-    shape_aabb(shape, k).offset(origin_of(p))
-}
-
+// The cells that the area reaches.
 fn range_of(area: Aabb) -> Range
-    ensures { λ r. ⌜ r ≡ rangeOf area ⌝ }
+    ensures { λ r. ⌜ r ≡ trimmed (rangeOf area) ⌝ }
 {
     let x = ranges::cells_between(area.min.x, area.max.x);
     let y = ranges::layers_between(area.min.y, area.max.y);
     let z = ranges::cells_between(area.min.z, area.max.z);
-    Range { x, y, z }
+    ranges::trim(Range { x, y, z })
 }
 
-// The boxes of every cell that the area reaches, which strictly overlap it. The list is built in place. It refuses 5 and 6 alone.
-pub fn collect(records: &[u32], shapes: &[f32], cells: &[u32], w: Window, area: Aabb) -> Collected
-    ensures { λ r. ⌜ heldIn r ≡ heldAsked (collectBlockBoxes (lookAt (now (cells .entry)) w) (now (records .entry)) (now (shapes .entry)) area) ⌝ }
+// How many boxes a cell has of which `part_at` answered this.
+fn count_in(shapes: &[f32], part: Shape) -> u32
+    ensures { λ r. ⌜ r ≡ countOf (part .cube) (part .count) (boxesAt (now (shapes .entry)) (part .first) (part .count)) ⌝ }
+{
+    let shape = tables::boxes_at(shapes, part.first, part.count);
+    solids::count_of(part.cube, part.count, shape)
+}
+
+// Box k of the cell at p.
+fn box_in(shapes: &[f32], part: Shape, p: Pos, k: u32) -> Aabb
+    ensures { λ r. ⌜ r ≡ nthAabb (part .cube) (boxesAt (now (shapes .entry)) (part .first) (part .count)) p k ⌝ }
+{
+    let shape = tables::boxes_at(shapes, part.first, part.count);
+    solids::nth_aabb(part.cube, shape, p, k)
+}
+
+// The boxes of every cell that the area reaches, which strictly overlap it: as many as the cap says, and with one more it refuses 6. The list is
+// built in place.
+fn collect_up_to(cap: usize, records: &[u32], shapes: &[f32], cells: &[u32], w: Window, area: Aabb) -> Collected
+    requires { ⌜ cap ≤ room ⌝ }
+    ensures { λ r. ⌜ heldIn r ≡ heldAsked (collectUpTo cap (lookAt (now (cells .entry)) w) (now (records .entry)) (now (shapes .entry)) area) ⌝ }
 {
     let r = range_of(area);
     let mut list = BoxList::new();
-    let mut y = 0u32;
-    while y < r.y.count {
-        let mut x = 0u32;
-        while x < r.x.count {
-            let mut z = 0u32;
-            while z < r.z.count {
-                let p = ranges::place(r, At { x, y, z });
-                let q = match part_at(records, cells, w, p) {
-                    Part::Refused(n) => return Collected::refused(n),
-                    Part::Is(s) => s,
-                };
-                let shape = tables::boxes_at(shapes, q.first, q.count);
-                let n = count_of(q.cube, q.count, shape);
-                let mut k = 0u32;
-                while k < n {
-                    let b = nth_aabb(q.cube, shape, p, k);
-                    if b.intersects(area) {
-                        let i = list.count;
-                        if i >= 128 {
-                            return Collected::refused(6);
-                        }
-                        list.boxes[i] = b;
-                        list.count = i + 1;
-                    }
-                    k += 1;
+    let mut t = ranges::start(r);
+    while t.y < r.y.count {
+        let p = ranges::place(r, t);
+        let part = match solids::part_at(records, cells, w, p) {
+            AskedShape::Refused(n) => return Collected::refused(n),
+            AskedShape::Is(s) => s,
+        };
+        let n = count_in(shapes, part);
+        for k in 0..n {
+            let b = box_in(shapes, part, p, k);
+            if b.intersects(area) {
+                let i = list.count;
+                if i >= cap {
+                    return Collected::refused(6);
                 }
-                z += 1;
+                list.boxes[i] = b;
+                list.count = i + 1;
             }
-            x += 1;
         }
-        y += 1;
+        t = ranges::next(r, t);
     }
     Collected { list, refusal: 0 }
 }
 
+// Collection into the list. It refuses 5 and 6 alone.
+pub fn collect(records: &[u32], shapes: &[f32], cells: &[u32], w: Window, area: Aabb) -> Collected
+    ensures { λ r. ⌜ heldIn r ≡ heldAsked (collectBlockBoxes (lookAt (now (cells .entry)) w) (now (records .entry)) (now (shapes .entry)) area) ⌝ }
+{
+    collect_up_to(128, records, shapes, cells, w, area)
+}
+
 // Whether a block box strictly overlaps the area. It stops at its first hit: no cell after that is asked for. It refuses 5 alone.
-pub fn collides(records: &[u32], shapes: &[f32], cells: &[u32], w: Window, area: Aabb) -> Collision
+// A collection with room for no box does the same, and its 6 is the hit.
+pub fn collides(records: &[u32], shapes: &[f32], cells: &[u32], w: Window, area: Aabb) -> AskedHit
     ensures { λ r. ⌜ hitAsked r ≡ collidesWithBlocks (lookAt (now (cells .entry)) w) (now (records .entry)) (now (shapes .entry)) area ⌝ }
 {
-    let r = range_of(area);
-    let mut y = 0u32;
-    while y < r.y.count {
-        let mut x = 0u32;
-        while x < r.x.count {
-            let mut z = 0u32;
-            while z < r.z.count {
-                let p = ranges::place(r, At { x, y, z });
-                let q = match part_at(records, cells, w, p) {
-                    Part::Refused(n) => return Collision::Refused(n),
-                    Part::Is(s) => s,
-                };
-                let shape = tables::boxes_at(shapes, q.first, q.count);
-                let n = count_of(q.cube, q.count, shape);
-                let mut k = 0u32;
-                while k < n {
-                    let b = nth_aabb(q.cube, shape, p, k);
-                    if b.intersects(area) {
-                        return Collision::Is(true);
-                    }
-                    k += 1;
-                }
-                z += 1;
-            }
-            x += 1;
-        }
-        y += 1;
+    let none = collect_up_to(0, records, shapes, cells, w, area);
+    let refusal = none.refusal;
+    if refusal == 0 {
+        return AskedHit::Is(false);
     }
-    Collision::Is(false)
+    if refusal == 6 {
+        return AskedHit::Is(true);
+    }
+    AskedHit::Refused(refusal)
 }
 
 // For hosts: collection, with tables, window and area checked before any cell is asked for.
 pub fn collect_block_boxes(records: &[u32], shapes: &[f32], cells: &[u32], w: Window, area: Aabb) -> Collected
     ensures { λ r. ⌜ heldIn r ≡ collectEntry (now (records .entry)) (now (shapes .entry)) (now (cells .entry)) w area ⌝ }
 {
-    if tables::check_tables(records, shapes) != 0 {
-        return Collected::refused(1);
-    }
-    if window::check_window(cells, w) != 0 {
-        return Collected::refused(2);
+    let bad = lent::check_lent(records, shapes, cells, w);
+    if bad != 0 {
+        return Collected::refused(bad);
     }
     if boxes::is_box(area) {
         return collect(records, shapes, cells, w, area);
@@ -273,17 +142,15 @@ pub fn collect_block_boxes(records: &[u32], shapes: &[f32], cells: &[u32], w: Wi
 pub fn collides_with_blocks(records: &[u32], shapes: &[f32], cells: &[u32], w: Window, area: Aabb) -> HitAnswer
     ensures { λ r. ⌜ r ≡ collidesEntry (now (records .entry)) (now (shapes .entry)) (now (cells .entry)) w area ⌝ }
 {
-    if tables::check_tables(records, shapes) != 0 {
-        return HitAnswer { refusal: 1, hit: false };
-    }
-    if window::check_window(cells, w) != 0 {
-        return HitAnswer { refusal: 2, hit: false };
+    let bad = lent::check_lent(records, shapes, cells, w);
+    if bad != 0 {
+        return HitAnswer { refusal: bad, hit: false };
     }
     if boxes::is_box(area) {
         let told = collides(records, shapes, cells, w, area);
         return match told {
-            Collision::Refused(n) => HitAnswer { refusal: n, hit: false },
-            Collision::Is(b) => HitAnswer { refusal: 0, hit: b },
+            AskedHit::Refused(n) => HitAnswer { refusal: n, hit: false },
+            AskedHit::Is(b) => HitAnswer { refusal: 0, hit: b },
         };
     }
     HitAnswer { refusal: 4, hit: false }
@@ -316,18 +183,16 @@ fn is_fit(aabb: Aabb, delta: Vec3) -> bool
 pub fn move_aabb(records: &[u32], shapes: &[f32], cells: &[u32], w: Window, aabb: Aabb, delta: Vec3, step: f64, ground: bool) -> MoveAnswer
     ensures { λ r. ⌜ r ≡ moveEntry (now (records .entry)) (now (shapes .entry)) (now (cells .entry)) w aabb delta step ground ⌝ }
 {
-    if tables::check_tables(records, shapes) != 0 {
-        return refused_move(1, aabb);
-    }
-    if window::check_window(cells, w) != 0 {
-        return refused_move(2, aabb);
+    let bad = lent::check_lent(records, shapes, cells, w);
+    if bad != 0 {
+        return refused_move(bad, aabb);
     }
     if boxes::is_step(step) {
         if is_fit(aabb, delta) {
             let told = move_through(records, shapes, cells, w, aabb, delta, step, ground);
             return match told {
-                Moved::Refused(n) => refused_move(n, aabb),
-                Moved::To(m) => MoveAnswer {
+                AskedMove::Refused(n) => refused_move(n, aabb),
+                AskedMove::To(m) => MoveAnswer {
                     refusal: 0,
                     result: m,
                 },

@@ -12,8 +12,11 @@ use Rattle.base.specs.Ask.{Ask, refused, found, _>>=_, Turn, next, done, onward
 use Rattle.window.specs.declared.Pos.{Pos}
 use Rattle.ranges.specs.declared.Range.{Range}
 use Rattle.ranges.specs.declared.At.{At}
-use Rattle.ranges.specs.Ranges.{placeAt, placeOf, nextOf, startOf}
+use Rattle.ranges.specs.Ranges.{placeAt, placeOf, nextOf, startOf, noCells, trimmed}
 use Rattle.ranges.specs.Walk.{line, layer, walk}
+
+some : (n : ℕ) → (n ≡ 0 → ⊥) → 0 < n
+some n h = omega arith
 
 -- ---- one loop
 module _ {S R : Type 0} (f : ℕ → S → Ask (Turn S R)) (n i : ℕ) (s : S) where
@@ -121,6 +124,15 @@ module _ {S R : Type 0} (f : Pos → S → Ask (Turn S R)) (r : Range) where
     pub rest-next : rest t s ≡ rest (nextOf r t) a
     rest-next = onwards (ltb (t .z + 1) (r .z .count)) (ltb (t .x + 1) (r .x .count)) refl refl
 
+  -- all three: what the cell answers, and then the rest from the next cell on
+  pub rest-turn : (t : At) (s : S) → t .y < r .y .count → t .x < r .x .count → t .z < r .z .count → rest t s ≡ (f (placeOf r t) s >>= onward (rest (nextOf r t)))
+  rest-turn t s hy hx hz = go (f (placeOf r t) s) refl
+    where
+      go : (m : Ask (Turn S R)) → f (placeOf r t) s ≡ m → rest t s ≡ (m >>= onward (rest (nextOf r t)))
+      go (refused k) e = rest-refused t s hy hx hz k e
+      go (found (next a)) e = rest-next t s a hy hx hz e
+      go (found (done b)) e = rest-done t s hy hx hz b e
+
   -- ---- from the start
   empty-line : r .z .count ≡ 0 → (y x : ℕ) (s : S) → line f r y x s ≡ found (next s)
   unfolding line turning
@@ -135,9 +147,6 @@ module _ {S R : Type 0} (f : Pos → S → Ask (Turn S R)) (r : Range) where
   unfolding startOf choose walk
   rest-start s = go (eqb (r .x .count) 0) (eqb (r .z .count) 0) refl refl
     where
-      some : (n : ℕ) → (n ≡ 0 → ⊥) → 0 < n
-      some n h = omega arith
-
       same : (n : ℕ) → n ≤ n
       same n = omega arith
 
@@ -150,6 +159,30 @@ module _ {S R : Type 0} (f : Pos → S → Ask (Turn S R)) (r : Range) where
       go false true ep eq = none (inr (eqb-true (r .z .count) 0 eq))
       go false false ep eq = begun 0 s (some (r .x .count) (eqb-false (r .x .count) 0 ep)) ∙ ap (λ n. turning (layer f r) n 0 s) (sub-zero (r .y .count))
 
+  -- ---- a range that was trimmed
+  pub walk-trimmed : (s : S) → walk f (trimmed r) s ≡ walk f r s
+  unfolding trimmed choose walk turning
+  walk-trimmed s = go (eqb (r .x .count) 0) (eqb (r .z .count) 0) refl refl
+    where
+      none : (r .x .count ≡ 0) ⊎ (r .z .count ≡ 0) → found (next s) ≡ turning (layer f r) (r .y .count) 0 s
+      none h = sym (still (layer f r) (empty-layer h) (r .y .count) 0 s)
+
+      go : (p q : Bool) → eqb (r .x .count) 0 ≡ p → eqb (r .z .count) 0 ≡ q → walk f (choose p noCells (choose q noCells r)) s ≡ turning (layer f r) (r .y .count) 0 s
+      go true q ep eq = none (inl (eqb-true (r .x .count) 0 ep))
+      go false true ep eq = none (inr (eqb-true (r .z .count) 0 eq))
+      go false false ep eq = refl
+
+-- where it has a layer it has a cell on each axis: no loop over it turns without coming to a cell
+pub trimmed-whole : (r : Range) → 0 < trimmed r .y .count → (0 < trimmed r .x .count) × (0 < trimmed r .z .count)
+unfolding trimmed choose
+trimmed-whole r = go (eqb (r .x .count) 0) (eqb (r .z .count) 0) refl refl
+  where
+    go : (p q : Bool) → eqb (r .x .count) 0 ≡ p → eqb (r .z .count) 0 ≡ q → 0 < choose p noCells (choose q noCells r) .y .count
+        → (0 < choose p noCells (choose q noCells r) .x .count) × (0 < choose p noCells (choose q noCells r) .z .count)
+    go true q ep eq h = absurd (omega arith)
+    go false true ep eq h = absurd (omega arith)
+    go false false ep eq h = (some (r .x .count) (eqb-false (r .x .count) 0 ep), some (r .z .count) (eqb-false (r .z .count) 0 eq))
+
 -- ---- where the code stands: in a cell of the range, as long as there is a layer left
 pub record Within (r : Range) (t : At) : Type 0 where
   pub x : t .y < r .y .count → t .x < r .x .count
@@ -159,9 +192,6 @@ pub start-within : (r : Range) → Within r (startOf r)
 unfolding startOf choose
 start-within r = go (eqb (r .x .count) 0) (eqb (r .z .count) 0) refl refl
   where
-    some : (n : ℕ) → (n ≡ 0 → ⊥) → 0 < n
-    some n h = omega arith
-
     past : {A : Type 0} (n : ℕ) → n < n → A
     past n h = absurd (omega arith)
 

@@ -52,3 +52,10 @@ startOf r =
     choose (eqb (r .x .count) 0) record { x = 0; y = r .y .count; z = 0 }
     (choose (eqb (r .z .count) 0) record { x = 0; y = r .y .count; z = 0 }
     record { x = 0; y = 0; z = 0 })
+
+-- no cell at all where x or z has none
+abbrev pub noCells : Range
+noCells = let none : Axis = record { first = pos 0; count = 0 } in record { x = none; y = none; z = none }
+
+unfoldable pub trimmed : Range → Range
+trimmed r = choose (eqb (r .x .count) 0) noCells (choose (eqb (r .z .count) 0) noCells r)

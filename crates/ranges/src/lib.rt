@@ -1,9 +1,13 @@
 // The cells between coordinates, and going through them in the Rust's order: y, then x, then z.
+mod cells;
+
+pub use cells::cell_holding;
+pub use cells::cell_under;
 use window::Pos;
 ghost use mathlib.Core.Path.{_≡_};
 ghost use Prim.Native.Nat.{_+_};
 ghost use lib.Dec.{ltb};
-ghost use Rattle.ranges.specs.Ranges.{spanOf, cellsBetween, layersBetween, onFrom, placeOf, nextOf, startOf};
+ghost use Rattle.ranges.specs.Ranges.{spanOf, cellsBetween, layersBetween, onFrom, placeOf, nextOf, startOf, trimmed};
 
 // Cells of one axis: so many from the first on.
 pub struct Axis {
@@ -114,4 +118,18 @@ pub fn start(r: Range) -> At
         return At { x: 0, y: r.y.count, z: 0 };
     }
     At { x: 0, y: 0, z: 0 }
+}
+
+// The same cells, with no layer where x or z has no cell: nested loops over it never turn without coming to a cell.
+pub fn trim(r: Range) -> Range
+    ensures { λ q. ⌜ q ≡ trimmed r ⌝ }
+{
+    let none = Axis { first: 0, count: 0 };
+    if r.x.count == 0 {
+        return Range { x: none, y: none, z: none };
+    }
+    if r.z.count == 0 {
+        return Range { x: none, y: none, z: none };
+    }
+    r
 }

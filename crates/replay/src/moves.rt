@@ -1,7 +1,7 @@
 // The move over a list: `movelist box6 delta3 step ground n box6*n`.
 use boxes::Aabb;
-use boxes::BoxList;
-use boxes::MoveAnswer;
+use sweeps::BoxList;
+use sweeps::MoveAnswer;
 use boxes::Vec3;
 ghost use Prim.Native.Nat.{_≤_};
 
@@ -43,7 +43,7 @@ fn answer(line: &[u8]) -> MoveAnswer {
     let delta = vec3(line, 7);
     let step = crate::text::float(line, 10);
     let ground = crate::text::number(line, 11) == 1;
-    boxes::move_over_list(list(line), mover, delta, step, ground)
+    sweeps::move_over_list(list(line), mover, delta, step, ground)
 }
 
 fn put_vec3(v: Vec3) {

@@ -8,8 +8,9 @@ use native.Mathlib.Omega.{arith}
 use Rattle.base.specs.Choose.{choose}
 use Rattle.step.specs.declared.StepAnswer.{StepAnswer}
 use Rattle.step.proofs.Refuses.{Named, step-refusal}
-use Rattle.scene.specs.declared.Counts.{Counts}
-use Rattle.scene.specs.Scene.{isScene, countsOf, malformed, stepIn, tickOf}
+use Rattle.files.specs.declared.Counts.{Counts}
+use Rattle.files.specs.Files.{isScene, countsOf}
+use Rattle.scene.specs.Scene.{malformed, stepIn, tickOf}
 
 within : (n : ℕ) → (n ≡ 0) ⊎ Named n → n ≤ 9
 within n (inl e) = omega arith

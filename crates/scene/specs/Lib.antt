@@ -1,3 +1,2 @@
--- The definitions of scene files: what they hold, and the answer as bytes.
+-- The definitions of a scene's tick.
 pub mod Scene
-pub mod Text

@@ -1,2 +1,3 @@
 -- The small scenes hold.
+pub mod Tables
 pub mod Small

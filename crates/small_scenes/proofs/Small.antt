@@ -1,30 +1,31 @@
 -- Every small scene of the table is as document 01 says, by computing. Assumes nothing.
-use mathlib.Core.Bool.{true}
-use mathlib.Core.Path.{_≡_, refl}
+use mathlib.Core.Path.{refl}
 use lib.Ieee as I
 use Rattle.base.specs.Choose as C
 use Rattle.base.specs.Ask as A
 use Rattle.floats.specs.Numbers as N
 use Rattle.floats.specs.Whole as H
 use Rattle.floats.specs.Root as R
-use Rattle.boxes.specs.Move as M
+use Rattle.sweeps.specs.Move as M
 use Rattle.boxes.specs.Limits as L
-use Rattle.boxes.specs.Entry as E
+use Rattle.sweeps.specs.Entry as E
 use Rattle.window.specs.Window as W
 use Rattle.window.specs.Look as K
 use Rattle.tables.specs.Tables as B
 use Rattle.connect.specs.Connect as J
 use Rattle.ranges.specs.Ranges as G
 use Rattle.ranges.specs.Walk as D
-use Rattle.liquids.specs.Vectors as X
-use Rattle.liquids.specs.Liquid as Q
-use Rattle.liquids.specs.Flow as F
+use Rattle.boxes.specs.Vectors as X
+use Rattle.flow.specs.Liquid as Q
+use Rattle.flow.specs.Flow as F
 use Rattle.liquids.specs.Flotation as U
 use Rattle.liquids.specs.Living as Y
+use Rattle.small_scenes.specs.Moves as T
 use Rattle.small_scenes.specs.Palette as P
-use Rattle.small_scenes.specs.Waters as Z
+use Rattle.small_scenes.specs.Windows as Z
 use Rattle.small_scenes.specs.Scenes as S
+use Rattle.small_scenes.proofs.Tables.{tables-pass}
 
-pub small-scenes : S.allHold S.scenes ≡ true
-unfolding C.choose N.sizeOf M.clipAll M.clipSequence M.steppedUp M.moveOver L.areBoxes E.moveOverList S.holds S.allHold S.scenes W.inside W.indexOf K.lookAt B.isRegistered J.connectsAs J.isFence J.isThinOrWall J.oppositeFace J.gateDecides J.gateJoins J.registeredConnects J.sideWord J.transition J.transitions J.postTransition J.straight J.raises J.raisedBy J.joins J.post J.besideNeighbours J.connectedState P.off P.on P.row P.unlinked P.sides P.fence P.wall P.rows P.palette P.window P.middle P.layer P.around Z.waters Z.flowAmong A.asking A.turning H.floorSize H.floorInt H.cellOf R.hasRoot R.rootOf R.rootRaised R.rootFrom R.nearestFrom B.blocksMotion B.kindOf B.liquidOf B.liquidAt G.spanOf G.onFrom D.line D.layer D.walk X.normalised Q.alike Q.liquidAsked Q.blocksLiquidFlow F.beside F.below F.above F.unit F.effectiveDepth F.differenceTo F.differenceBelow F.difference F.flowedBy F.walledBy F.sideFlow F.sideOf F.settled F.liquidFlow U.surfaceAt Y.inner Y.cellsOf Y.surfaceOf Y.wetIn Y.livingTurn Y.livingLiquid I.toBits I.ofBits I.ofInt I.round I.add I.sub I.mul I.div I.neg I.lt I.le I.eq I.ne
-small-scenes = refl
+pub small-scenes : S.SmallScenes
+unfolding C.choose N.sizeOf M.clipAll M.clipSequence M.steppedUp M.moveOver L.areBoxes E.moveOverList T.listFor S.holds S.allHold S.scenes W.inside W.indexOf W.sizesFit W.coordinateFits W.originFits W.windowFits W.windowRefusal K.lookAt B.isRegistered J.connectKind J.isFence J.isThinOrWall J.oppositeFace J.gateDecides J.gateJoins J.registeredConnects J.sideWord J.transition J.transitions J.postTransition J.straight J.raises J.raisedBy J.joins J.post J.besideNeighbours J.connectedState P.off P.on P.fence P.wall P.rows P.records Z.around Z.cellsAround Z.flat Z.upright Z.flowAmong A.asking A.turning H.floorSize H.floorInt H.cellOf R.hasRoot R.rootOf R.rootRaised R.rootFrom R.nearestFrom B.blocksMotion B.kindOf B.liquidOf B.liquidAt G.spanOf G.onFrom D.line D.layer D.walk X.normalised Q.alike Q.liquidHeld Q.blocksLiquidFlow F.stepBeside F.stepBelow F.stepAbove F.unitTo F.effectiveDepth F.differenceTo F.differenceBelow F.difference F.flowedBy F.walledBy F.sideFlow F.sideOf F.normalisedFlow F.liquidFlow U.surfaceAt Y.shrunk Y.cellsOf Y.surfaceOf Y.wetIn Y.livingTurn Y.livingLiquid I.toBits I.ofBits I.ofInt I.round I.add I.sub I.mul I.div I.neg I.lt I.le I.eq I.ne
+small-scenes = record { tables = tables-pass; hold = refl }

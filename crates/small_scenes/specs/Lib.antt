@@ -1,4 +1,5 @@
 -- The small scenes.
-pub mod Scenes
+pub mod Moves
 pub mod Palette
-pub mod Waters
+pub mod Windows
+pub mod Scenes

@@ -1,12 +1,29 @@
--- A small palette for scenes of connections: 0 air, 1 cube, 2 to 17 an oak fence, 18 to 33 a nether brick fence, 34 to 65 a wall. A fence or wall
--- state is its base plus one bit for each joined side, north 1, east 2, south 4, west 8; a wall's post is 16.
+-- The lent tables of the scenes: 0 air, 1 a cube, 2 a slab, 3 to 5 water of depth 0, 1 and 4, 6 to 21 an oak fence, 22 to 37 a nether brick fence,
+-- 38 to 69 a wall. A fence or wall state is its base plus one bit for each joined side, north 1, east 2, south 4, west 8; a wall's post is 16.
+-- Fences and walls have no box here, and so no full face. `tables-pass` of proofs/Tables.antt says that the tables pass their check.
 use mathlib.Core.List.{List, [], _∷_, _++_}
 use Prim.Native.Nat.{ℕ, zero, suc, _+_, _-_, _/_, _%_}
 use lib.Dec.{eqb}
-use lib.IntN.{pos, negsuc}
+use lib.Ieee.{Float, binary32, ofBits}
 use Rattle.base.specs.Choose.{choose}
-use Rattle.window.specs.declared.Pos.{Pos}
-use Rattle.window.specs.declared.Window.{Window}
+use Rattle.cover.specs.Cover.{zero32, one32}
+
+-- ---- records, as document 01 lays out their 20 words
+
+-- words 0 to 8: the flags, the liquid and its depth, what it connects as, its first box and box count
+abbrev pub firstWords : ℕ → ℕ → ℕ → ℕ → ℕ → ℕ → List ℕ
+firstWords flags liquid depth kind first count = flags ∷ 0 ∷ liquid ∷ depth ∷ kind ∷ 0 ∷ 0 ∷ first ∷ count ∷ []
+
+-- words 9 to 19 of a record that connects as nothing: its full faces
+abbrev pub unlinked : ℕ → List ℕ
+unlinked faces = 0 ∷ 0 ∷ 0 ∷ 0 ∷ 0 ∷ 0 ∷ 0 ∷ 0 ∷ 0 ∷ 0 ∷ faces ∷ []
+
+-- one box, that blocks motion
+abbrev pub solidRow : ℕ → ℕ → List ℕ
+solidRow first faces = firstWords 3 0 0 0 first 1 ++ unlinked faces
+
+abbrev pub waterRow : ℕ → List ℕ
+waterRow depth = firstWords 1 1 depth 0 0 0 ++ unlinked 0
 
 -- i with a bit off, and on
 unfoldable pub off : ℕ → ℕ → ℕ
@@ -15,57 +32,76 @@ off i bit = choose (eqb (i / bit % 2) 1) (i - bit) i
 unfoldable pub on : ℕ → ℕ → ℕ
 on i bit = choose (eqb (i / bit % 2) 1) i (i + bit)
 
--- a registered record without boxes: what it connects as (word 4), its transitions and posts (words 9 to 18), its full faces (word 19)
-unfoldable pub row : ℕ → List ℕ → ℕ → List ℕ
-row kind links faces = (1 ∷ 0 ∷ 0 ∷ 0 ∷ kind ∷ 0 ∷ 0 ∷ 0 ∷ 0 ∷ []) ++ (links ++ (faces ∷ []))
-
-unfoldable pub unlinked : List ℕ
-unlinked = 0 ∷ 0 ∷ 0 ∷ 0 ∷ 0 ∷ 0 ∷ 0 ∷ 0 ∷ 0 ∷ 0 ∷ []
-
--- north, east, south, west: off, on
-unfoldable pub sides : ℕ → ℕ → List ℕ
+-- words 9 to 16, north, east, south, west: off, on
+abbrev pub sides : ℕ → ℕ → List ℕ
 sides base i =
     (base + off i 1) ∷ (base + on i 1) ∷ (base + off i 2) ∷ (base + on i 2) ∷ (base + off i 4) ∷ (base + on i 4) ∷ (base + off i 8) ∷ (base + on i 8) ∷ []
 
 -- a fence's posts are its own index
 unfoldable pub fence : ℕ → ℕ → ℕ → List ℕ
-fence base kind i = row kind (sides base i ++ ((base + i) ∷ (base + i) ∷ [])) 0
+fence base kind i = firstWords 1 0 0 kind 0 0 ++ (sides base i ++ ((base + i) ∷ (base + i) ∷ 0 ∷ []))
 
 unfoldable pub wall : ℕ → ℕ → List ℕ
-wall base i = row 4 (sides base i ++ ((base + off i 16) ∷ (base + on i 16) ∷ [])) 0
+wall base i = firstWords 1 0 0 4 0 0 ++ (sides base i ++ ((base + off i 16) ∷ (base + on i 16) ∷ 0 ∷ []))
 
+-- so many rows, from row i on
 unfoldable pub rows : (ℕ → List ℕ) → ℕ → ℕ → List ℕ
 rows f zero i = []
 rows f (suc n) i = f i ++ rows f n (i + 1)
 
-unfoldable pub palette : List ℕ
-palette = row 0 unlinked 0 ++ (row 0 unlinked 15 ++ (rows (fence 2 1) 16 0 ++ (rows (fence 18 2) 16 0 ++ rows (wall 34) 32 0)))
+-- ---- the states
 
-abbrev pub cube : ℕ
-cube = 1
+abbrev pub air : ℕ
+air = 0
+
+abbrev pub fullCube : ℕ
+fullCube = 1
+
+abbrev pub slab : ℕ
+slab = 2
+
+abbrev pub water0 : ℕ
+water0 = 3
+
+abbrev pub water1 : ℕ
+water1 = 4
+
+abbrev pub water4 : ℕ
+water4 = 5
 
 abbrev pub oakFence : ℕ
-oakFence = 2
+oakFence = 6
 
 abbrev pub netherBrickFence : ℕ
-netherBrickFence = 18
+netherBrickFence = 22
 
 abbrev pub plainWall : ℕ
-plainWall = 34
+plainWall = 38
 
 abbrev pub unloaded : ℕ
 unloaded = 4294967295
 
--- three cells a side around the origin: layers from below, rows from the north, cells from the west
-unfoldable pub window : Window
-window = record { origin = record { x = negsuc 0; y = negsuc 0; z = negsuc 0 }; sizes = record { x = 3; y = 3; z = 3 } }
+-- ---- the tables
 
-unfoldable pub middle : Pos
-middle = record { x = pos 0; y = pos 0; z = pos 0 }
+unfoldable pub records : List ℕ
+records =
+    (firstWords 1 0 0 0 0 0 ++ unlinked 0)
+    ++ (solidRow 0 15
+    ++ (solidRow 1 0
+    ++ (waterRow 0
+    ++ (waterRow 1
+    ++ (waterRow 4
+    ++ (rows (fence oakFence 1) 16 0
+    ++ (rows (fence netherBrickFence 2) 16 0
+    ++ rows (wall plainWall) 32 0)))))))
 
-unfoldable pub layer : ℕ → ℕ → ℕ → ℕ → ℕ → List ℕ
-layer north east south west it = 0 ∷ north ∷ 0 ∷ west ∷ it ∷ east ∷ 0 ∷ south ∷ 0 ∷ []
+-- 0.5
+abbrev pub half32 : Float
+half32 = ofBits binary32 0x3f000000
 
--- the cells with these around the middle, and air elsewhere
-unfoldable pub around : ℕ → ℕ → ℕ → ℕ → ℕ → ℕ → List ℕ
-around north east south west above it = layer 0 0 0 0 0 ++ (layer north east south west it ++ layer 0 0 0 0 above)
+-- the cube, and the slab
+unfoldable pub shapes : List Float
+shapes =
+    zero32 ∷ zero32 ∷ zero32 ∷ one32 ∷ one32 ∷ one32
+    ∷ zero32 ∷ zero32 ∷ zero32 ∷ one32 ∷ half32 ∷ one32
+    ∷ []

@@ -1,37 +1,32 @@
--- The small scenes that document 01 marks P, as one table, and the test that a scene is as the document says.
+-- The small scenes that document 01 marks P, as one table, and the one statement that each is as the document says.
 use mathlib.Core.Bool.{Bool, true, false, Bool·beq, _&&_}
+use mathlib.Core.Path.{_≡_}
 use mathlib.Core.List.{List, [], _∷_}
 use Prim.Native.Nat.{ℕ, _+_}
 use lib.Dec.{eqb}
 use lib.ListN.{length}
-use lib.Ieee.{Float, binary64, round, neg, toBits}
+use lib.Ieee.{Float, binary64, toBits}
 use Rattle.base.specs.Ask.{Ask, refused, found}
 use Rattle.boxes.specs.declared.Vec3.{Vec3}
 use Rattle.boxes.specs.declared.Aabb.{Aabb}
-use Rattle.boxes.specs.declared.MoveAnswer.{MoveAnswer}
-use Rattle.boxes.specs.Boxes.{vec, box, offsetBy, fromFeet}
-use Rattle.boxes.specs.Entry.{moveOverList}
+use Rattle.sweeps.specs.declared.MoveAnswer.{MoveAnswer}
+use Rattle.boxes.specs.Boxes.{vec, offsetBy, fromFeet}
+use Rattle.sweeps.specs.Entry.{moveOverList}
 use Rattle.tables.specs.declared.LiquidKind.{LiquidKind}
 use Rattle.tables.specs.declared.LiquidKind.the-variants.{None, Water}
 use Rattle.tables.specs.Tables.{kindNumber}
+use Rattle.table_check.specs.Check.{tableRefusal}
+use Rattle.window.specs.declared.Window.{Window}
+use Rattle.window.specs.Window.{windowRefusal}
 use Rattle.window.specs.Look.{lookAt}
 use Rattle.connect.specs.Connect.{connectedState}
 use Rattle.liquids.specs.Living.{livingLiquid}
-use Rattle.small_scenes.specs.Palette.{palette, cube, oakFence, netherBrickFence, plainWall, unloaded, window, middle, around}
-use Rattle.small_scenes.specs.Waters.{waters, barrier, still, shallow, half, clear, column, flowAmong}
-
--- A move over a list: its boxes, the delta, the step height and whether the body was on the ground; then how far it moves, and its ground flag.
--- The mover is (0,1,0)-(1,2,1).
-pub record Moving : Type 0 where
-  pub boxes : List Aabb
-  pub delta : Vec3
-  pub step : Float
-  pub ground : Bool
-  pub moved : Vec3
-  pub after : Bool
+use Rattle.small_scenes.specs.Moves.{ratio, whole, mover, MoveScene, listFor, p1, p2, p3, p4, p5, p6}
+use Rattle.small_scenes.specs.Palette.{records, shapes, air, fullCube, water0, water1, water4, oakFence, netherBrickFence, plainWall, unloaded}
+use Rattle.small_scenes.specs.Windows.{middle, around, cellsAround, flat, upright, flowAmong}
 
 -- A fence or wall of the palette in the middle of a window: what lies north, east, south, west and above; then the state that it comes to.
-pub record Joining : Type 0 where
+pub record JoinScene : Type 0 where
   pub it : ℕ
   pub north : ℕ
   pub east : ℕ
@@ -41,31 +36,21 @@ pub record Joining : Type 0 where
   pub comes-to : ℕ
 
 -- Water of depth 0 in the middle of one layer of three cells a side, rows from the north and cells from the west: how it flows.
-pub record Flowing : Type 0 where
+pub record FlowScene : Type 0 where
   pub cells : List ℕ
   pub flows : Vec3
 
 -- A living body, 0.5 wide and 1 high, in a cell of water of depth 4 with air above, its feet this far above the cell's base: what it is in.
-pub record Wading : Type 0 where
+pub record WadeScene : Type 0 where
   pub feet : Float
   pub within : LiquidKind
 
 -- one kind for each thing that the table speaks of
 pub data Scene : Type 0 where
-  move : Moving → Scene
-  join : Joining → Scene
-  flow : Flowing → Scene
-  wade : Wading → Scene
-
--- n / d
-abbrev pub part : ℕ → ℕ → Float
-part n d = round binary64 false n d
-
-abbrev pub w : ℕ → Float
-w n = part n 1
-
-abbrev pub mover : Aabb
-mover = box (vec (w 0) (w 1) (w 0)) (vec (w 1) (w 2) (w 1))
+  move : MoveScene → Scene
+  join : JoinScene → Scene
+  flow : FlowScene → Scene
+  wade : WadeScene → Scene
 
 -- bit for bit
 abbrev pub same : Float → Float → Bool
@@ -85,80 +70,52 @@ moves r moved after =
     && (sameBox (r .result .aabb) (offsetBy mover moved)
     && Bool·beq (r .result .ground) after))
 
--- nothing asked for is refused, and the state is this one
-abbrev pub isFound : Ask ℕ → ℕ → Bool
-isFound (found s) t = eqb s t
-isFound (refused k) t = false
+-- nothing asked for is refused, and the answer passes the test
+abbrev pub isFound : {A : Type 0} → (A → Bool) → Ask A → Bool
+isFound test (found a) = test a
+isFound test (refused k) = false
 
-abbrev pub isVec : Ask Vec3 → Vec3 → Bool
-isVec (found a) v = sameVec a v
-isVec (refused k) v = false
-
-abbrev pub isKind : Ask LiquidKind → LiquidKind → Bool
-isKind (found a) kind = eqb (kindNumber a) (kindNumber kind)
-isKind (refused k) kind = false
+-- the window passes its check, and what is asked of it has the answer
+abbrev pub isFoundIn : {A : Type 0} → List ℕ → Window → (A → Bool) → Ask A → Bool
+isFoundIn cells window test ask = eqb (windowRefusal (length cells) window) 0 && isFound test ask
 
 unfoldable pub holds : Scene → Bool
-holds (move m) = moves (moveOverList record { boxes = m .boxes; count = length (m .boxes) } mover (m .delta) (m .step) (m .ground)) (m .moved) (m .after)
-holds (join j) = isFound (connectedState (lookAt (around (j .north) (j .east) (j .south) (j .west) (j .above) (j .it)) window) palette middle (j .it)) (j .comes-to)
-holds (flow f) = isVec (flowAmong (f .cells)) (f .flows)
-holds (wade b) = isKind (livingLiquid (lookAt (half ∷ clear ∷ []) column) waters (fromFeet (vec (part 1 2) (b .feet) (part 1 2)) (part 1 2) (w 1))) (b .within)
+holds (move m) = moves (moveOverList (listFor (m .boxes)) mover (m .delta) (m .step) (m .ground)) (m .moved) (m .after)
+holds (join j) =
+    let cells : List ℕ = cellsAround (j .north) (j .east) (j .south) (j .west) (j .above) (j .it) in
+    isFoundIn cells around (eqb (j .comes-to)) (connectedState (lookAt cells around) records middle (j .it))
+holds (flow f) = isFoundIn (f .cells) flat (sameVec (f .flows)) (flowAmong (f .cells))
+holds (wade b) =
+    let cells : List ℕ = water4 ∷ air ∷ [] in
+    isFoundIn cells upright (λ kind. eqb (kindNumber kind) (kindNumber (b .within)))
+    (livingLiquid (lookAt cells upright) records (fromFeet (vec (ratio 1 2) (b .feet) (ratio 1 2)) (ratio 1 2) (whole 1)))
 
 unfoldable pub allHold : List Scene → Bool
 allHold [] = true
 allHold (s ∷ ss) = holds s && allHold ss
 
--- ---- the table
-
--- P1, P2, P3: one box, delta (2,0,0)
-abbrev pub sliding : Aabb → Vec3 → Scene
-sliding b moved = move record { boxes = b ∷ []; delta = vec (w 2) (w 0) (w 0); step = w 0; ground = false; moved = moved; after = false }
-
--- P4, P5: a floor and a ledge of this height, delta (2,-0.5,0), step 0.5, grounded
-abbrev pub climbing : Float → Vec3 → Scene
-climbing top moved =
-    move record {
-      boxes = box (vec (w 0) (w 0) (w 0)) (vec (w 4) (w 1) (w 1)) ∷ box (vec (w 2) (w 1) (w 0)) (vec (w 4) top (w 1)) ∷ [];
-      delta = vec (w 2) (neg (part 1 2)) (w 0);
-      step = part 1 2;
-      ground = true;
-      moved = moved;
-      after = true;
-    }
-
--- P6: the box is stepped over, and nothing is below
-abbrev pub hopping : Bool → Scene
-hopping after =
-    move record {
-      boxes = box (vec (w 2) (part 3 4) (w 0)) (vec (w 3) (part 5 4) (w 1)) ∷ [];
-      delta = vec (part 7 2) (neg (part 1 2)) (w 0);
-      step = part 1 2;
-      ground = true;
-      moved = vec (part 7 2) (w 0) (w 0);
-      after = after;
-    }
+-- ---- the table, P1 to P10
 
 unfoldable pub scenes : List Scene
 scenes =
-    -- P1: a wall from x = 2
-    sliding (box (vec (w 2) (w 1) (w 0)) (vec (w 3) (w 2) (w 1))) (vec (w 1) (w 0) (w 0))
-    -- P2: from x = 1, to 2
-    ∷ sliding (box (vec (w 1) (w 1) (w 0)) (vec (w 2) (w 2) (w 1))) (vec (w 0) (w 0) (w 0))
-    -- P3: beside the way, at z 1..2
-    ∷ sliding (box (vec (w 2) (w 1) (w 1)) (vec (w 3) (w 2) (w 2))) (vec (w 2) (w 0) (w 0))
-    -- P4: top 1.5
-    ∷ climbing (part 3 2) (vec (w 2) (part 1 2) (w 0))
-    -- P5: top 1.5625
-    ∷ climbing (part 25 16) (vec (w 1) (w 0) (w 0))
-    -- P6: the ground flag is worked out after the step
-    ∷ hopping true
+    move p1
+    ∷ move p2
+    ∷ move p3
+    ∷ move p4
+    ∷ move p5
+    ∷ move p6
     -- P7: an oak fence joins north (1) and east (2) only
-    ∷ join record { it = oakFence; north = unloaded; east = cube; south = 0; west = netherBrickFence; above = 0; comes-to = oakFence + 1 + 2 }
+    ∷ join record { it = oakFence; north = unloaded; east = fullCube; south = air; west = netherBrickFence; above = air; comes-to = oakFence + 1 + 2 }
     -- P8: a wall joined north (1) and south (4), unloaded above: no post (16)
-    ∷ join record { it = plainWall; north = plainWall; east = 0; south = plainWall; west = 0; above = unloaded; comes-to = plainWall + 1 + 4 }
+    ∷ join record { it = plainWall; north = plainWall; east = air; south = plainWall; west = air; above = unloaded; comes-to = plainWall + 1 + 4 }
     -- P9: depth 1 to the east, the rest walled
-    ∷ flow record { cells = barrier ∷ barrier ∷ barrier ∷ barrier ∷ still ∷ shallow ∷ barrier ∷ barrier ∷ barrier ∷ []; flows = vec (w 1) (w 0) (w 0) }
+    ∷ flow record { cells = fullCube ∷ fullCube ∷ fullCube ∷ fullCube ∷ water0 ∷ water1 ∷ fullCube ∷ fullCube ∷ fullCube ∷ []; flows = vec (whole 1) (whole 0) (whole 0) }
     -- P10: feet at 0.5 wet, at 0.5625 dry
-    ∷ wade record { feet = part 1 2; within = Water }
-    ∷ wade record { feet = part 9 16; within = None }
+    ∷ wade record { feet = ratio 1 2; within = Water }
+    ∷ wade record { feet = ratio 9 16; within = None }
     ∷ []
+
+-- the statement: the tables pass their check, and every scene is as the document says
+pub record SmallScenes : Type 0 where
+  pub tables : tableRefusal records shapes ≡ 0
+  pub hold : allHold scenes ≡ true

@@ -4,16 +4,17 @@ use mathlib.Core.List.{List}
 use Prim.Native.Nat.{ℕ, _<_}
 use native.Mathlib.Omega.{arith}
 use lib.Ieee.{Float}
+use Rattle.base.specs.Choose.{choose}
 use Rattle.base.specs.Ask.{Ask, refused, found}
-use Rattle.tables.specs.declared.LiquidKind.{LiquidKind}
 use Rattle.tables.specs.declared.LiquidKind.the-variants.{None}
 use Rattle.window.specs.declared.Window.{Window}
-use Rattle.step.specs.declared.BodyNumbers.{BodyNumbers}
-use Rattle.step.specs.declared.Rules.{Rules}
-use Rattle.step.specs.declared.MotionNumbers.{MotionNumbers}
-use Rattle.step.specs.declared.Tick.{Tick}
+use Rattle.lent.specs.Lent.{lentRefusal}
+use Rattle.bodies.specs.declared.BodyNumbers.{BodyNumbers}
+use Rattle.bodies.specs.declared.Rules.{Rules}
+use Rattle.bodies.specs.declared.MotionNumbers.{MotionNumbers}
+use Rattle.ticks.specs.declared.Tick.{Tick}
 use Rattle.step.specs.declared.StepAnswer.{StepAnswer}
-use Rattle.step.specs.Answers.{stepAnswer, stepAsked, stepEntry}
+use Rattle.step.specs.Answers.{stepAnswer, checkedEntry, stepAsked, stepEntry}
 
 answer-hands-back : (given : MotionNumbers) (asked : Ask Tick) → 0 < stepAnswer given asked .refusal
     → (stepAnswer given asked .motion ≡ given) × (stepAnswer given asked .liquid ≡ None)
@@ -33,3 +34,9 @@ module _ (records : List ℕ) (shapes : List Float) (cells : List ℕ) (w : Wind
   pub hands-back : (a : StepAnswer) → Fits a → 0 < a .refusal → (a .motion ≡ given) × (a .liquid ≡ None)
   unfolding stepEntry
   hands-back a f h = rw f (answer-hands-back given (stepAsked records shapes cells w rules body given age) (rw f at h))
+
+  -- over tables and a window that pass, the step without their check is the step
+  pub checked-alike : lentRefusal records shapes cells w ≡ 0
+      → checkedEntry records shapes cells w rules body given age ≡ stepEntry records shapes cells w rules body given age
+  unfolding stepEntry checkedEntry choose
+  checked-alike h = rw h

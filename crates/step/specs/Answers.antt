@@ -1,60 +1,27 @@
--- What the program's answers say, and what a host is handed.
+-- What a host is handed.
 use mathlib.Core.Bool.{not}
 use mathlib.Core.List.{List}
 use Prim.Native.Nat.{ℕ}
+use lib.Dec.{eqb}
 use lib.Ieee.{Float}
 use Rattle.base.specs.Ask.{Ask, refused, found, _>>=_}
 use Rattle.floats.specs.declared.Answer.{Answer}
 use Rattle.floats.specs.Numbers.{zero64}
 use Rattle.boxes.specs.declared.Vec3.{Vec3}
-use Rattle.tables.specs.declared.LiquidKind.{LiquidKind}
 use Rattle.tables.specs.declared.LiquidKind.the-variants.{None}
 use Rattle.window.specs.declared.Window.{Window}
 use Rattle.window.specs.Look.{lookAt}
-use Rattle.moves.specs.Answers.{unless, sound}
-use Rattle.step.specs.declared.BodyNumbers.{BodyNumbers}
-use Rattle.step.specs.declared.Rules.{Rules}
-use Rattle.step.specs.declared.MotionNumbers.{MotionNumbers}
-use Rattle.step.specs.declared.Begun.{Begun}
-use Rattle.step.specs.declared.Begins.{Begins}
-use Rattle.step.specs.declared.Begins.the-variants as begins
-use Rattle.step.specs.declared.Support.{Support}
-use Rattle.step.specs.declared.Supports.{Supports}
-use Rattle.step.specs.declared.Supports.the-variants as supports
-use Rattle.step.specs.declared.Number.{Number}
-use Rattle.step.specs.declared.Number.the-variants as number
-use Rattle.step.specs.declared.Dragged.{Dragged}
-use Rattle.step.specs.declared.Dragged.the-variants as dragged
-use Rattle.step.specs.declared.Tick.{Tick}
-use Rattle.step.specs.declared.Stepped.{Stepped}
-use Rattle.step.specs.declared.Stepped.the-variants as stepped
+use Rattle.lent.specs.Lent.{unless, sound}
+use Rattle.bodies.specs.declared.BodyNumbers.{BodyNumbers}
+use Rattle.bodies.specs.declared.Rules.{Rules}
+use Rattle.bodies.specs.declared.MotionNumbers.{MotionNumbers}
+use Rattle.ticks.specs.declared.Tick.{Tick}
 use Rattle.step.specs.declared.StepAnswer.{StepAnswer}
 use Rattle.step.specs.declared.MotionAnswer.{MotionAnswer}
-use Rattle.step.specs.Body.{yesNumber, bodyOf, motionOf}
-use Rattle.step.specs.Limits.{rulesFit, numbersFit, isPosition, motionFits, isFiniteMotion}
-use Rattle.step.specs.Step.{livingBlockFriction, stepBodySensed}
-
-abbrev pub supportAsked : Supports → Ask Support
-supportAsked (supports.Is s) = found s
-supportAsked (supports.Refused n) = refused n
-
-abbrev pub numberAsked : Number → Ask Float
-numberAsked (number.Is x) = found x
-numberAsked (number.Refused n) = refused n
-
-abbrev pub velocityAsked : Dragged → Ask Vec3
-velocityAsked (dragged.To v) = found v
-velocityAsked (dragged.Refused n) = refused n
-
-abbrev pub tickAsked : Stepped → Ask Tick
-tickAsked (stepped.To t) = found t
-tickAsked (stepped.Refused n) = refused n
-
-abbrev pub begunAsked : Begins → Ask Begun
-begunAsked (begins.Is b) = found b
-begunAsked (begins.Refused n) = refused n
-
--- ---- what a host is handed
+use Rattle.bodies.specs.Body.{yesNumber, bodyOf, motionOf}
+use Rattle.bodies.specs.Limits.{rulesFit, isPosition, numberRefusal, isFiniteMotion}
+use Rattle.samples.specs.Samples.{livingBlockFriction}
+use Rattle.ticks.specs.Step.{stepBodySensed}
 
 -- 9 comes last: a result that is not finite
 unfoldable pub finiteTick : Tick → Ask Tick
@@ -70,12 +37,16 @@ stepAnswer given (found t) =
       refusal = 0;
     }
 
--- 3, then 4, before any cell is asked for; then 5, 6 or 7 at the first such event; then 9
+-- 3, then 4, before any cell is asked for
+abbrev pub fitting : {A : Type 0} → List ℕ → Rules → BodyNumbers → MotionNumbers → Ask A → Ask A
+fitting records rules body given ask =
+    unless (not (eqb (numberRefusal records rules body given) 0)) (numberRefusal records rules body given) ask
+
+-- then 5, 6 or 7 at the first such event; then 9
 abbrev pub checkedAsked : List ℕ → List Float → List ℕ → Window → Rules → BodyNumbers → MotionNumbers → ℕ → Ask Tick
 checkedAsked records shapes cells w rules body given age =
-    unless (not (numbersFit records rules body (given .ground))) 3
-    (unless (not (motionFits (given .feet) (given .velocity))) 4
-    (stepBodySensed (lookAt cells w) records shapes rules (bodyOf body) (motionOf given) age >>= finiteTick))
+    fitting records rules body given
+    (stepBodySensed (lookAt cells w) records shapes rules (bodyOf body) (motionOf given) age >>= finiteTick)
 
 -- step_checked: over tables and a window that were checked before
 unfoldable pub checkedEntry : List ℕ → List Float → List ℕ → Window → Rules → BodyNumbers → MotionNumbers → ℕ → StepAnswer

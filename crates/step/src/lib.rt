@@ -1,151 +1,26 @@
-// Module 8, the step: friction samples, drags, and one tick of a body. This file has the records and what the step does without asking for a
-// cell; sample.rt asks for friction, moving.rt has the step, limits.rt the limits of a call, and entry.rt what a host calls.
+// Module 8, the step as a host calls it: 1, 2, 3 and 4 in order, before any cell is asked for; then 5, 6 and 7 as they come; 9 last.
+use bodies::BodyNumbers;
+use bodies::MotionNumbers;
+use bodies::Rules;
+use bodies::body_of;
+use bodies::is_finite_motion;
+use bodies::is_position;
+use bodies::motion_of;
+use bodies::number_refusal;
+use bodies::rules_fit;
+use bodies::yes_number;
 use boxes::Vec3;
+use floats::Answer;
+use lent::check_lent;
+use samples::AskedSupport;
 use tables::LiquidKind;
+use ticks::AskedTick;
+use ticks::Tick;
+use ticks::step_through;
+use window::Window;
 ghost use mathlib.Core.Path.{_≡_};
-ghost use Rattle.step.specs.Body.{modelOf, stageOf, frictionOf, isYes, yesNumber, flapOf, bodyOf, motionOf};
-ghost use Rattle.step.specs.Step.{sampleOr, sinks, flaps, falls, damped, livingVelocity, livingInLiquid, afloat, floats, restsNow, isItem, isLiving, isFallingBlock, isBeforeMove, isDry, pulled, unlessStopped, keptAfter, verticalAfter, dragged, tick};
-
-mod entry;
-mod limits;
-mod moving;
-mod sample;
-
-pub use entry::living_block_friction;
-pub use entry::step_body;
-pub use entry::step_body_sensed;
-pub use entry::step_checked;
-pub use moving::step_through;
-
-// Motion rules that are no parameters.
-pub enum Model {
-    Item,
-    Living,
-    FallingBlock,
-    Other,
-}
-
-// When gravity comes, beside the move and the drag.
-pub enum Stage {
-    BeforeMove,
-    AfterMove,
-    AfterDrag,
-}
-
-// Extra friction on the ground: none, or that of the block below.
-pub enum Ground {
-    None,
-    Block,
-}
-
-// The wing flap drag of a living body.
-pub enum Flap {
-    None,
-    Drag(f64),
-}
-
-// A sampled friction, or nothing.
-pub enum Support {
-    Friction(f64),
-    Nothing,
-}
-
-// The same, or the number of a refusal.
-pub enum Supports {
-    Is(Support),
-    Refused(u32),
-}
-
-// A number, or the number of a refusal.
-pub enum Number {
-    Is(f64),
-    Refused(u32),
-}
-
-// A velocity, or the number of a refusal.
-pub enum Dragged {
-    To(Vec3),
-    Refused(u32),
-}
-
-// A body. `offset` is the network offset, `vertical` and `horizontal` are the drags, `step` is the step height.
-pub struct Body {
-    pub width: f64,
-    pub height: f64,
-    pub offset: f64,
-    pub gravity: f64,
-    pub vertical: f64,
-    pub horizontal: f64,
-    pub step: f64,
-    pub flap: Flap,
-    pub model: Model,
-    pub stage: Stage,
-    pub friction: Ground,
-}
-
-// A body as a host hands it in: model, stage and friction by number, `flaps` 1 where the flap is present.
-pub struct BodyNumbers {
-    pub width: f64,
-    pub height: f64,
-    pub offset: f64,
-    pub gravity: f64,
-    pub vertical: f64,
-    pub horizontal: f64,
-    pub step: f64,
-    pub flap: f64,
-    pub flaps: u32,
-    pub model: u32,
-    pub stage: u32,
-    pub friction: u32,
-}
-
-// What holds for every body: a living body's default friction and sample depth, gravity and drags in liquids, and the air state.
-pub struct Rules {
-    pub friction: f64,
-    pub depth: f64,
-    pub gravity: f64,
-    pub water: f64,
-    pub lava: f64,
-    pub air: u32,
-}
-
-pub struct Motion {
-    pub feet: Vec3,
-    pub velocity: Vec3,
-    pub ground: bool,
-}
-
-// A motion as a host hands it in: ground 1 or 0.
-pub struct MotionNumbers {
-    pub feet: Vec3,
-    pub velocity: Vec3,
-    pub ground: u32,
-}
-
-// An item before its move: its velocity with current and flotation, the liquid that floats it, and whether it rests.
-pub struct Begun {
-    pub velocity: Vec3,
-    pub flotation: LiquidKind,
-    pub rests: bool,
-}
-
-// The same, or the number of a refusal.
-pub enum Begins {
-    Is(Begun),
-    Refused(u32),
-}
-
-// What a step comes to: the motion after it, and the liquid that a living body travelled in.
-pub struct Tick {
-    pub motion: Motion,
-    pub liquid: LiquidKind,
-}
-
-// A step, or the number of a refusal.
-pub enum Stepped {
-    To(Tick),
-    Refused(u32),
-}
+ghost use Rattle.base.specs.Ask.{refused, found};
+ghost use Rattle.step.specs.Answers.{finiteTick, stepAnswer, checkedEntry, stepEntry, withoutLiquid, numberAnswer, frictionEntry};
 
 // What a host is handed: refusal 0, the motion after the step and the liquid; or a refusal, the motion as given, and none.
 pub struct StepAnswer {
@@ -159,306 +34,162 @@ pub struct MotionAnswer {
     pub refusal: u32,
 }
 
-fn model_of(number: u32) -> Model
-    ensures { λ r. ⌜ r ≡ modelOf number ⌝ }
+// A refused step: position, velocity and ground flag as given, and liquid none.
+fn refused_step(refusal: u32, given: MotionNumbers) -> StepAnswer
+    ensures { λ r. ⌜ r ≡ stepAnswer given (refused refusal) ⌝ }
 {
-    if number == 0 {
-        return Model::Item;
-    }
-    if number == 1 {
-        return Model::Living;
-    }
-    if number == 2 {
-        return Model::FallingBlock;
-    }
-    Model::Other
-}
-
-fn stage_of(number: u32) -> Stage
-    ensures { λ r. ⌜ r ≡ stageOf number ⌝ }
-{
-    if number == 0 {
-        return Stage::BeforeMove;
-    }
-    if number == 1 {
-        return Stage::AfterMove;
-    }
-    Stage::AfterDrag
-}
-
-fn friction_of(number: u32) -> Ground
-    ensures { λ r. ⌜ r ≡ frictionOf number ⌝ }
-{
-    if number == 1 {
-        return Ground::Block;
-    }
-    Ground::None
-}
-
-fn is_yes(number: u32) -> bool
-    ensures { λ r. ⌜ r ≡ isYes number ⌝ }
-{
-    number == 1
-}
-
-fn yes_number(b: bool) -> u32
-    ensures { λ r. ⌜ r ≡ yesNumber b ⌝ }
-{
-    if b { 1 } else { 0 }
-}
-
-fn flap_of(present: u32, drag: f64) -> Flap
-    ensures { λ r. ⌜ r ≡ flapOf present drag ⌝ }
-{
-    if is_yes(present) {
-        return Flap::Drag(drag);
-    }
-    Flap::None
-}
-
-// The body that a host's numbers mean.
-pub fn body_of(b: BodyNumbers) -> Body
-    ensures { λ r. ⌜ r ≡ bodyOf b ⌝ }
-{
-    let flap = flap_of(b.flaps, b.flap);
-    let model = model_of(b.model);
-    let stage = stage_of(b.stage);
-    let friction = friction_of(b.friction);
-    Body {
-        width: b.width,
-        height: b.height,
-        offset: b.offset,
-        gravity: b.gravity,
-        vertical: b.vertical,
-        horizontal: b.horizontal,
-        step: b.step,
-        flap,
-        model,
-        stage,
-        friction,
+    let feet = given.feet;
+    let velocity = given.velocity;
+    StepAnswer {
+        motion: MotionNumbers {
+            feet,
+            velocity,
+            ground: given.ground,
+        },
+        liquid: LiquidKind::None,
+        refusal,
     }
 }
 
-pub fn motion_of(m: MotionNumbers) -> Motion
-    ensures { λ r. ⌜ r ≡ motionOf m ⌝ }
+fn step_to(given: MotionNumbers, t: Tick) -> StepAnswer
+    ensures { λ r. ⌜ r ≡ stepAnswer given (found t) ⌝ }
 {
-    let feet = m.feet;
-    let velocity = m.velocity;
-    let ground = is_yes(m.ground);
-    Motion {
-        feet,
-        velocity,
-        ground,
-    }
-}
-
-// The sampled number, or the default where nothing was sampled.
-fn sample_or(default: f64, s: Support) -> f64
-    ensures { λ r. ⌜ r ≡ sampleOr default s ⌝ }
-{
-    match s {
-        Support::Friction(f) => f,
-        Support::Nothing => default,
-    }
-}
-
-// The vertical velocity of a living body in a liquid of this drag.
-fn sink(rules: Rules, body: Body, drag: f64, y: f64) -> f64
-    ensures { λ r. ⌜ r ≡ sinks rules body drag y ⌝ }
-{
-    if body.gravity > 0.0 {
-        return (y - rules.gravity) * drag;
-    }
-    (y - 0.0) * drag
-}
-
-fn flapped(flap: Flap, y: f64) -> f64
-    ensures { λ r. ⌜ r ≡ flaps flap y ⌝ }
-{
-    match flap {
-        Flap::None => y,
-        Flap::Drag(drag) => if y < 0.0 { y * (1.0 - drag) } else { y },
-    }
-}
-
-fn fall(body: Body, y: f64) -> f64
-    ensures { λ r. ⌜ r ≡ falls body y ⌝ }
-{
-    (y - body.gravity) * body.vertical
-}
-
-// A horizontal component under its drag; one of size 1e-7 or less becomes +0.
-fn damp(horizontal: f64, axis: f64) -> f64
-    ensures { λ r. ⌜ r ≡ damped horizontal axis ⌝ }
-{
-    let v = axis * horizontal;
-    if floats::magnitude(v) <= 1.0e-7 {
-        0.0
-    } else {
-        v
-    }
-}
-
-fn living_velocity(horizontal: f64, y: f64, v: Vec3) -> Vec3
-    ensures { λ r. ⌜ r ≡ livingVelocity horizontal y v ⌝ }
-{
-    let x = damp(horizontal, v.x);
-    let z = damp(horizontal, v.z);
-    Vec3 { x, y, z }
-}
-
-fn living_in_liquid(rules: Rules, body: Body, drag: f64, v: Vec3) -> Vec3
-    ensures { λ r. ⌜ r ≡ livingInLiquid rules body drag v ⌝ }
-{
-    let y = sink(rules, body, drag, v.y);
-    living_velocity(drag, y, v)
-}
-
-fn afloat_in(viscosity: f64, v: Vec3) -> Vec3
-    ensures { λ r. ⌜ r ≡ afloat viscosity v ⌝ }
-{
-    Vec3 {
-        x: v.x * viscosity,
-        y: (v.y + 0.0005) * 0.99 + 0.0006,
-        z: v.z * viscosity,
-    }
-}
-
-// What flotation does to an item's velocity.
-fn floated(flotation: LiquidKind, v: Vec3) -> Vec3
-    ensures { λ r. ⌜ r ≡ floats flotation v ⌝ }
-{
-    match flotation {
-        LiquidKind::None => v,
-        LiquidKind::Water => afloat_in(0.99, v),
-        LiquidKind::Lava => afloat_in(0.95, v),
-    }
-}
-
-// Whether an item rests: on the ground, slow, not in water, and not in every fourth tick.
-fn rests_now(ground: bool, v: Vec3, water: bool, age: u64) -> bool
-    ensures { λ r. ⌜ r ≡ restsNow ground v water age ⌝ }
-{
-    ground & (liquids::squares(v) <= 0.0001) & !water & (age % 4 != 0)
-}
-
-fn is_item(model: Model) -> bool
-    ensures { λ r. ⌜ r ≡ isItem model ⌝ }
-{
-    match model {
-        Model::Item => true,
-        Model::Living => false,
-        Model::FallingBlock => false,
-        Model::Other => false,
-    }
-}
-
-fn is_living(model: Model) -> bool
-    ensures { λ r. ⌜ r ≡ isLiving model ⌝ }
-{
-    match model {
-        Model::Item => false,
-        Model::Living => true,
-        Model::FallingBlock => false,
-        Model::Other => false,
-    }
-}
-
-fn is_falling_block(model: Model) -> bool
-    ensures { λ r. ⌜ r ≡ isFallingBlock model ⌝ }
-{
-    match model {
-        Model::Item => false,
-        Model::Living => false,
-        Model::FallingBlock => true,
-        Model::Other => false,
-    }
-}
-
-fn is_before_move(stage: Stage) -> bool
-    ensures { λ r. ⌜ r ≡ isBeforeMove stage ⌝ }
-{
-    match stage {
-        Stage::BeforeMove => true,
-        Stage::AfterMove => false,
-        Stage::AfterDrag => false,
-    }
-}
-
-fn is_dry(kind: LiquidKind) -> bool
-    ensures { λ r. ⌜ r ≡ isDry kind ⌝ }
-{
-    match kind {
-        LiquidKind::None => true,
-        LiquidKind::Water => false,
-        LiquidKind::Lava => false,
-    }
-}
-
-// Gravity before the move.
-fn pull(body: Body, flotation: LiquidKind, v: Vec3) -> Vec3
-    ensures { λ r. ⌜ r ≡ pulled body flotation v ⌝ }
-{
-    let stage = body.stage;
-    if is_before_move(stage) & is_dry(flotation) {
-        return Vec3 {
-            x: v.x,
-            y: v.y - body.gravity,
-            z: v.z,
-        };
-    }
-    v
-}
-
-// The velocity of an axis after its way: +0 where it was blocked.
-fn unless_stopped(moved: f64, v: f64) -> f64
-    ensures { λ r. ⌜ r ≡ unlessStopped moved v ⌝ }
-{
-    if moved != v { 0.0 } else { v }
-}
-
-fn kept_after(moved: Vec3, v: Vec3) -> Vec3
-    ensures { λ r. ⌜ r ≡ keptAfter moved v ⌝ }
-{
-    let x = unless_stopped(moved.x, v.x);
-    let y = unless_stopped(moved.y, v.y);
-    let z = unless_stopped(moved.z, v.z);
-    Vec3 { x, y, z }
-}
-
-fn vertical_after(stage: Stage, body: Body, y: f64) -> f64
-    ensures { λ r. ⌜ r ≡ verticalAfter stage body y ⌝ }
-{
-    let gravity = body.gravity;
-    let drag = body.vertical;
-    match stage {
-        Stage::BeforeMove => y * drag,
-        Stage::AfterMove => (y - gravity) * drag,
-        Stage::AfterDrag => y * drag - gravity,
-    }
-}
-
-fn drag(body: Body, horizontal: f64, v: Vec3) -> Vec3
-    ensures { λ r. ⌜ r ≡ dragged body horizontal v ⌝ }
-{
-    let stage = body.stage;
-    let y = vertical_after(stage, body, v.y);
-    Vec3 {
-        x: v.x * horizontal,
-        y,
-        z: v.z * horizontal,
-    }
-}
-
-fn tick_of(feet: Vec3, velocity: Vec3, ground: bool, liquid: LiquidKind) -> Tick
-    ensures { λ r. ⌜ r ≡ tick feet velocity ground liquid ⌝ }
-{
-    Tick {
-        motion: Motion {
+    let feet = t.motion.feet;
+    let velocity = t.motion.velocity;
+    let liquid = t.liquid;
+    let ground = yes_number(t.motion.ground);
+    StepAnswer {
+        motion: MotionNumbers {
             feet,
             velocity,
             ground,
         },
         liquid,
+        refusal: 0,
     }
+}
+
+// 9 where the step is not finite.
+fn finite_step(given: MotionNumbers, t: Tick) -> StepAnswer
+    ensures { λ r. ⌜ r ≡ stepAnswer given (finiteTick t) ⌝ }
+{
+    let m = t.motion;
+    if is_finite_motion(m) {
+        return step_to(given, t);
+    }
+    refused_step(9, given)
+}
+
+// For hosts that checked tables and window before, once for many bodies: 3 and 4, then 5, 6 and 7 as they come; 9 last.
+pub fn step_checked(
+    records: &[u32],
+    shapes: &[f32],
+    cells: &[u32],
+    w: Window,
+    rules: Rules,
+    body: BodyNumbers,
+    given: MotionNumbers,
+    age: u64,
+) -> StepAnswer
+    ensures { λ r. ⌜ r ≡ checkedEntry (now (records .entry)) (now (shapes .entry)) (now (cells .entry)) w rules body given age ⌝ }
+{
+    let refusal = number_refusal(records, rules, body, given);
+    if refusal != 0 {
+        return refused_step(refusal, given);
+    }
+    let told = step_through(
+        records,
+        shapes,
+        cells,
+        w,
+        rules,
+        body_of(body),
+        motion_of(given),
+        age,
+    );
+    match told {
+        AskedTick::Refused(n) => refused_step(n, given),
+        AskedTick::To(t) => finite_step(given, t),
+    }
+}
+
+// For hosts: one tick of a body, and the liquid that a living body travelled in.
+pub fn step_body_sensed(
+    records: &[u32],
+    shapes: &[f32],
+    cells: &[u32],
+    w: Window,
+    rules: Rules,
+    body: BodyNumbers,
+    given: MotionNumbers,
+    age: u64,
+) -> StepAnswer
+    ensures { λ r. ⌜ r ≡ stepEntry (now (records .entry)) (now (shapes .entry)) (now (cells .entry)) w rules body given age ⌝ }
+{
+    let refusal = check_lent(records, shapes, cells, w);
+    if refusal != 0 {
+        return refused_step(refusal, given);
+    }
+    step_checked(records, shapes, cells, w, rules, body, given, age)
+}
+
+// For hosts: one tick of a body.
+pub fn step_body(
+    records: &[u32],
+    shapes: &[f32],
+    cells: &[u32],
+    w: Window,
+    rules: Rules,
+    body: BodyNumbers,
+    given: MotionNumbers,
+    age: u64,
+) -> MotionAnswer
+    ensures { λ r. ⌜ r ≡ withoutLiquid (stepEntry (now (records .entry)) (now (shapes .entry)) (now (cells .entry)) w rules body given age) ⌝ }
+{
+    let a = step_body_sensed(records, shapes, cells, w, rules, body, given, age);
+    let motion = a.motion;
+    MotionAnswer {
+        motion,
+        refusal: a.refusal,
+    }
+}
+
+fn refused_number(refusal: u32) -> Answer
+    ensures { λ r. ⌜ r ≡ numberAnswer (refused refusal) ⌝ }
+{
+    Answer {
+        refusal,
+        value: 0.0,
+    }
+}
+
+// For hosts: the friction under a living body.
+pub fn living_block_friction(
+    records: &[u32],
+    shapes: &[f32],
+    cells: &[u32],
+    w: Window,
+    rules: Rules,
+    feet: Vec3,
+) -> Answer
+    ensures { λ r. ⌜ r ≡ frictionEntry (now (records .entry)) (now (shapes .entry)) (now (cells .entry)) w rules feet ⌝ }
+{
+    let refusal = check_lent(records, shapes, cells, w);
+    if refusal != 0 {
+        return refused_number(refusal);
+    }
+    if rules_fit(records, rules) {
+        if is_position(feet) {
+            let told = samples::living_sample(records, cells, w, rules, feet);
+            return match told {
+                AskedSupport::Refused(n) => refused_number(n),
+                AskedSupport::Is(s) => Answer {
+                    refusal: 0,
+                    value: drags::sample_or(rules.friction, s),
+                },
+            };
+        }
+        return refused_number(4);
+    }
+    refused_number(3)
 }

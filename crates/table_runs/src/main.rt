@@ -31,7 +31,7 @@ fn say(what: &[u8], answer: u32) {
 }
 
 fn check(records: &[u32; 180], shapes: &[f32; 30]) -> u32 {
-    tables::check_tables(records, shapes)
+    table_check::check_tables(records, shapes)
 }
 
 // The table with one word of a state changed.
@@ -59,7 +59,7 @@ fn number(i: usize, value: f32) -> u32 {
 fn first(records: &[u32], shapes: &[f32], words: usize, numbers: usize) -> u32 {
     if words <= records.len() {
         if numbers <= shapes.len() {
-            return tables::check_tables(&records[0..words], &shapes[0..numbers]);
+            return table_check::check_tables(&records[0..words], &shapes[0..numbers]);
         }
     }
     9

@@ -1,6 +1,5 @@
 -- Laws of this crate's definitions, on plain values.
 pub mod Lists
 pub mod Bits
-pub mod Limits
 pub mod Liquids
 pub mod Casts

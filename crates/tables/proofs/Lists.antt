@@ -5,13 +5,13 @@ use Prim.Native.Nat.{ℕ, zero, suc, _+_, _-_, _*_, _/_, _<_, _≤_}
 use native.Mathlib.Nat.{le-of-suc-le-suc, not-suc-le-zero}
 use native.Mathlib.Omega.{arith}
 use mathlib.Core.Bool.{Bool, true, false}
-use lib.Dec.{leb}
-use lib.ListN.{length, getD, take, drop}
+use lib.Dec.{ltb, leb}
+use lib.ListN.{length, getD, take, drop, List·getD-eq-default}
 use lib.Ieee.{Float}
 use borrow.Author.Tests.{le-leb, lt-leb}
 use Rattle.base.specs.Choose.{choose}
 use Rattle.floats.specs.Numbers.{zero64}
-use Rattle.tables.specs.Tables.{headOf, headAt, boxesAt, boxOf, boxAt}
+use Rattle.tables.specs.Tables.{wordAt, headOf, headAt, boxesAt, shapeBoxOf, boxAt}
 
 -- within the list the default is not looked at
 pub getD-any : {A : Type 0} (l : List A) (i : ℕ) (d e : A) → i < length l → getD l i d ≡ getD l i e
@@ -46,8 +46,18 @@ no-part l a b e = rw e (go (leb (a + 0) (length l / 6)))
     go true = refl
     go false = refl
 
+-- ---- no word where the records end before it
+pub no-word : (records : List ℕ) (state k : ℕ) → length records ≤ state * 20 + k → wordAt records state k ≡ 0
+unfolding choose
+no-word records state k h = go (ltb k 20)
+  where
+    go : (t : Bool) → choose t (getD records (state * 20 + k) 0) 0 ≡ 0
+    go true = List·getD-eq-default records 0 h
+    go false = refl
+
 -- ---- a record whose word 8 is there, and so those before it
 pub whole-head : (l : List ℕ) (i s d : ℕ) → i ≡ s → i * 20 + 8 < length l → headOf (getD l (i * 20) d) (getD l (i * 20 + 4) d) (getD l (i * 20 + 7) d) (getD l (i * 20 + 8) d) ≡ headAt l s
+unfolding choose
 whole-head l i s d e h =
     let z : i * 20 + 0 ≡ i * 20 = omega arith in
     let w0 = getD-any l (i * 20) d 0 (omega arith) in
@@ -58,7 +68,7 @@ whole-head l i s d e h =
 
 -- ---- a box whose last number is there, and so all of them
 pub whole-box : (l : List Float) (i k : ℕ) (d : Float) → i ≡ k → i * 6 + 5 < length l
-    → boxOf (getD l (i * 6) d) (getD l (i * 6 + 1) d) (getD l (i * 6 + 2) d) (getD l (i * 6 + 3) d) (getD l (i * 6 + 4) d) (getD l (i * 6 + 5) d) ≡ boxAt l k
+    → shapeBoxOf (getD l (i * 6) d) (getD l (i * 6 + 1) d) (getD l (i * 6 + 2) d) (getD l (i * 6 + 3) d) (getD l (i * 6 + 4) d) (getD l (i * 6 + 5) d) ≡ boxAt l k
 whole-box l i k d e h =
     let n0 = getD-any l (i * 6) d zero64 (omega arith) in
     let n1 = getD-any l (i * 6 + 1) d zero64 (omega arith) in

@@ -1,3 +1,2 @@
--- The definitions of the lent tables: their look-ups and their check.
+-- The definitions of the lent tables: their look-ups.
 pub mod Tables
-pub mod Check

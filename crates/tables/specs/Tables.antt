@@ -3,7 +3,7 @@ use mathlib.Core.Bool.{Bool}
 use mathlib.Core.List.{List, []}
 use Prim.Native.Nat.{ℕ, _+_, _*_, _/_, _%_}
 use lib.ListN.{getD, take, drop}
-use lib.Dec.{leb, eqb}
+use lib.Dec.{ltb, leb, eqb}
 use lib.Ieee.{Float, binary32, ofBits}
 use Rattle.base.specs.Choose.{choose}
 use Rattle.floats.specs.Numbers.{zero64}
@@ -16,9 +16,9 @@ use Rattle.tables.specs.declared.ShapeBox.{ShapeBox}
 
 -- ---- records
 
--- word k of a state's record
+-- word k of a state's record; a record has words 0 to 19, and no other
 abbrev pub wordAt : List ℕ → ℕ → ℕ → ℕ
-wordAt records state k = getD records (state * 20 + k) 0
+wordAt records state k = choose (ltb k 20) (getD records (state * 20 + k) 0) 0
 
 -- word 0: bit 0 registered, bit 1 blocks motion
 unfoldable pub isRegistered : List ℕ → ℕ → Bool
@@ -69,8 +69,8 @@ stateBoxes records shapes state = boxesAt shapes (wordAt records state 7) (wordA
 abbrev pub floatAt : List Float → ℕ → Float
 floatAt shape i = getD shape i zero64
 
-abbrev pub boxOf : Float → Float → Float → Float → Float → Float → ShapeBox
-boxOf x0 y0 z0 x1 y1 z1 = record { x0 = x0; y0 = y0; z0 = z0; x1 = x1; y1 = y1; z1 = z1 }
+abbrev pub shapeBoxOf : Float → Float → Float → Float → Float → Float → ShapeBox
+shapeBoxOf x0 y0 z0 x1 y1 z1 = record { x0 = x0; y0 = y0; z0 = z0; x1 = x1; y1 = y1; z1 = z1 }
 
 -- box k of a shape
 abbrev pub boxAt : List Float → ℕ → ShapeBox

@@ -1,11 +1,8 @@
-// The lent tables: records of 20 words, boxes of six numbers, and their check.
+// The lent tables: records of 20 words, boxes of six numbers, and look-ups into both.
 ghost use mathlib.Core.Path.{_≡_};
 ghost use lib.ListN.{getD};
 ghost use lib.Ieee.{ofBits, binary32};
-ghost use Rattle.tables.specs.Tables.{wordAt, isRegistered, headOf, headAt, blocksMotion, frictionAt, kindOf, liquidOf, liquidAt, boxesAt, stateBoxes, floatAt, boxOf, boxAt};
-ghost use Rattle.tables.specs.Check.{tableRefusal};
-
-mod check;
+ghost use Rattle.tables.specs.Tables.{wordAt, isRegistered, headOf, headAt, blocksMotion, frictionAt, kindOf, liquidOf, liquidAt, boxesAt, stateBoxes, floatAt, shapeBoxOf, boxAt};
 
 // A kind of liquid, in the order of word 2's numbers.
 pub enum LiquidKind {
@@ -51,11 +48,14 @@ fn word_at(records: &[u32], i: usize) -> u32
     if i < records.len() { records[i] } else { 0 }
 }
 
-// Word k of a state's record: 0 where there is none.
+// Word k of a state's record: 0 where there is none, and from k = 20 on, where the next record begins.
 pub fn word(records: &[u32], state: u32, k: u32) -> u32
     ensures { λ r. ⌜ r ≡ wordAt (now (records .entry)) state k ⌝ }
 {
-    word_at(records, wide(state) * 20 + wide(k))
+    if k < 20 {
+        return word_at(records, wide(state) * 20 + wide(k));
+    }
+    0
 }
 
 pub fn is_registered(records: &[u32], state: u32) -> bool
@@ -191,7 +191,7 @@ pub fn float_at(shape: &[f32], i: usize) -> f64
 
 // A box of these numbers. Where each min is at or below its max no number is a NaN, and a plain cast serves.
 fn box_of(x0: f32, y0: f32, z0: f32, x1: f32, y1: f32, z1: f32) -> ShapeBox
-    ensures { λ r. ⌜ r ≡ boxOf x0 y0 z0 x1 y1 z1 ⌝ }
+    ensures { λ r. ⌜ r ≡ shapeBoxOf x0 y0 z0 x1 y1 z1 ⌝ }
 {
     if x0 <= x1 {
         if y0 <= y1 {
@@ -254,15 +254,4 @@ pub fn box_at(shape: &[f32], k: u32) -> ShapeBox
         );
     }
     cut_box(shape, k)
-}
-
-// The table check: 0 where every rule and limit of the lent tables holds, and 1 where one breaks.
-pub fn check_tables(records: &[u32], shapes: &[f32]) -> u32
-    ensures { λ r. ⌜ r ≡ tableRefusal (now (records .entry)) (now (shapes .entry)) ⌝ }
-{
-    if check::tables_fit(records, shapes) {
-        0
-    } else {
-        1
-    }
 }

@@ -1,2 +1,2 @@
--- The definition of what is timed alone.
-pub mod Tops
+-- what bench/ times
+pub mod Ways

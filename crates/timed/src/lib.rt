@@ -1,17 +1,31 @@
-// What bench/ times alone: a collection, of which one number is handed back.
+// What bench/ times of collection: the move through a window as a step makes it, of which one number is handed back.
 use boxes::Aabb;
 use boxes::Vec3;
-use window::Pos;
-use window::Sizes;
-use window::Window;
+use moves::AskedMove;
 ghost use mathlib.Core.Path.{_≡_};
+ghost use mathlib.Core.Bool.{not};
+ghost use lib.Dec.{eqb};
+ghost use Rattle.boxes.specs.Boxes.{vec};
 ghost use Rattle.window.specs.Look.{lookAt};
-ghost use Rattle.moves.specs.Collect.{collectBlockBoxes};
-ghost use Rattle.timed.specs.Tops.{windowOf, areaOf, topOf};
+ghost use Rattle.window.specs.Numbers.{windowOf};
+ghost use Rattle.moves.specs.Answers.{moveAabb};
+ghost use Rattle.timed.specs.Ways.{boxBetween, alongOf, wayOf};
 
-// The top of box k of a collection, with tables and window that were checked before: 0.0 where there is none, or where it is refused.
+fn along(v: Vec3, k: u32) -> f64
+    ensures { λ r. ⌜ r ≡ alongOf k v ⌝ }
+{
+    if k == 0 {
+        return v.x;
+    }
+    if k == 1 {
+        return v.y;
+    }
+    v.z
+}
+
+// The way that a box goes along axis k (x, y, z), over tables and a window that were checked before: 0.0 where the move is refused.
 #[no_mangle]
-pub extern "C" fn boltjuniper_collected_top(
+pub extern "C" fn boltjuniper_way(
     records: &[u32],
     shapes: &[f32],
     cells: &[u32],
@@ -27,27 +41,27 @@ pub extern "C" fn boltjuniper_collected_top(
     x1: f64,
     y1: f64,
     z1: f64,
+    dx: f64,
+    dy: f64,
+    dz: f64,
+    step: f64,
+    ground: u32,
     k: u32,
 ) -> f64
-    ensures { λ r. ⌜ r ≡ topOf k (collectBlockBoxes (lookAt (now (cells .entry)) (windowOf ox oy oz sx sy sz)) (now (records .entry)) (now (shapes .entry)) (areaOf x0 y0 z0 x1 y1 z1)) ⌝ }
+    ensures { λ r. ⌜ r ≡ wayOf k (moveAabb (lookAt (now (cells .entry)) (windowOf ox oy oz sx sy sz)) (now (records .entry)) (now (shapes .entry)) (boxBetween x0 y0 z0 x1 y1 z1) (vec dx dy dz) step (not (eqb ground 0))) ⌝ }
 {
-    let w = Window {
-        origin: Pos { x: ox, y: oy, z: oz },
-        sizes: Sizes { x: sx, y: sy, z: sz },
-    };
+    let w = window::window_of(ox, oy, oz, sx, sy, sz);
     let a = Aabb {
         min: Vec3 { x: x0, y: y0, z: z0 },
         max: Vec3 { x: x1, y: y1, z: z1 },
     };
-    let got = moves::collect(records, shapes, cells, w, a);
-    let list = got.list;
-    let i = k as usize;
-    if i < 128 {
-        if i < list.count {
-            let b = list.boxes[i];
-            return b.max.y;
+    let d = Vec3 { x: dx, y: dy, z: dz };
+    let told = moves::move_through(records, shapes, cells, w, a, d, step, ground != 0);
+    match told {
+        AskedMove::Refused(_) => 0.0,
+        AskedMove::To(m) => {
+            let way = m.moved;
+            along(way, k)
         }
-        return 0.0;
     }
-    0.0
 }

@@ -5,13 +5,13 @@ ghost use lib.ListN.{length};
 ghost use Rattle.window.specs.Window.{windowRefusal};
 ghost use Rattle.window.specs.Look.{lookAt, asked};
 ghost use Rattle.moves.specs.Answers.{moveEntry};
-ghost use Rattle.step.specs.Answers.{stepEntry};
+ghost use Rattle.step.specs.Answers.{checkedEntry, stepEntry};
 use boxes::Aabb;
-use boxes::MoveAnswer;
+use sweeps::MoveAnswer;
 use boxes::Vec3;
-use step::BodyNumbers;
-use step::MotionNumbers;
-use step::Rules;
+use bodies::BodyNumbers;
+use bodies::MotionNumbers;
+use bodies::Rules;
 use step::StepAnswer;
 use window::Cell;
 use window::Pos;
@@ -82,18 +82,43 @@ pub fn step_view<'r, 's, 'a>(
     step::step_body_sensed(records, shapes, v.cells, v.window, rules, body, given, age)
 }
 
-// The same for a caller that has cells and numbers apart: its parameters are plain, so whoever calls it needs no proof by hand.
-pub fn step_window(
-    records: &[u32],
-    shapes: &[f32],
-    cells: &[u32],
-    w: Window,
+// The same over tables and a window that were checked before, as `step::step_checked`: it looks for neither 1 nor 2.
+pub fn checked_view<'r, 's, 'a>(
+    records: &'r [u32],
+    shapes: &'s [f32],
+    v: View<'a>,
     rules: Rules,
     body: BodyNumbers,
     given: MotionNumbers,
     age: u64,
 ) -> StepAnswer
+    ensures { λ r. ⌜ r ≡ checkedEntry (now (records .entry)) (now (shapes .entry)) (now (v .entry .cells)) (v .entry .window) rules body given age ⌝ }
+{
+    step::step_checked(records, shapes, v.cells, v.window, rules, body, given, age)
+}
+
+// The three for a caller that has cells and numbers apart: their parameters are plain, so whoever calls them needs no proof by hand.
+
+pub fn move_window(
+    records: &[u32], shapes: &[f32], cells: &[u32], w: Window, aabb: Aabb, delta: Vec3, step: f64, ground: bool,
+) -> MoveAnswer
+    ensures { λ r. ⌜ r ≡ moveEntry (now (records .entry)) (now (shapes .entry)) (now (cells .entry)) w aabb delta step ground ⌝ }
+{
+    move_view(records, shapes, view_of(cells, w), aabb, delta, step, ground)
+}
+
+pub fn step_window(
+    records: &[u32], shapes: &[f32], cells: &[u32], w: Window, rules: Rules, body: BodyNumbers, given: MotionNumbers, age: u64,
+) -> StepAnswer
     ensures { λ r. ⌜ r ≡ stepEntry (now (records .entry)) (now (shapes .entry)) (now (cells .entry)) w rules body given age ⌝ }
 {
     step_view(records, shapes, view_of(cells, w), rules, body, given, age)
+}
+
+pub fn checked_window(
+    records: &[u32], shapes: &[f32], cells: &[u32], w: Window, rules: Rules, body: BodyNumbers, given: MotionNumbers, age: u64,
+) -> StepAnswer
+    ensures { λ r. ⌜ r ≡ checkedEntry (now (records .entry)) (now (shapes .entry)) (now (cells .entry)) w rules body given age ⌝ }
+{
+    checked_view(records, shapes, view_of(cells, w), rules, body, given, age)
 }

@@ -18,8 +18,8 @@ use Rattle.base.specs.Ask.{refused, found}
 use Rattle.window.specs.declared.Pos.{Pos}
 use Rattle.window.specs.declared.Sizes.{Sizes}
 use Rattle.window.specs.declared.Window.{Window}
-use Rattle.window.specs.Window.{within, inside, placeOf, indexOf, sizesFit, originFits, windowFits, windowRefusal}
-use Rattle.window.specs.Look.{Block, blockOf, lookAt}
+use Rattle.window.specs.Window.{within, inside, indexAt, indexOf, sizesFit, originFits, windowFits, windowRefusal}
+use Rattle.window.specs.Look.{Block, blockFor, lookAt}
 use Rattle.window.proofs.Offsets.{within-by}
 
 -- on one axis: the difference to the origin is not below zero and below the size, and tells the coordinate
@@ -47,9 +47,9 @@ same-coordinate o n c d t u e =
 
 -- ---- places
 -- a place is a number of three digits
-pub place-below : (s : Sizes) (x y z : ℕ) → x < s .x → y < s .y → z < s .z → placeOf s x y z < s .x * s .y * s .z
+pub place-below : (s : Sizes) (x y z : ℕ) → x < s .x → y < s .y → z < s .z → indexAt s x y z < s .x * s .y * s .z
 place-below s x y z hx hy hz =
-    subst (λ (n : ℕ). placeOf s x y z < n) (mul-comm (s .y * s .z) (s .x) ∙ sym (mul-assoc (s .x) (s .y) (s .z))) (digits-lt (digits-lt hy hz) hx)
+    subst (λ (n : ℕ). indexAt s x y z < n) (mul-comm (s .y * s .z) (s .x) ∙ sym (mul-assoc (s .x) (s .y) (s .z))) (digits-lt (digits-lt hy hz) hx)
 
 module _ (q r m a b : ℕ) (ha : a < m) (hb : b < m) (e : q * m + a ≡ r * m + b) where
   last-digit : a ≡ b
@@ -58,7 +58,7 @@ module _ (q r m a b : ℕ) (ha : a < m) (hb : b < m) (e : q * m + a ≡ r * m + 
   other-digits : q ≡ r
   other-digits = sym (digits-div q ha) ∙ ap (λ (n : ℕ). n / m) e ∙ digits-div r hb
 
-same-place : (s : Sizes) (x y z u v w : ℕ) → x < s .x → z < s .z → u < s .x → w < s .z → placeOf s x y z ≡ placeOf s u v w
+same-place : (s : Sizes) (x y z u v w : ℕ) → x < s .x → z < s .z → u < s .x → w < s .z → indexAt s x y z ≡ indexAt s u v w
     → (x ≡ u) × (y ≡ v) × (z ≡ w)
 same-place s x y z u v w hx hz hu hw e =
     let r : y * s .z + z ≡ v * s .z + w = other-digits _ _ (s .x) x u hx hu e in
@@ -126,7 +126,7 @@ index-lent cells w p f i =
 
 -- so no inside cell is refused: what stands at its place is found
 pub inside-found : (cells : List ℕ) (w : Window) (p : Pos) → windowFits (length cells) w ≡ true → inside w p ≡ true
-    → lookAt cells w p ≡ found (blockOf (getD cells (indexOf w p) 0))
+    → lookAt cells w p ≡ found (blockFor (getD cells (indexOf w p) 0))
 unfolding lookAt choose
 inside-found cells w p f i = rw (i, lt-ltb (indexOf w p) (length cells) (index-lent cells w p f i))
 
@@ -135,7 +135,7 @@ pub found-inside : (cells : List ℕ) (w : Window) (p : Pos) (b : Block) → loo
 unfolding lookAt choose
 found-inside cells w p b e = go (inside w p) e
   where
-    go : (t : Bool) → choose (t && ltb (indexOf w p) (length cells)) (found (blockOf (getD cells (indexOf w p) 0))) (refused 5) ≡ found b → t ≡ true
+    go : (t : Bool) → choose (t && ltb (indexOf w p) (length cells)) (found (blockFor (getD cells (indexOf w p) 0))) (refused 5) ≡ found b → t ≡ true
     go true e = refl
     go false e = let z : _≡_ {A = ℕ} 0 1 = cc in absurd (omega arith)
 

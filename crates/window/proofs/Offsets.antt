@@ -16,7 +16,7 @@ use Rattle.window.specs.declared.Sizes.{Sizes}
 use Rattle.window.specs.declared.Window.{Window}
 use Rattle.window.specs.declared.Cell.the-variants.{Outside, Unloaded, State}
 use Rattle.window.specs.Window.{within, inside, indexOf}
-use Rattle.window.specs.Look.{none, some, blockOf, lookAt, asked}
+use Rattle.window.specs.Look.{none, some, blockFor, lookAt, asked}
 use Rattle.window.specs.Offsets.{offsetOf, cellAt, cellIn}
 use Rattle.window.proofs.Order.{lt-moved, le-moved}
 
@@ -49,7 +49,7 @@ offset-is o n c t = go (c -ℤ o) (subst T (within-by o n c) t)
     go (negsuc k) t = absurd t
 
 -- what stands at a place
-asked-at : (cells : List ℕ) (i : ℕ) → asked (cellAt cells i) ≡ choose (ltb i (length cells)) (found (blockOf (getD cells i 0))) (refused 5)
+asked-at : (cells : List ℕ) (i : ℕ) → asked (cellAt cells i) ≡ choose (ltb i (length cells)) (found (blockFor (getD cells i 0))) (refused 5)
 unfolding choose cellAt
 asked-at cells i = go (ltb i (length cells)) (eqb (getD cells i 0) 4294967295) (getD cells i 0)
   where
@@ -61,7 +61,7 @@ asked-at cells i = go (ltb i (length cells)) (eqb (getD cells i 0) 4294967295) (
 -- the look-up, where a, b and c say whether a cell is within on each axis
 asked-in : (cells : List ℕ) (a b c : Bool) (i j : ℕ) → (T a → T b → T c → i ≡ j)
     → asked (choose a (choose b (choose c (cellAt cells i) Outside) Outside) Outside)
-    ≡ choose (a && b && c && ltb j (length cells)) (found (blockOf (getD cells j 0))) (refused 5)
+    ≡ choose (a && b && c && ltb j (length cells)) (found (blockFor (getD cells j 0))) (refused 5)
 unfolding choose
 asked-in cells true true true i j e = ap (λ (k : ℕ). asked (cellAt cells k)) (e tt tt tt) ∙ asked-at cells j
 asked-in cells true true false i j e = refl

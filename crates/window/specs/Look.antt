@@ -8,7 +8,7 @@ use lib.ListN.{length, getD}
 use Rattle.base.specs.Choose.{choose}
 use Rattle.base.specs.Ask.{Ask, refused, found}
 use Rattle.window.specs.declared.Pos.{Pos}
-use Rattle.window.specs.declared.Step.{Step}
+use Rattle.window.specs.declared.CellStep.{CellStep}
 use Rattle.window.specs.declared.Window.{Window}
 use Rattle.window.specs.declared.Cell.{Cell}
 use Rattle.window.specs.declared.Cell.the-variants.{Outside, Unloaded, State}
@@ -20,13 +20,13 @@ pub data Block : Type 0 where
   some : ℕ → Block
 
 -- 4294967295 marks a cell that is not loaded
-abbrev pub blockOf : ℕ → Block
-blockOf v = choose (eqb v 4294967295) none (some v)
+abbrev pub blockFor : ℕ → Block
+blockFor v = choose (eqb v 4294967295) none (some v)
 
 -- a cell outside the window is refused with 5; so is one for which the host lent no cell, which no window that passes its check has
 unfoldable pub lookAt : List ℕ → Window → Pos → Ask Block
 lookAt cells w p =
-    choose (inside w p && ltb (indexOf w p) (length cells)) (found (blockOf (getD cells (indexOf w p) 0))) (refused 5)
+    choose (inside w p && ltb (indexOf w p) (length cells)) (found (blockFor (getD cells (indexOf w p) 0))) (refused 5)
 
 -- what the program's answer says
 abbrev pub asked : Cell → Ask Block
@@ -35,5 +35,5 @@ asked Unloaded = found none
 asked (State s) = found (some s)
 
 -- a step away
-abbrev pub stepped : Pos → Step → Pos
+abbrev pub stepped : Pos → CellStep → Pos
 stepped p d = record { x = p .x +ℤ d .x; y = p .y +ℤ d .y; z = p .z +ℤ d .z }

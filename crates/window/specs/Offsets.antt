@@ -9,19 +9,19 @@ use Rattle.base.specs.Choose.{choose}
 use Rattle.window.specs.declared.Sizes.{Sizes}
 use Rattle.window.specs.declared.Cell.{Cell}
 use Rattle.window.specs.declared.Cell.the-variants.{Outside, Unloaded, State}
-use Rattle.window.specs.Window.{placeOf}
+use Rattle.window.specs.Window.{indexAt}
 
 -- the largest u64 where the difference is below zero: at or above every size
 unfoldable pub offsetOf : ℤ → ℕ
 offsetOf (pos n) = n
 offsetOf (negsuc n) = 18446744073709551615
 
-abbrev pub cellOf : ℕ → Cell
-cellOf v = choose (eqb v 4294967295) Unloaded (State v)
+abbrev pub cellFor : ℕ → Cell
+cellFor v = choose (eqb v 4294967295) Unloaded (State v)
 
 unfoldable pub cellAt : List ℕ → ℕ → Cell
-cellAt cells i = choose (ltb i (length cells)) (cellOf (getD cells i 0)) Outside
+cellAt cells i = choose (ltb i (length cells)) (cellFor (getD cells i 0)) Outside
 
 unfoldable pub cellIn : List ℕ → Sizes → ℕ → ℕ → ℕ → Cell
 cellIn cells s x y z =
-    choose (ltb x (s .x)) (choose (ltb y (s .y)) (choose (ltb z (s .z)) (cellAt cells (placeOf s x y z)) Outside) Outside) Outside
+    choose (ltb x (s .x)) (choose (ltb y (s .y)) (choose (ltb z (s .z)) (cellAt cells (indexAt s x y z)) Outside) Outside) Outside

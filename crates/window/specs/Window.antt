@@ -20,13 +20,13 @@ inside w p =
     && within (w .origin .z) (w .sizes .z) (p .z)
 
 -- ((y × size z) + z) × size x + x
-abbrev pub placeOf : Sizes → ℕ → ℕ → ℕ → ℕ
-placeOf s x y z = (y * s .z + z) * s .x + x
+abbrev pub indexAt : Sizes → ℕ → ℕ → ℕ → ℕ
+indexAt s x y z = (y * s .z + z) * s .x + x
 
 -- the place of a cell inside the window, counted from the origin: there no difference is below zero
 unfoldable pub indexOf : Window → Pos → ℕ
 indexOf w p =
-    placeOf (w .sizes) (natAbs (p .x -ℤ w .origin .x)) (natAbs (p .y -ℤ w .origin .y)) (natAbs (p .z -ℤ w .origin .z))
+    indexAt (w .sizes) (natAbs (p .x -ℤ w .origin .x)) (natAbs (p .y -ℤ w .origin .y)) (natAbs (p .z -ℤ w .origin .z))
 
 -- sizes are 1 to 64 each
 abbrev pub sizeFits : ℕ → Bool

@@ -1,11 +1,14 @@
 // The window: a host lends cells and says by numbers where they lie. Its check (2), and the one look-up.
+mod numbers;
+
+pub use numbers::window_of;
 ghost use mathlib.Core.Path.{_≡_};
 ghost use Prim.Native.Nat.{_+_, _*_};
 ghost use lib.IntN.{_+ℤ_, _-ℤ_};
 ghost use lib.ListN.{length};
 ghost use Rattle.window.specs.Window.{sizeFits, sizesFit, coordinateFits, originFits, windowRefusal};
 ghost use Rattle.window.specs.Look.{lookAt, asked, stepped};
-ghost use Rattle.window.specs.Offsets.{offsetOf, cellOf, cellAt, cellIn};
+ghost use Rattle.window.specs.Offsets.{offsetOf, cellFor, cellAt, cellIn};
 
 pub struct Pos {
     pub x: i32,
@@ -26,7 +29,7 @@ pub struct Window {
 }
 
 // A way from a cell to one beside it.
-pub struct Step {
+pub struct CellStep {
     pub x: i8,
     pub y: i8,
     pub z: i8,
@@ -54,7 +57,7 @@ fn offset(x: i32, d: i8, o: i32) -> u64
 }
 
 fn cell_of(v: u32) -> Cell
-    ensures { λ r. ⌜ r ≡ cellOf v ⌝ }
+    ensures { λ r. ⌜ r ≡ cellFor v ⌝ }
 {
     if v == 4294967295 {
         return Cell::Unloaded;
@@ -113,7 +116,7 @@ fn cell_in(cells: &[u32], s: Sizes, x: u64, y: u64, z: u64) -> Cell
 }
 
 // The look-up of the cell a step away from p.
-pub fn look_by(cells: &[u32], w: Window, p: Pos, d: Step) -> Cell
+pub fn look_by(cells: &[u32], w: Window, p: Pos, d: CellStep) -> Cell
     ensures { λ r. ⌜ asked r ≡ lookAt (now (cells .entry)) w (stepped p d) ⌝ }
 {
     let x = offset(p.x, d.x, w.origin.x);
@@ -126,7 +129,7 @@ pub fn look_by(cells: &[u32], w: Window, p: Pos, d: Step) -> Cell
 pub fn look(cells: &[u32], w: Window, p: Pos) -> Cell
     ensures { λ r. ⌜ asked r ≡ lookAt (now (cells .entry)) w p ⌝ }
 {
-    look_by(cells, w, p, Step { x: 0, y: 0, z: 0 })
+    look_by(cells, w, p, CellStep { x: 0, y: 0, z: 0 })
 }
 
 fn size_fits(n: u32) -> bool

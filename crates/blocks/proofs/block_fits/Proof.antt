@@ -29,19 +29,43 @@ check-of-requires c κs = search needs
 
 returns : tie.Need-returns
 unfolding blockFits
-returns c = rw (← c .before .before .before .before .before .before .before .before .before .is-marked .ensures, c .before .before .before .before .before .before .before .before .if1 .taken, ← c .before .before .before .before .before .before .before .word .ensures, eq-eqb _ _ (c .before .before .before .before .before .before .if2 .taken), ← c .before .before .before .before .before .word2 .ensures, eq-eqb _ _ (c .before .before .before .before .if3 .taken), ← c .before .before .before .rest-zero .ensures, c .before .before .if4 .taken, ← c .before .word3 .ensures, ← c .check-of .ensures)
+returns c =
+    let at-if4 = c .before .before in
+    let at-rest-zero = at-if4 .before in
+    let at-if3 = at-rest-zero .before in
+    let at-word2 = at-if3 .before in
+    let at-if2 = at-word2 .before in
+    let at-word = at-if2 .before in
+    let at-if1 = at-word .before in
+    let at-is-marked = at-if1 .before in
+    rw (← at-is-marked .is-marked .ensures, at-if1 .if1 .taken, ← at-word .word .ensures, eq-eqb _ _ (at-if2 .if2 .taken), ← at-word2 .word2 .ensures, eq-eqb _ _ (at-if3 .if3 .taken), ← at-rest-zero .rest-zero .ensures, at-if4 .if4 .taken, ← c .before .word3 .ensures, ← c .check-of .ensures)
 
 returns-2 : tie.Need-returns-2
 unfolding blockFits
-returns-2 c = rw (← c .before .before .before .before .before .before .before .is-marked .ensures, c .before .before .before .before .before .before .if1 .taken, ← c .before .before .before .before .before .word .ensures, eq-eqb _ _ (c .before .before .before .before .if2 .taken), ← c .before .before .before .word2 .ensures, eq-eqb _ _ (c .before .before .if3 .taken), ← c .before .rest-zero .ensures, c .if4 .left)
+returns-2 c =
+    let at-if3 = c .before .before in
+    let at-word2 = at-if3 .before in
+    let at-if2 = at-word2 .before in
+    let at-word = at-if2 .before in
+    let at-if1 = at-word .before in
+    let at-is-marked = at-if1 .before in
+    rw (← at-is-marked .is-marked .ensures, at-if1 .if1 .taken, ← at-word .word .ensures, eq-eqb _ _ (at-if2 .if2 .taken), ← at-word2 .word2 .ensures, eq-eqb _ _ (at-if3 .if3 .taken), ← c .before .rest-zero .ensures, c .if4 .left)
 
 returns-3 : tie.Need-returns-3
 unfolding blockFits
-returns-3 c = rw (← c .before .before .before .before .before .is-marked .ensures, c .before .before .before .before .if1 .taken, ← c .before .before .before .word .ensures, eq-eqb _ _ (c .before .before .if2 .taken), ← c .before .word2 .ensures, ne-eqb _ _ (c .if3 .left))
+returns-3 c =
+    let at-if2 = c .before .before in
+    let at-word = at-if2 .before in
+    let at-if1 = at-word .before in
+    let at-is-marked = at-if1 .before in
+    rw (← at-is-marked .is-marked .ensures, at-if1 .if1 .taken, ← at-word .word .ensures, eq-eqb _ _ (at-if2 .if2 .taken), ← c .before .word2 .ensures, ne-eqb _ _ (c .if3 .left))
 
 returns-4 : tie.Need-returns-4
 unfolding blockFits
-returns-4 c = rw (← c .before .before .before .is-marked .ensures, c .before .before .if1 .taken, ← c .before .word .ensures, ne-eqb _ _ (c .if2 .left))
+returns-4 c =
+    let at-if1 = c .before .before in
+    let at-is-marked = at-if1 .before in
+    rw (← at-is-marked .is-marked .ensures, at-if1 .if1 .taken, ← c .before .word .ensures, ne-eqb _ _ (c .if2 .left))
 
 returns-5 : tie.Need-returns-5
 unfolding blockFits

@@ -1,6 +1,6 @@
 -- `blocks::rest_zero` meets its contract. Assumes nothing.
 use borrow.Author.Needs.{needs}
-use Rattle.blocks.specs.Blocks.{restZero, wordAt}
+use Rattle.blocks.specs.Blocks.{restZero, fileWord}
 use Rattle.base.proofs.Every.{every-from, every-not}
 use borrow.Author.Count.{below-more, below-none}
 use lib.Dec.{eqb, ltb}
@@ -12,7 +12,7 @@ use Rattle.blocks.proofs.rest_zero.Statement.{statement}
 use Rattle.blocks.proofs.rest_zero.Tie as tie
 
 abbrev Inv-loop : tie.InvT-loop
-Inv-loop block used i₀ i = (i ≤ 124) × ((j : ℕ) → j < i → (ltb j used || eqb (wordAt block (3 + j)) 0) ≡ true)
+Inv-loop block used i₀ i = (i ≤ 124) × ((j : ℕ) → j < i → (ltb j used || eqb (fileWord block (3 + j)) 0) ≡ true)
 
 abbrev μ-loop : tie.MeasureT-loop
 μ-loop block used i₀ i = 124 - i

@@ -21,7 +21,12 @@ lesser-requires : tie.Need-lesser-requires
 lesser-requires c κs = search needs
 
 returns : tie.Need-returns
-returns c = rw (c .lesser .ensures, c .before .past2 .ensures, c .before .before .past .ensures, c .before .before .before .either .ensures, c .before .before .before .before .before .before .far .ensures) (clip-ahead _ _ _ _ _ _ _ (c .before .before .before .before .before .before .before .if1 .taken))
+returns c =
+    let at-past = c .before .before in
+    let at-either = at-past .before in
+    let at-far = at-either .before .before .before in
+    let at-if1 = at-far .before in
+    rw (c .lesser .ensures, c .before .past2 .ensures, at-past .past .ensures, at-either .either .ensures, at-far .far .ensures) (clip-ahead _ _ _ _ _ _ _ (at-if1 .if1 .taken))
 
 far-requires-2 : tie.Need-far-requires-2
 far-requires-2 c κs = search needs
@@ -40,7 +45,13 @@ greater-requires c κs = search needs
 
 returns-2 : tie.Need-returns-2
 unfolding neg
-returns-2 c = rw (c .greater .ensures, c .before .past4 .ensures, c .before .before .past3 .ensures, c .before .before .before .either2 .ensures, c .before .before .before .before .before .before .far2 .ensures) (clip-behind _ _ _ _ _ _ _ (c .before .before .before .before .before .before .before .before .if1 .left) (c .before .before .before .before .before .before .before .if2 .taken))
+returns-2 c =
+    let at-past3 = c .before .before in
+    let at-either2 = at-past3 .before in
+    let at-far2 = at-either2 .before .before .before in
+    let at-if2 = at-far2 .before in
+    let at-if1 = at-if2 .before in
+    rw (c .greater .ensures, c .before .past4 .ensures, at-past3 .past3 .ensures, at-either2 .either2 .ensures, at-far2 .far2 .ensures) (clip-behind _ _ _ _ _ _ _ (at-if1 .if1 .left) (at-if2 .if2 .taken))
 
 returns-3 : tie.Need-returns-3
 returns-3 c = clip-still _ _ _ _ (c .before .if1 .left) (c .if2 .left)

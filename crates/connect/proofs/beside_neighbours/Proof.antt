@@ -27,7 +27,11 @@ enum-known-n-2 c = search needs
 
 returns-2 : tie.Need-returns-2
 unfolding besideNeighbours choose
-returns-2 c = rw (← c .before .before .before .before .before .before .before .joins-at .ensures, c .before .before .before .before .before .b .given .1, ← c .before .before .before .joins-at2 .ensures, c .before .n2 .given .1)
+returns-2 c =
+    let at-joins-at2 = c .before .before .before in
+    let at-b = at-joins-at2 .before .before in
+    let at-joins-at = at-b .before .before in
+    rw (← at-joins-at .joins-at .ensures, at-b .b .given .1, ← at-joins-at2 .joins-at2 .ensures, c .before .n2 .given .1)
 
 enum-known-b-2 : tie.Need-enum-known-b-2
 enum-known-b-2 c = search needs
@@ -40,7 +44,13 @@ enum-known-n-3 c = search needs
 
 returns-3 : tie.Need-returns-3
 unfolding besideNeighbours choose
-returns-3 c = rw (← c .before .before .before .before .before .before .before .before .before .before .before .joins-at .ensures, c .before .before .before .before .before .before .before .before .before .b .given .1, ← c .before .before .before .before .before .before .before .joins-at2 .ensures, c .before .before .before .before .before .b2 .given .1, ← c .before .before .before .joins-at3 .ensures, c .before .n3 .given .1)
+returns-3 c =
+    let at-joins-at3 = c .before .before .before in
+    let at-b2 = at-joins-at3 .before .before in
+    let at-joins-at2 = at-b2 .before .before in
+    let at-b = at-joins-at2 .before .before in
+    let at-joins-at = at-b .before .before in
+    rw (← at-joins-at .joins-at .ensures, at-b .b .given .1, ← at-joins-at2 .joins-at2 .ensures, at-b2 .b2 .given .1, ← at-joins-at3 .joins-at3 .ensures, c .before .n3 .given .1)
 
 enum-known-b-3 : tie.Need-enum-known-b-3
 enum-known-b-3 c = search needs
@@ -53,7 +63,15 @@ enum-known-n-4 c = search needs
 
 returns-4 : tie.Need-returns-4
 unfolding besideNeighbours choose
-returns-4 c = rw (← c .before .before .before .before .before .before .before .before .before .before .before .before .before .before .before .joins-at .ensures, c .before .before .before .before .before .before .before .before .before .before .before .before .before .b .given .1, ← c .before .before .before .before .before .before .before .before .before .before .before .joins-at2 .ensures, c .before .before .before .before .before .before .before .before .before .b2 .given .1, ← c .before .before .before .before .before .before .before .joins-at3 .ensures, c .before .before .before .before .before .b3 .given .1, ← c .before .before .before .joins-at4 .ensures, c .before .n4 .given .1)
+returns-4 c =
+    let at-joins-at4 = c .before .before .before in
+    let at-b3 = at-joins-at4 .before .before in
+    let at-joins-at3 = at-b3 .before .before in
+    let at-b2 = at-joins-at3 .before .before in
+    let at-joins-at2 = at-b2 .before .before in
+    let at-b = at-joins-at2 .before .before in
+    let at-joins-at = at-b .before .before in
+    rw (← at-joins-at .joins-at .ensures, at-b .b .given .1, ← at-joins-at2 .joins-at2 .ensures, at-b2 .b2 .given .1, ← at-joins-at3 .joins-at3 .ensures, at-b3 .b3 .given .1, ← at-joins-at4 .joins-at4 .ensures, c .before .n4 .given .1)
 
 enum-known-b-4 : tie.Need-enum-known-b-4
 enum-known-b-4 c = search needs
@@ -69,7 +87,19 @@ enum-known-n-5 c = search needs
 
 returns-5 : tie.Need-returns-5
 unfolding besideNeighbours choose
-returns-5 c = rw (← c .before .before .before .before .before .before .before .before .before .before .before .before .before .before .before .before .before .before .before .before .before .joins-at .ensures, c .before .before .before .before .before .before .before .before .before .before .before .before .before .before .before .before .before .before .before .b .given .1, ← c .before .before .before .before .before .before .before .before .before .before .before .before .before .before .before .before .before .joins-at2 .ensures, c .before .before .before .before .before .before .before .before .before .before .before .before .before .before .before .b2 .given .1, ← c .before .before .before .before .before .before .before .before .before .before .before .before .before .joins-at3 .ensures, c .before .before .before .before .before .before .before .before .before .before .before .b3 .given .1, ← c .before .before .before .before .before .before .before .before .before .joins-at4 .ensures, c .before .before .before .before .before .before .before .b4 .given .1, ← c .before .before .before .before .before .turn-all .ensures, eq-eqb _ _ (c .before .before .before .before .if1 .taken), ← c .before .before .before .post-at .ensures, c .before .n5 .given .1)
+returns-5 c =
+    let at-post-at = c .before .before .before in
+    let at-if1 = at-post-at .before in
+    let at-turn-all = at-if1 .before in
+    let at-b4 = at-turn-all .before .before in
+    let at-joins-at4 = at-b4 .before .before in
+    let at-b3 = at-joins-at4 .before .before in
+    let at-joins-at3 = at-b3 .before .before in
+    let at-b2 = at-joins-at3 .before .before in
+    let at-joins-at2 = at-b2 .before .before in
+    let at-b = at-joins-at2 .before .before in
+    let at-joins-at = at-b .before .before in
+    rw (← at-joins-at .joins-at .ensures, at-b .b .given .1, ← at-joins-at2 .joins-at2 .ensures, at-b2 .b2 .given .1, ← at-joins-at3 .joins-at3 .ensures, at-b3 .b3 .given .1, ← at-joins-at4 .joins-at4 .ensures, at-b4 .b4 .given .1, ← at-turn-all .turn-all .ensures, eq-eqb _ _ (at-if1 .if1 .taken), ← at-post-at .post-at .ensures, c .before .n5 .given .1)
 
 enum-known-on : tie.Need-enum-known-on
 enum-known-on c = search needs
@@ -79,11 +109,33 @@ posted-requires c κs = search needs
 
 returns-6 : tie.Need-returns-6
 unfolding besideNeighbours choose
-returns-6 c = rw (← c .before .before .before .before .before .before .before .before .before .before .before .before .before .before .before .before .before .before .before .before .before .before .joins-at .ensures, c .before .before .before .before .before .before .before .before .before .before .before .before .before .before .before .before .before .before .before .before .b .given .1, ← c .before .before .before .before .before .before .before .before .before .before .before .before .before .before .before .before .before .before .joins-at2 .ensures, c .before .before .before .before .before .before .before .before .before .before .before .before .before .before .before .before .b2 .given .1, ← c .before .before .before .before .before .before .before .before .before .before .before .before .before .before .joins-at3 .ensures, c .before .before .before .before .before .before .before .before .before .before .before .before .b3 .given .1, ← c .before .before .before .before .before .before .before .before .before .before .joins-at4 .ensures, c .before .before .before .before .before .before .before .before .b4 .given .1, ← c .before .before .before .before .before .before .turn-all .ensures, eq-eqb _ _ (c .before .before .before .before .before .if1 .taken), ← c .before .before .before .before .post-at .ensures, c .before .before .on .given .1, ← c .posted .ensures)
+returns-6 c =
+    let at-on = c .before .before in
+    let at-post-at = at-on .before .before in
+    let at-if1 = at-post-at .before in
+    let at-turn-all = at-if1 .before in
+    let at-b4 = at-turn-all .before .before in
+    let at-joins-at4 = at-b4 .before .before in
+    let at-b3 = at-joins-at4 .before .before in
+    let at-joins-at3 = at-b3 .before .before in
+    let at-b2 = at-joins-at3 .before .before in
+    let at-joins-at2 = at-b2 .before .before in
+    let at-b = at-joins-at2 .before .before in
+    let at-joins-at = at-b .before .before in
+    rw (← at-joins-at .joins-at .ensures, at-b .b .given .1, ← at-joins-at2 .joins-at2 .ensures, at-b2 .b2 .given .1, ← at-joins-at3 .joins-at3 .ensures, at-b3 .b3 .given .1, ← at-joins-at4 .joins-at4 .ensures, at-b4 .b4 .given .1, ← at-turn-all .turn-all .ensures, eq-eqb _ _ (at-if1 .if1 .taken), ← at-post-at .post-at .ensures, at-on .on .given .1, ← c .posted .ensures)
 
 returns-7 : tie.Need-returns-7
 unfolding besideNeighbours choose
-returns-7 c = rw (← c .before .before .before .before .before .before .before .before .before .before .before .before .before .before .before .before .before .joins-at .ensures, c .before .before .before .before .before .before .before .before .before .before .before .before .before .before .before .b .given .1, ← c .before .before .before .before .before .before .before .before .before .before .before .before .before .joins-at2 .ensures, c .before .before .before .before .before .before .before .before .before .before .before .b2 .given .1, ← c .before .before .before .before .before .before .before .before .before .joins-at3 .ensures, c .before .before .before .before .before .before .before .b3 .given .1, ← c .before .before .before .before .before .joins-at4 .ensures, c .before .before .before .b4 .given .1, ← c .before .turn-all .ensures, ne-eqb _ _ (c .if1 .left))
+returns-7 c =
+    let at-b4 = c .before .before .before in
+    let at-joins-at4 = at-b4 .before .before in
+    let at-b3 = at-joins-at4 .before .before in
+    let at-joins-at3 = at-b3 .before .before in
+    let at-b2 = at-joins-at3 .before .before in
+    let at-joins-at2 = at-b2 .before .before in
+    let at-b = at-joins-at2 .before .before in
+    let at-joins-at = at-b .before .before in
+    rw (← at-joins-at .joins-at .ensures, at-b .b .given .1, ← at-joins-at2 .joins-at2 .ensures, at-b2 .b2 .given .1, ← at-joins-at3 .joins-at3 .ensures, at-b3 .b3 .given .1, ← at-joins-at4 .joins-at4 .ensures, at-b4 .b4 .given .1, ← c .before .turn-all .ensures, ne-eqb _ _ (c .if1 .left))
 
 pub beside-neighbours-spec : {M : Type 1} → statement M
 beside-neighbours-spec =

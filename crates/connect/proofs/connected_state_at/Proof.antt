@@ -6,19 +6,12 @@ use borrow.Author.Needs.{needs}
 use Rattle.connect.proofs.connected_state_at.Statement.{statement}
 use Rattle.connect.proofs.connected_state_at.Tie as tie
 
-check-tables-requires : tie.Need-check-tables-requires
-check-tables-requires c κs = search needs
+check-lent-requires : tie.Need-check-lent-requires
+check-lent-requires c κs = search needs
 
 returns : tie.Need-returns
 unfolding connectedEntry choose
-returns c = rw (← c .before .check-tables .ensures, ne-eqb _ _ (c .if1 .taken))
-
-check-window-requires : tie.Need-check-window-requires
-check-window-requires c κs = search needs
-
-returns-2 : tie.Need-returns-2
-unfolding connectedEntry choose
-returns-2 c = rw (← c .before .before .before .check-tables .ensures, eq-eqb _ _ (c .before .before .if1 .left), ← c .before .check-window .ensures, ne-eqb _ _ (c .if2 .taken))
+returns c = rw (← c .before .check-lent .ensures, ne-eqb _ _ (c .if1 .taken))
 
 connected-state-requires : tie.Need-connected-state-requires
 connected-state-requires c κs = search needs
@@ -29,24 +22,30 @@ enum-known-told c = search needs
 enum-known-told-2 : tie.Need-enum-known-told-2
 enum-known-told-2 c = search needs
 
+returns-2 : tie.Need-returns-2
+unfolding connectedEntry choose
+returns-2 c =
+    let at-connected-state = c .before .before .before in
+    let at-if1 = at-connected-state .before in
+    let at-check-lent = at-if1 .before in
+    rw (← at-check-lent .check-lent .ensures, eq-eqb _ _ (at-if1 .if1 .left), ← at-connected-state .connected-state .ensures, c .before .told .given .1)
+
 returns-3 : tie.Need-returns-3
 unfolding connectedEntry choose
-returns-3 c = rw (← c .before .before .before .before .before .before .before .check-tables .ensures, eq-eqb _ _ (c .before .before .before .before .before .before .if1 .left), ← c .before .before .before .before .before .check-window .ensures, eq-eqb _ _ (c .before .before .before .before .if2 .left), ← c .before .before .before .connected-state .ensures, c .before .told .given .1)
-
-returns-4 : tie.Need-returns-4
-unfolding connectedEntry choose
-returns-4 c = rw (← c .before .before .before .before .before .before .before .check-tables .ensures, eq-eqb _ _ (c .before .before .before .before .before .before .if1 .left), ← c .before .before .before .before .before .check-window .ensures, eq-eqb _ _ (c .before .before .before .before .if2 .left), ← c .before .before .before .connected-state .ensures, c .before .told2 .given .1)
+returns-3 c =
+    let at-connected-state = c .before .before .before in
+    let at-if1 = at-connected-state .before in
+    let at-check-lent = at-if1 .before in
+    rw (← at-check-lent .check-lent .ensures, eq-eqb _ _ (at-if1 .if1 .left), ← at-connected-state .connected-state .ensures, c .before .told2 .given .1)
 
 pub connected-state-at-spec : {M : Type 1} → statement M
 connected-state-at-spec =
     tie.close
     (tie.spec
-    check-tables-requires
+    check-lent-requires
     returns
-    check-window-requires
-    returns-2
     connected-state-requires
     enum-known-told
     enum-known-told-2
-    returns-3
-    returns-4)
+    returns-2
+    returns-3)

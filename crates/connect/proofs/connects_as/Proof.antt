@@ -1,5 +1,5 @@
 -- `connect::connects_as` meets its contract. Assumes nothing.
-use Rattle.connect.specs.Connect.{connectsAs}
+use Rattle.connect.specs.Connect.{connectKind}
 use Rattle.base.specs.Choose.{choose}
 use borrow.Author.Needs.{needs}
 use Rattle.connect.proofs.connects_as.Statement.{statement}
@@ -12,11 +12,11 @@ word-requires : tie.Need-word-requires
 word-requires c κs = search needs
 
 returns : tie.Need-returns
-unfolding connectsAs choose
+unfolding connectKind choose
 returns c = rw (← c .before .before .is-registered .ensures, c .before .if1 .taken, ← c .word .ensures)
 
 returns-2 : tie.Need-returns-2
-unfolding connectsAs choose
+unfolding connectKind choose
 returns-2 c = rw (← c .before .is-registered .ensures, c .if1 .left)
 
 pub connects-as-spec : {M : Type 1} → statement M

@@ -33,7 +33,11 @@ returns-2 c = rw (← c .before .before .before .way-to .ensures, ← c .before 
 
 returns-3 : tie.Need-returns-3
 unfolding joins choose
-returns-3 c = rw (← c .before .before .before .before .before .way-to .ensures, ← c .before .before .before .before .look-by .ensures, c .before .before .neighbour .given .1, ← c .connects .ensures)
+returns-3 c =
+    let at-neighbour = c .before .before in
+    let at-look-by = at-neighbour .before .before in
+    let at-way-to = at-look-by .before in
+    rw (← at-way-to .way-to .ensures, ← at-look-by .look-by .ensures, at-neighbour .neighbour .given .1, ← c .connects .ensures)
 
 pub joins-at-spec : {M : Type 1} → statement M
 joins-at-spec =

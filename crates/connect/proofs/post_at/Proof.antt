@@ -19,7 +19,10 @@ is-straight-requires c κs = search needs
 
 returns : tie.Need-returns
 unfolding post raisedBy choose
-returns c = rw (← c .before .before .before .before .look-by .ensures, c .before .before .enum-told2 .given .1, ← c .before .is-straight .ensures, c .if1 .taken)
+returns c =
+    let at-enum-told2 = c .before .before in
+    let at-look-by = at-enum-told2 .before .before in
+    rw (← at-look-by .look-by .ensures, at-enum-told2 .enum-told2 .given .1, ← c .before .is-straight .ensures, c .if1 .taken)
 
 enum-known-above : tie.Need-enum-known-above
 enum-known-above c = search needs
@@ -32,7 +35,11 @@ raised-by-requires c κs = search needs
 
 returns-2 : tie.Need-returns-2
 unfolding post raisedBy choose
-returns-2 c = rw (← c .before .before .before .before .before .before .look-by .ensures, c .before .before .before .before .above .given .1, ← c .before .before .is-straight2 .ensures, c .before .if2 .taken, ← c .raised-by .ensures)
+returns-2 c =
+    let at-is-straight2 = c .before .before in
+    let at-above = at-is-straight2 .before .before in
+    let at-look-by = at-above .before .before in
+    rw (← at-look-by .look-by .ensures, at-above .above .given .1, ← at-is-straight2 .is-straight2 .ensures, c .before .if2 .taken, ← c .raised-by .ensures)
 
 returns-3 : tie.Need-returns-3
 unfolding post raisedBy choose
@@ -40,11 +47,17 @@ returns-3 c = rw (← c .before .before .look-by .ensures, c .enum-told .given .
 
 returns-4 : tie.Need-returns-4
 unfolding post raisedBy choose
-returns-4 c = rw (← c .before .before .before .before .look-by .ensures, c .before .before .enum-told2 .given .1, ← c .before .is-straight .ensures, c .if1 .left)
+returns-4 c =
+    let at-enum-told2 = c .before .before in
+    let at-look-by = at-enum-told2 .before .before in
+    rw (← at-look-by .look-by .ensures, at-enum-told2 .enum-told2 .given .1, ← c .before .is-straight .ensures, c .if1 .left)
 
 returns-5 : tie.Need-returns-5
 unfolding post raisedBy choose
-returns-5 c = rw (← c .before .before .before .before .before .look-by .ensures, c .before .before .before .above .given .1, ← c .before .is-straight2 .ensures, c .if2 .left)
+returns-5 c =
+    let at-above = c .before .before .before in
+    let at-look-by = at-above .before .before in
+    rw (← at-look-by .look-by .ensures, at-above .above .given .1, ← c .before .is-straight2 .ensures, c .if2 .left)
 
 pub post-at-spec : {M : Type 1} → statement M
 post-at-spec =

@@ -16,7 +16,10 @@ raises-post-requires c κs = search needs
 
 returns : tie.Need-returns
 unfolding raisedBy choose
-returns c = rw (← c .before .before .before .is-registered .ensures, c .before .before .if1 .taken, ← c .before .word .ensures, ← c .raises-post .ensures)
+returns c =
+    let at-if1 = c .before .before in
+    let at-is-registered = at-if1 .before in
+    rw (← at-is-registered .is-registered .ensures, at-if1 .if1 .taken, ← c .before .word .ensures, ← c .raises-post .ensures)
 
 returns-2 : tie.Need-returns-2
 unfolding raisedBy choose

@@ -19,7 +19,10 @@ turned-requires-4 c κs = search needs
 
 returns : tie.Need-returns
 unfolding transitions choose
-returns c = rw (← c .before .before .before .turned .ensures, ← c .before .before .turned2 .ensures, ← c .before .turned3 .ensures, ← c .turned4 .ensures)
+returns c =
+    let at-turned2 = c .before .before in
+    let at-turned = at-turned2 .before in
+    rw (← at-turned .turned .ensures, ← at-turned2 .turned2 .ensures, ← c .before .turned3 .ensures, ← c .turned4 .ensures)
 
 pub turn-all-spec : {M : Type 1} → statement M
 turn-all-spec =

@@ -17,11 +17,19 @@ gap-on-face-requires c κs = search needs
 
 returns-2 : tie.Need-returns-2
 unfolding coversBySearch
-returns-2 c = rw (covers-search _ _ (c .before .before .before .before .shared-slice-known .given), ← c .before .before .before .nan-on-face .ensures, c .before .before .if1 .left, ← c .before .gap-on-face .ensures, c .if2 .taken)
+returns-2 c =
+    let at-if1 = c .before .before in
+    let at-nan-on-face = at-if1 .before in
+    let at-shared-slice-known = at-nan-on-face .before in
+    rw (covers-search _ _ (at-shared-slice-known .shared-slice-known .given), ← at-nan-on-face .nan-on-face .ensures, at-if1 .if1 .left, ← c .before .gap-on-face .ensures, c .if2 .taken)
 
 returns-3 : tie.Need-returns-3
 unfolding coversBySearch
-returns-3 c = rw (covers-search _ _ (c .before .before .before .before .shared-slice-known .given), ← c .before .before .before .nan-on-face .ensures, c .before .before .if1 .left, ← c .before .gap-on-face .ensures, c .if2 .left)
+returns-3 c =
+    let at-if1 = c .before .before in
+    let at-nan-on-face = at-if1 .before in
+    let at-shared-slice-known = at-nan-on-face .before in
+    rw (covers-search _ _ (at-shared-slice-known .shared-slice-known .given), ← at-nan-on-face .nan-on-face .ensures, at-if1 .if1 .left, ← c .before .gap-on-face .ensures, c .if2 .left)
 
 pub covers-face-spec : {M : Type 1} → statement M
 covers-face-spec =

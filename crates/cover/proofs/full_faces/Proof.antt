@@ -39,7 +39,14 @@ add-result-3 c = search needs
 
 returns : tie.Need-returns
 unfolding fullFaces
-returns c = rw (← c .before .before .before .before .before .before .before .covers-face .ensures, ← c .before .before .before .before .before .before .covers-face2 .ensures, ← c .before .before .before .before .before .covers-face3 .ensures, ← c .before .before .before .before .covers-face4 .ensures, ← c .before .before .before .bit .ensures .0, ← c .before .before .bit2 .ensures .0, ← c .before .bit3 .ensures .0, ← c .bit4 .ensures .0)
+returns c =
+    let at-bit2 = c .before .before in
+    let at-bit = at-bit2 .before in
+    let at-covers-face4 = at-bit .before in
+    let at-covers-face3 = at-covers-face4 .before in
+    let at-covers-face2 = at-covers-face3 .before in
+    let at-covers-face = at-covers-face2 .before in
+    rw (← at-covers-face .covers-face .ensures, ← at-covers-face2 .covers-face2 .ensures, ← at-covers-face3 .covers-face3 .ensures, ← at-covers-face4 .covers-face4 .ensures, ← at-bit .bit .ensures .0, ← at-bit2 .bit2 .ensures .0, ← c .before .bit3 .ensures .0, ← c .bit4 .ensures .0)
 
 pub full-faces-spec : {M : Type 1} → statement M
 full-faces-spec =

@@ -18,11 +18,20 @@ gap-at-requires c κs = search needs
 
 returns : tie.Need-returns
 unfolding gapPast
-returns c = rw (← c .before .before .before .before .before .number .ensures, ← c .before .before .before .before .is-inner .ensures, c .before .before .before .if1 .taken, ← c .before .before .spans-line .ensures, c .before .if2 .taken, ← c .gap-at .ensures)
+returns c =
+    let at-spans-line = c .before .before in
+    let at-if1 = at-spans-line .before in
+    let at-is-inner = at-if1 .before in
+    let at-number = at-is-inner .before in
+    rw (← at-number .number .ensures, ← at-is-inner .is-inner .ensures, at-if1 .if1 .taken, ← at-spans-line .spans-line .ensures, c .before .if2 .taken, ← c .gap-at .ensures)
 
 returns-2 : tie.Need-returns-2
 unfolding gapPast
-returns-2 c = rw (← c .before .before .before .before .number .ensures, ← c .before .before .before .is-inner .ensures, c .before .before .if1 .taken, ← c .before .spans-line .ensures, c .if2 .left)
+returns-2 c =
+    let at-if1 = c .before .before in
+    let at-is-inner = at-if1 .before in
+    let at-number = at-is-inner .before in
+    rw (← at-number .number .ensures, ← at-is-inner .is-inner .ensures, at-if1 .if1 .taken, ← c .before .spans-line .ensures, c .if2 .left)
 
 returns-3 : tie.Need-returns-3
 unfolding gapPast

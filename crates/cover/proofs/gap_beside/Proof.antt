@@ -24,15 +24,29 @@ gap-on-line-requires c κs = search needs
 
 returns : tie.Need-returns
 unfolding gapPast
-returns c = rw (← c .before .before .before .before .before .before .u-place .ensures .0, ← c .before .before .before .before .before .number .ensures, ← c .before .before .before .before .is-inner .ensures, c .before .before .before .if1 .taken, ← c .before .before .on-face .ensures, c .before .if2 .taken, ← c .gap-on-line .ensures)
+returns c =
+    let at-on-face = c .before .before in
+    let at-if1 = at-on-face .before in
+    let at-is-inner = at-if1 .before in
+    let at-number = at-is-inner .before in
+    let at-u-place = at-number .before in
+    rw (← at-u-place .u-place .ensures .0, ← at-number .number .ensures, ← at-is-inner .is-inner .ensures, at-if1 .if1 .taken, ← at-on-face .on-face .ensures, c .before .if2 .taken, ← c .gap-on-line .ensures)
 
 returns-2 : tie.Need-returns-2
 unfolding gapPast
-returns-2 c = rw (← c .before .before .before .before .before .u-place .ensures .0, ← c .before .before .before .before .number .ensures, ← c .before .before .before .is-inner .ensures, c .before .before .if1 .taken, ← c .before .on-face .ensures, c .if2 .left)
+returns-2 c =
+    let at-if1 = c .before .before in
+    let at-is-inner = at-if1 .before in
+    let at-number = at-is-inner .before in
+    let at-u-place = at-number .before in
+    rw (← at-u-place .u-place .ensures .0, ← at-number .number .ensures, ← at-is-inner .is-inner .ensures, at-if1 .if1 .taken, ← c .before .on-face .ensures, c .if2 .left)
 
 returns-3 : tie.Need-returns-3
 unfolding gapPast
-returns-3 c = rw (← c .before .before .before .u-place .ensures .0, ← c .before .before .number .ensures, ← c .before .is-inner .ensures, c .if1 .left)
+returns-3 c =
+    let at-number = c .before .before in
+    let at-u-place = at-number .before in
+    rw (← at-u-place .u-place .ensures .0, ← at-number .number .ensures, ← c .before .is-inner .ensures, c .if1 .left)
 
 pub gap-beside-spec : {M : Type 1} → statement M
 gap-beside-spec =

@@ -32,7 +32,11 @@ gap-beside-requires c κs = search needs
 
 returns-2 : tie.Need-returns-2 Inv-loop μ-loop
 unfolding gapOnFace anyGap
-returns-2 c = sym (rw (sym (c .before .before .before .before .before .gap-on-line .ensures) ∙ c .before .before .before .before .if1 .left) (some-at _ _ (c .before .before .before .loop .k) (omega arith) (sym (c .before .gap-beside .ensures) ∙ c .if2 .taken)))
+returns-2 c =
+    let at-loop = c .before .before .before in
+    let at-if1 = at-loop .before in
+    let at-gap-on-line = at-if1 .before in
+    sym (rw (sym (at-gap-on-line .gap-on-line .ensures) ∙ at-if1 .if1 .left) (some-at _ _ (at-loop .loop .k) (omega arith) (sym (c .before .gap-beside .ensures) ∙ c .if2 .taken)))
 
 add-k : tie.Need-add-k Inv-loop μ-loop
 add-k c = search needs

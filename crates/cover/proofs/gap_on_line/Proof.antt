@@ -32,7 +32,11 @@ gap-above-requires c κs = search needs
 
 returns-2 : tie.Need-returns-2 Inv-loop μ-loop
 unfolding gapOnLine anyGap
-returns-2 c = sym (rw (sym (c .before .before .before .before .before .gap-at .ensures) ∙ c .before .before .before .before .if1 .left) (some-at _ _ (c .before .before .before .loop .k) (omega arith) (sym (c .before .gap-above .ensures) ∙ c .if2 .taken)))
+returns-2 c =
+    let at-loop = c .before .before .before in
+    let at-if1 = at-loop .before in
+    let at-gap-at = at-if1 .before in
+    sym (rw (sym (at-gap-at .gap-at .ensures) ∙ at-if1 .if1 .left) (some-at _ _ (at-loop .loop .k) (omega arith) (sym (c .before .gap-above .ensures) ∙ c .if2 .taken)))
 
 add-k : tie.Need-add-k Inv-loop μ-loop
 add-k c = search needs

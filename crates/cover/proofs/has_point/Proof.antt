@@ -12,14 +12,21 @@ number-requires c κs = search needs
 
 returns : tie.Need-returns
 unfolding hasPoint
-returns c = rw (← c .before .before .before .spans-line .ensures, c .before .before .if1 .taken, ← c .before .number .ensures, c .if2 .taken)
+returns c =
+    let at-if1 = c .before .before in
+    let at-spans-line = at-if1 .before in
+    rw (← at-spans-line .spans-line .ensures, at-if1 .if1 .taken, ← c .before .number .ensures, c .if2 .taken)
 
 number-requires-2 : tie.Need-number-requires-2
 number-requires-2 c κs = search needs
 
 returns-2 : tie.Need-returns-2
 unfolding hasPoint
-returns-2 c = rw (← c .before .before .before .before .spans-line .ensures, c .before .before .before .if1 .taken, ← c .before .before .number .ensures, c .before .if2 .left, ← c .number2 .ensures)
+returns-2 c =
+    let at-number = c .before .before in
+    let at-if1 = at-number .before in
+    let at-spans-line = at-if1 .before in
+    rw (← at-spans-line .spans-line .ensures, at-if1 .if1 .taken, ← at-number .number .ensures, c .before .if2 .left, ← c .number2 .ensures)
 
 returns-3 : tie.Need-returns-3
 unfolding hasPoint

@@ -15,7 +15,11 @@ number-requires c κs = search needs
 
 returns : tie.Need-returns
 unfolding spans
-returns c = rw (← c .before .before .before .before .on-face .ensures, c .before .before .before .if1 .taken, ← c .before .before .u-place .ensures .0, ← c .before .number .ensures, c .if2 .taken)
+returns c =
+    let at-u-place = c .before .before in
+    let at-if1 = at-u-place .before in
+    let at-on-face = at-if1 .before in
+    rw (← at-on-face .on-face .ensures, at-if1 .if1 .taken, ← at-u-place .u-place .ensures .0, ← c .before .number .ensures, c .if2 .taken)
 
 add-number : tie.Need-add-number
 add-number c = search needs
@@ -25,7 +29,12 @@ number-requires-2 c κs = search needs
 
 returns-2 : tie.Need-returns-2
 unfolding spans
-returns-2 c = rw (← c .before .before .before .before .before .on-face .ensures, c .before .before .before .before .if1 .taken, ← c .before .before .before .u-place .ensures .0, ← c .before .before .number .ensures, c .before .if2 .left, ← c .number2 .ensures)
+returns-2 c =
+    let at-number = c .before .before in
+    let at-u-place = at-number .before in
+    let at-if1 = at-u-place .before in
+    let at-on-face = at-if1 .before in
+    rw (← at-on-face .on-face .ensures, at-if1 .if1 .taken, ← at-u-place .u-place .ensures .0, ← at-number .number .ensures, c .before .if2 .left, ← c .number2 .ensures)
 
 returns-3 : tie.Need-returns-3
 unfolding spans

@@ -23,7 +23,10 @@ returns c =
     taken _ _ _ _ (c .given .ensures) finite (ap neg (below .1) ∙ ceil-by-floor (c .before .before .before .before .before .args .x) finite)
 
 returns-2 : tie.Need-returns-2
-returns-2 c = turned-away _ _ _ _ (c .refused .ensures) (sym (neg-finite (c .before .before .before .before .args .x)) ∙ was-turned-away _ _ _ (c .before .before .before .floor .ensures) (c .before .if1 .left))
+returns-2 c =
+    let at-floor = c .before .before .before in
+    let start = at-floor .before in
+    turned-away _ _ _ _ (c .refused .ensures) (sym (neg-finite (start .args .x)) ∙ was-turned-away _ _ _ (at-floor .floor .ensures) (c .before .if1 .left))
 
 pub ceil-spec : {M : Type 1} → statement M
 ceil-spec = tie.close (tie.spec floor-requires given-requires refused-requires returns returns-2)

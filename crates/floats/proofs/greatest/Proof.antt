@@ -18,7 +18,10 @@ refused-requires c κs = search needs
 
 returns : tie.Need-returns
 unfolding choose
-returns c = rw (c .given .ensures, ← c .before .before .before .are-finite .ensures, c .before .before .if1 .taken, c .before .greater .ensures)
+returns c =
+    let at-if1 = c .before .before in
+    let at-are-finite = at-if1 .before in
+    rw (c .given .ensures, ← at-are-finite .are-finite .ensures, at-if1 .if1 .taken, c .before .greater .ensures)
 
 returns-2 : tie.Need-returns-2
 unfolding choose

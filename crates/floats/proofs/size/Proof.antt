@@ -18,7 +18,10 @@ refused-requires c κs = search needs
 
 returns : tie.Need-returns
 unfolding choose
-returns c = rw (c .given .ensures, ← c .before .before .before .is-finite .ensures, c .before .before .if1 .taken, c .before .magnitude .ensures)
+returns c =
+    let at-if1 = c .before .before in
+    let at-is-finite = at-if1 .before in
+    rw (c .given .ensures, ← at-is-finite .is-finite .ensures, at-if1 .if1 .taken, c .before .magnitude .ensures)
 
 returns-2 : tie.Need-returns-2
 unfolding choose

@@ -1,20 +1,20 @@
 -- `floats::sqrt` meets its contract: the tests at its head by `Ends.antt`, what the bits come to by `Near.antt`, and that this is `rootOf` by `Roots.antt`. Assumes nothing.
 use borrow.Author.Needs.{needs}
-use mathlib.Core.Path.{_≡_, refl, sym, ap, subst, _∙_}
+use mathlib.Core.Path.{_≡_, refl, sym, subst}
 use Prim.Native.Nat.{ℕ, suc, _*_, _^_, _<_}
-use mathlib.Core.Bool.{Bool, true, false, not}
+use mathlib.Core.Bool.{true, false, not}
 use lib.IntN.{ℤ}
 use lib.Dec.{T}
 use lib.Ieee.{Float, fin, inf, binary64, fits, eq, lt, ofBits, toBits, nanBits, isNan}
 use lib.Ieee.Bits.{ofBits-fits}
-use Rattle.floats.specs.Root.{Root, hasRoot, rootOf}
+use Rattle.floats.specs.Root.{hasRoot, rootOf}
 use Rattle.floats.specs.Steps.{RootBits, unitsOf}
 use Rattle.floats.proofs.Answers.{taken, turned-away}
 use Rattle.floats.proofs.Ends.{none, at-zero, above, at-infinity, below-zero}
 use Rattle.floats.proofs.Shift.{nearest-low, nearest-high, bits-le}
 use Rattle.floats.proofs.Value.{pattern, written, no-nan}
 use Rattle.floats.proofs.Near.{root-is}
-use Rattle.floats.proofs.Roots.{root-nearest, root-fits, root-unique}
+use Rattle.floats.proofs.Roots.{root-nearest, root-unique}
 use Rattle.floats.proofs.sqrt.Statement.{statement}
 use Rattle.floats.proofs.sqrt.Tie as tie
 
@@ -47,8 +47,8 @@ is-root m e r h b =
     let x = fin false (suc m) e in
     let s = b .is in
     let val = written r (b .k) (b .q) (b .bits) (nearest-low (b .m) (b .q) (s .low) (s .root)) (nearest-high (b .m) (b .q) (s .high) (s .root)) (s .small) in
-    root-unique x (ofBits binary64 r) (rootOf x) (ofBits-fits binary64 r) (root-fits m e h)
-    (root-is m e (unitsOf (toBits binary64 x)) (pattern m e h .value) (b .m) (b .q) (b .k) s (ofBits binary64 r) val) (root-nearest m e h)
+    root-unique x (ofBits binary64 r) (rootOf x)
+    (root-is m e (unitsOf (toBits binary64 x)) (pattern m e h .value) (b .m) (b .q) (b .k) s (ofBits binary64 r) (ofBits-fits binary64 r) val) (root-nearest m e h)
 
 answer : (x : Float) (m : ℕ) (e : ℤ) (r : ℕ) → x ≡ fin false (suc m) e → T (fits binary64 x) → RootBits (unitsOf (toBits binary64 x)) r → (hasRoot x ≡ true) × (ofBits binary64 r ≡ rootOf x)
 unfolding hasRoot

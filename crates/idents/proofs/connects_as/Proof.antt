@@ -27,11 +27,21 @@ equals-requires c κs = search needs
 
 returns-3 : tie.Need-returns-3
 unfolding connectsAs family choose
-returns-3 c = rw (c .before .before .before .before .before .before .before .if1 .left, c .before .before .before .before .before .before .if2 .left, ← c .before .before .before .before .ends-with .ensures, c .before .before .before .if3 .taken, ← c .before .equals .ensures, c .if4 .taken)
+returns-3 c =
+    let at-if3 = c .before .before .before in
+    let at-ends-with = at-if3 .before in
+    let at-if2 = at-ends-with .before .before in
+    let at-if1 = at-if2 .before in
+    rw (at-if1 .if1 .left, at-if2 .if2 .left, ← at-ends-with .ends-with .ensures, at-if3 .if3 .taken, ← c .before .equals .ensures, c .if4 .taken)
 
 returns-4 : tie.Need-returns-4
 unfolding connectsAs family choose
-returns-4 c = rw (c .before .before .before .before .before .before .before .if1 .left, c .before .before .before .before .before .before .if2 .left, ← c .before .before .before .before .ends-with .ensures, c .before .before .before .if3 .taken, ← c .before .equals .ensures, c .if4 .left)
+returns-4 c =
+    let at-if3 = c .before .before .before in
+    let at-ends-with = at-if3 .before in
+    let at-if2 = at-ends-with .before .before in
+    let at-if1 = at-if2 .before in
+    rw (at-if1 .if1 .left, at-if2 .if2 .left, ← at-ends-with .ends-with .ensures, at-if3 .if3 .taken, ← c .before .equals .ensures, c .if4 .left)
 
 slice-aggregate-ends-with-2 : tie.Need-slice-aggregate-ends-with-2
 slice-aggregate-ends-with-2 c = search needs
@@ -47,11 +57,23 @@ ends-with-requires-3 c κs = search needs
 
 returns-5 : tie.Need-returns-5
 unfolding connectsAs family choose
-returns-5 c = rw (c .before .before .before .before .before .before .before .before .before .if1 .left, c .before .before .before .before .before .before .before .before .if2 .left, ← c .before .before .before .before .before .before .ends-with .ensures, c .before .before .before .before .before .if3 .left, ← c .before .before .before .ends-with2 .ensures, ← c .before .ends-with3 .ensures, c .if5 .taken)
+returns-5 c =
+    let at-ends-with2 = c .before .before .before in
+    let at-if3 = at-ends-with2 .before .before in
+    let at-ends-with = at-if3 .before in
+    let at-if2 = at-ends-with .before .before in
+    let at-if1 = at-if2 .before in
+    rw (at-if1 .if1 .left, at-if2 .if2 .left, ← at-ends-with .ends-with .ensures, at-if3 .if3 .left, ← at-ends-with2 .ends-with2 .ensures, ← c .before .ends-with3 .ensures, c .if5 .taken)
 
 returns-6 : tie.Need-returns-6
 unfolding connectsAs family choose
-returns-6 c = rw (c .before .before .before .before .before .before .before .before .before .if1 .left, c .before .before .before .before .before .before .before .before .if2 .left, ← c .before .before .before .before .before .before .ends-with .ensures, c .before .before .before .before .before .if3 .left, ← c .before .before .before .ends-with2 .ensures, ← c .before .ends-with3 .ensures, c .if5 .left)
+returns-6 c =
+    let at-ends-with2 = c .before .before .before in
+    let at-if3 = at-ends-with2 .before .before in
+    let at-ends-with = at-if3 .before in
+    let at-if2 = at-ends-with .before .before in
+    let at-if1 = at-if2 .before in
+    rw (at-if1 .if1 .left, at-if2 .if2 .left, ← at-ends-with .ends-with .ensures, at-if3 .if3 .left, ← at-ends-with2 .ends-with2 .ensures, ← c .before .ends-with3 .ensures, c .if5 .left)
 
 pub connects-as-spec : {M : Type 1} → statement M
 connects-as-spec =

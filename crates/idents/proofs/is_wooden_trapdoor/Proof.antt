@@ -24,7 +24,10 @@ contains-requires c κs = search needs
 
 returns : tie.Need-returns
 unfolding isWoodenTrapdoor
-returns c = rw (← c .before .before .before .before .ends-with .ensures, ← c .before .before .equals .ensures, ← c .contains .ensures)
+returns c =
+    let at-equals = c .before .before in
+    let at-ends-with = at-equals .before .before in
+    rw (← at-ends-with .ends-with .ensures, ← at-equals .equals .ensures, ← c .contains .ensures)
 
 pub is-wooden-trapdoor-spec : {M : Type 1} → statement M
 is-wooden-trapdoor-spec =

@@ -1,24 +1,17 @@
 -- `moves::collides_with_blocks` meets its contract. Assumes nothing.
-use Rattle.moves.specs.Answers.{collidesEntry}
-use Rattle.base.specs.Choose.{choose}
 use borrow.Author.Tests.{eq-eqb, ne-eqb}
+use Rattle.base.specs.Choose.{choose}
+use Rattle.moves.specs.Answers.{collidesEntry}
 use borrow.Author.Needs.{needs}
 use Rattle.moves.proofs.collides_with_blocks.Statement.{statement}
 use Rattle.moves.proofs.collides_with_blocks.Tie as tie
 
-check-tables-requires : tie.Need-check-tables-requires
-check-tables-requires c κs = search needs
+check-lent-requires : tie.Need-check-lent-requires
+check-lent-requires c κs = search needs
 
 returns : tie.Need-returns
 unfolding collidesEntry choose
-returns c = rw (← c .before .check-tables .ensures, ne-eqb _ _ (c .if1 .taken))
-
-check-window-requires : tie.Need-check-window-requires
-check-window-requires c κs = search needs
-
-returns-2 : tie.Need-returns-2
-unfolding collidesEntry choose
-returns-2 c = rw (← c .before .before .before .check-tables .ensures, eq-eqb _ _ (c .before .before .if1 .left), ← c .before .check-window .ensures, ne-eqb _ _ (c .if2 .taken))
+returns c = rw (← c .before .check-lent .ensures, ne-eqb _ _ (c .if1 .taken))
 
 is-box-requires : tie.Need-is-box-requires
 is-box-requires c κs = search needs
@@ -32,30 +25,43 @@ enum-known-told c = search needs
 enum-known-told-2 : tie.Need-enum-known-told-2
 enum-known-told-2 c = search needs
 
+returns-2 : tie.Need-returns-2
+unfolding collidesEntry choose
+returns-2 c =
+    let at-collides = c .before .before .before in
+    let at-if2 = at-collides .before in
+    let at-is-box = at-if2 .before in
+    let at-if1 = at-is-box .before in
+    let at-check-lent = at-if1 .before in
+    rw (← at-check-lent .check-lent .ensures, eq-eqb _ _ (at-if1 .if1 .left), ← at-is-box .is-box .ensures, at-if2 .if2 .taken, ← at-collides .collides .ensures, c .before .told .given .1)
+
 returns-3 : tie.Need-returns-3
 unfolding collidesEntry choose
-returns-3 c = rw (← c .before .before .before .before .before .before .before .before .before .check-tables .ensures, eq-eqb _ _ (c .before .before .before .before .before .before .before .before .if1 .left), ← c .before .before .before .before .before .before .before .check-window .ensures, eq-eqb _ _ (c .before .before .before .before .before .before .if2 .left), ← c .before .before .before .before .before .is-box .ensures, c .before .before .before .before .if3 .taken, ← c .before .before .before .collides .ensures, c .before .told .given .1)
+returns-3 c =
+    let at-collides = c .before .before .before in
+    let at-if2 = at-collides .before in
+    let at-is-box = at-if2 .before in
+    let at-if1 = at-is-box .before in
+    let at-check-lent = at-if1 .before in
+    rw (← at-check-lent .check-lent .ensures, eq-eqb _ _ (at-if1 .if1 .left), ← at-is-box .is-box .ensures, at-if2 .if2 .taken, ← at-collides .collides .ensures, c .before .told2 .given .1)
 
 returns-4 : tie.Need-returns-4
 unfolding collidesEntry choose
-returns-4 c = rw (← c .before .before .before .before .before .before .before .before .before .check-tables .ensures, eq-eqb _ _ (c .before .before .before .before .before .before .before .before .if1 .left), ← c .before .before .before .before .before .before .before .check-window .ensures, eq-eqb _ _ (c .before .before .before .before .before .before .if2 .left), ← c .before .before .before .before .before .is-box .ensures, c .before .before .before .before .if3 .taken, ← c .before .before .before .collides .ensures, c .before .told2 .given .1)
-
-returns-5 : tie.Need-returns-5
-unfolding collidesEntry choose
-returns-5 c = rw (← c .before .before .before .before .before .check-tables .ensures, eq-eqb _ _ (c .before .before .before .before .if1 .left), ← c .before .before .before .check-window .ensures, eq-eqb _ _ (c .before .before .if2 .left), ← c .before .is-box .ensures, c .if3 .left)
+returns-4 c =
+    let at-if1 = c .before .before in
+    let at-check-lent = at-if1 .before in
+    rw (← at-check-lent .check-lent .ensures, eq-eqb _ _ (at-if1 .if1 .left), ← c .before .is-box .ensures, c .if2 .left)
 
 pub collides-with-blocks-spec : {M : Type 1} → statement M
 collides-with-blocks-spec =
     tie.close
     (tie.spec
-    check-tables-requires
+    check-lent-requires
     returns
-    check-window-requires
-    returns-2
     is-box-requires
     collides-requires
     enum-known-told
     enum-known-told-2
+    returns-2
     returns-3
-    returns-4
-    returns-5)
+    returns-4)

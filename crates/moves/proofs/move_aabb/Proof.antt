@@ -1,30 +1,20 @@
 -- `moves::move_aabb` meets its contract. Assumes nothing.
-use Rattle.moves.specs.Answers.{moveEntry}
-use Rattle.base.specs.Choose.{choose}
 use borrow.Author.Tests.{eq-eqb, ne-eqb}
+use Rattle.base.specs.Choose.{choose}
+use Rattle.moves.specs.Answers.{moveEntry}
 use borrow.Author.Needs.{needs}
 use Rattle.moves.proofs.move_aabb.Statement.{statement}
 use Rattle.moves.proofs.move_aabb.Tie as tie
 
-check-tables-requires : tie.Need-check-tables-requires
-check-tables-requires c κs = search needs
+check-lent-requires : tie.Need-check-lent-requires
+check-lent-requires c κs = search needs
 
 refused-move-requires : tie.Need-refused-move-requires
 refused-move-requires c κs = search needs
 
 returns : tie.Need-returns
 unfolding moveEntry choose
-returns c = rw (← c .before .before .check-tables .ensures, ne-eqb _ _ (c .before .if1 .taken), ← c .refused-move .ensures)
-
-check-window-requires : tie.Need-check-window-requires
-check-window-requires c κs = search needs
-
-refused-move-requires-2 : tie.Need-refused-move-requires-2
-refused-move-requires-2 c κs = search needs
-
-returns-2 : tie.Need-returns-2
-unfolding moveEntry choose
-returns-2 c = rw (← c .before .before .before .before .check-tables .ensures, eq-eqb _ _ (c .before .before .before .if1 .left), ← c .before .before .check-window .ensures, ne-eqb _ _ (c .before .if2 .taken), ← c .refused-move2 .ensures)
+returns c = rw (← c .before .before .check-lent .ensures, ne-eqb _ _ (c .before .if1 .taken), ← c .refused-move .ensures)
 
 is-step-requires : tie.Need-is-step-requires
 is-step-requires c κs = search needs
@@ -38,53 +28,77 @@ move-through-requires c κs = search needs
 enum-known-told : tie.Need-enum-known-told
 enum-known-told c = search needs
 
-refused-move-requires-3 : tie.Need-refused-move-requires-3
-refused-move-requires-3 c κs = search needs
+refused-move-requires-2 : tie.Need-refused-move-requires-2
+refused-move-requires-2 c κs = search needs
 
 enum-known-told-2 : tie.Need-enum-known-told-2
 enum-known-told-2 c = search needs
 
+returns-2 : tie.Need-returns-2
+unfolding moveEntry choose
+returns-2 c =
+    let at-told = c .before .before in
+    let at-move-through = at-told .before .before in
+    let at-if3 = at-move-through .before in
+    let at-is-fit = at-if3 .before in
+    let at-if2 = at-is-fit .before in
+    let at-is-step = at-if2 .before in
+    let at-if1 = at-is-step .before in
+    let at-check-lent = at-if1 .before in
+    rw (← at-check-lent .check-lent .ensures, eq-eqb _ _ (at-if1 .if1 .left), ← at-is-step .is-step .ensures, at-if2 .if2 .taken, ← at-is-fit .is-fit .ensures, at-if3 .if3 .taken, ← at-move-through .move-through .ensures, at-told .told .given .1, ← c .refused-move2 .ensures)
+
 returns-3 : tie.Need-returns-3
 unfolding moveEntry choose
-returns-3 c = rw (← c .before .before .before .before .before .before .before .before .before .before .before .before .check-tables .ensures, eq-eqb _ _ (c .before .before .before .before .before .before .before .before .before .before .before .if1 .left), ← c .before .before .before .before .before .before .before .before .before .before .check-window .ensures, eq-eqb _ _ (c .before .before .before .before .before .before .before .before .before .if2 .left), ← c .before .before .before .before .before .before .before .before .is-step .ensures, c .before .before .before .before .before .before .before .if3 .taken, ← c .before .before .before .before .before .before .is-fit .ensures, c .before .before .before .before .before .if4 .taken, ← c .before .before .before .before .move-through .ensures, c .before .before .told .given .1, ← c .refused-move3 .ensures)
+returns-3 c =
+    let at-move-through = c .before .before .before in
+    let at-if3 = at-move-through .before in
+    let at-is-fit = at-if3 .before in
+    let at-if2 = at-is-fit .before in
+    let at-is-step = at-if2 .before in
+    let at-if1 = at-is-step .before in
+    let at-check-lent = at-if1 .before in
+    rw (← at-check-lent .check-lent .ensures, eq-eqb _ _ (at-if1 .if1 .left), ← at-is-step .is-step .ensures, at-if2 .if2 .taken, ← at-is-fit .is-fit .ensures, at-if3 .if3 .taken, ← at-move-through .move-through .ensures, c .before .told2 .given .1)
+
+refused-move-requires-3 : tie.Need-refused-move-requires-3
+refused-move-requires-3 c κs = search needs
 
 returns-4 : tie.Need-returns-4
 unfolding moveEntry choose
-returns-4 c = rw (← c .before .before .before .before .before .before .before .before .before .before .before .check-tables .ensures, eq-eqb _ _ (c .before .before .before .before .before .before .before .before .before .before .if1 .left), ← c .before .before .before .before .before .before .before .before .before .check-window .ensures, eq-eqb _ _ (c .before .before .before .before .before .before .before .before .if2 .left), ← c .before .before .before .before .before .before .before .is-step .ensures, c .before .before .before .before .before .before .if3 .taken, ← c .before .before .before .before .before .is-fit .ensures, c .before .before .before .before .if4 .taken, ← c .before .before .before .move-through .ensures, c .before .told2 .given .1)
+returns-4 c =
+    let at-is-fit = c .before .before in
+    let at-if2 = at-is-fit .before in
+    let at-is-step = at-if2 .before in
+    let at-if1 = at-is-step .before in
+    let at-check-lent = at-if1 .before in
+    rw (← at-check-lent .check-lent .ensures, eq-eqb _ _ (at-if1 .if1 .left), ← at-is-step .is-step .ensures, at-if2 .if2 .taken, ← at-is-fit .is-fit .ensures, c .before .if3 .left, ← c .refused-move3 .ensures)
 
 refused-move-requires-4 : tie.Need-refused-move-requires-4
 refused-move-requires-4 c κs = search needs
 
 returns-5 : tie.Need-returns-5
 unfolding moveEntry choose
-returns-5 c = rw (← c .before .before .before .before .before .before .before .before .check-tables .ensures, eq-eqb _ _ (c .before .before .before .before .before .before .before .if1 .left), ← c .before .before .before .before .before .before .check-window .ensures, eq-eqb _ _ (c .before .before .before .before .before .if2 .left), ← c .before .before .before .before .is-step .ensures, c .before .before .before .if3 .taken, ← c .before .before .is-fit .ensures, c .before .if4 .left, ← c .refused-move4 .ensures)
-
-refused-move-requires-5 : tie.Need-refused-move-requires-5
-refused-move-requires-5 c κs = search needs
-
-returns-6 : tie.Need-returns-6
-unfolding moveEntry choose
-returns-6 c = rw (← c .before .before .before .before .before .before .check-tables .ensures, eq-eqb _ _ (c .before .before .before .before .before .if1 .left), ← c .before .before .before .before .check-window .ensures, eq-eqb _ _ (c .before .before .before .if2 .left), ← c .before .before .is-step .ensures, c .before .if3 .left, ← c .refused-move5 .ensures)
+returns-5 c =
+    let at-is-step = c .before .before in
+    let at-if1 = at-is-step .before in
+    let at-check-lent = at-if1 .before in
+    rw (← at-check-lent .check-lent .ensures, eq-eqb _ _ (at-if1 .if1 .left), ← at-is-step .is-step .ensures, c .before .if2 .left, ← c .refused-move4 .ensures)
 
 pub move-aabb-spec : {M : Type 1} → statement M
 move-aabb-spec =
     tie.close
     (tie.spec
-    check-tables-requires
+    check-lent-requires
     refused-move-requires
     returns
-    check-window-requires
-    refused-move-requires-2
-    returns-2
     is-step-requires
     is-fit-requires
     move-through-requires
     enum-known-told
-    refused-move-requires-3
+    refused-move-requires-2
     enum-known-told-2
+    returns-2
     returns-3
+    refused-move-requires-3
     returns-4
     refused-move-requires-4
-    returns-5
-    refused-move-requires-5
-    returns-6)
+    returns-5)

@@ -1,5 +1,5 @@
 -- `onetick::main` is safe and ends. Assumes nothing.
-use Rattle.scene.proofs.Pieces.{written-most, written-length}
+use Rattle.text.proofs.Sizes.{written-most, written-length}
 use lib.ListN.{length, length-take}
 use Prim.Native.Nat.{_≤_}
 use mathlib.Core.Path.{_≡_, sym, ap, _∙_}
@@ -34,13 +34,13 @@ answer-requires c κs = search needs
 
 array-share-prefix-out : tie.Need-array-share-prefix-out
 array-share-prefix-out c =
-    let m : c .before .answer .result ≤ 160 = rw (c .before .answer .ensures .1) (written-most _ _) in
+    let m : c .before .answer .result ≤ 160 = rw (c .before .answer .ensures .1) (written-most _ _ _ _) in
     let l : length (c .before .answer .last .1 .0) ≡ 160 = ap length (c .before .answer .ensures .0) ∙ written-length _ _ ∙ sym (c .before .before .before .before .answer-room .ensures) in
     omega arith
 
 slice-aggregate-write-all : tie.Need-slice-aggregate-write-all
 slice-aggregate-write-all c =
-    let m : c .before .before .answer .result ≤ 160 = rw (c .before .before .answer .ensures .1) (written-most _ _) in
+    let m : c .before .before .answer .result ≤ 160 = rw (c .before .before .answer .ensures .1) (written-most _ _ _ _) in
     let l : length (c .before .before .answer .last .1 .0) ≡ 160 = ap length (c .before .before .answer .ensures .0) ∙ written-length _ _ ∙ sym (c .before .before .before .before .before .answer-room .ensures) in
     rw length-take (omega arith)
 

@@ -29,18 +29,32 @@ add-t6 c = let l = ltb-true (c .before .before .before .before .before .args .t 
 
 returns-2 : tie.Need-returns-2
 unfolding nextOf choose
-returns-2 c = rw (← c .before .before .before .before .has-next .ensures, c .before .before .before .if1 .left, ← c .before .before .has-next2 .ensures, c .before .if2 .taken)
+returns-2 c =
+    let at-has-next2 = c .before .before in
+    let at-if1 = at-has-next2 .before in
+    let at-has-next = at-if1 .before in
+    rw (← at-has-next .has-next .ensures, at-if1 .if1 .left, ← at-has-next2 .has-next2 .ensures, c .before .if2 .taken)
 
 add-t8 : tie.Need-add-t8
 add-t8 c = search needs
 
 returns-3 : tie.Need-returns-3
 unfolding nextOf choose
-returns-3 c = rw (← c .before .before .before .before .before .before .before .has-next .ensures, c .before .before .before .before .before .before .if1 .left, ← c .before .before .before .before .before .has-next2 .ensures, c .before .before .before .before .if2 .left, lt-ltb _ _ (c .before .if3 .taken))
+returns-3 c =
+    let at-if2 = c .before .before .before .before in
+    let at-has-next2 = at-if2 .before in
+    let at-if1 = at-has-next2 .before in
+    let at-has-next = at-if1 .before in
+    rw (← at-has-next .has-next .ensures, at-if1 .if1 .left, ← at-has-next2 .has-next2 .ensures, at-if2 .if2 .left, lt-ltb _ _ (c .before .if3 .taken))
 
 returns-4 : tie.Need-returns-4
 unfolding nextOf choose
-returns-4 c = rw (← c .before .before .before .before .before .before .has-next .ensures, c .before .before .before .before .before .if1 .left, ← c .before .before .before .before .has-next2 .ensures, c .before .before .before .if2 .left, le-ltb _ _ (c .if3 .left))
+returns-4 c =
+    let at-if2 = c .before .before .before in
+    let at-has-next2 = at-if2 .before in
+    let at-if1 = at-has-next2 .before in
+    let at-has-next = at-if1 .before in
+    rw (← at-has-next .has-next .ensures, at-if1 .if1 .left, ← at-has-next2 .has-next2 .ensures, at-if2 .if2 .left, le-ltb _ _ (c .if3 .left))
 
 pub next-spec : {M : Type 1} → statement M
 next-spec =

@@ -69,7 +69,11 @@ box-of-requires : tie.Need-box-of-requires
 box-of-requires c κs = search needs
 
 returns : tie.Need-returns
-returns c = c .box-of .ensures ∙ whole-box (c .before .before .before .before .before .before .before .before .before .before .args .shape .now) _ _ _ (c .before .before .before .before .before .before .before .before .wide .ensures) (c .before .before .before .before .before .before .before .if1 .taken)
+returns c =
+    let at-if1 = c .before .before .before .before .before .before .before in
+    let at-wide = at-if1 .before in
+    let start = at-wide .before .before in
+    c .box-of .ensures ∙ whole-box (start .args .shape .now) _ _ _ (at-wide .wide .ensures) (at-if1 .if1 .taken)
 
 cut-box-requires : tie.Need-cut-box-requires
 cut-box-requires c κs = search needs

@@ -44,7 +44,12 @@ f32-to-f64-with-nan-requires-6 : tie.Need-f32-to-f64-with-nan-requires-6
 f32-to-f64-with-nan-requires-6 c κs = search needs
 
 returns-2 : tie.Need-returns-2
-returns-2 c = rw (← c .before .before .before .before .before .f32-to-f64-with-nan .ensures, ← c .before .before .before .before .f32-to-f64-with-nan2 .ensures, ← c .before .before .before .f32-to-f64-with-nan3 .ensures, ← c .before .before .f32-to-f64-with-nan4 .ensures, ← c .before .f32-to-f64-with-nan5 .ensures, ← c .f32-to-f64-with-nan6 .ensures)
+returns-2 c =
+    let at-f32-to-f64-with-nan4 = c .before .before in
+    let at-f32-to-f64-with-nan3 = at-f32-to-f64-with-nan4 .before in
+    let at-f32-to-f64-with-nan2 = at-f32-to-f64-with-nan3 .before in
+    let at-f32-to-f64-with-nan = at-f32-to-f64-with-nan2 .before in
+    rw (← at-f32-to-f64-with-nan .f32-to-f64-with-nan .ensures, ← at-f32-to-f64-with-nan2 .f32-to-f64-with-nan2 .ensures, ← at-f32-to-f64-with-nan3 .f32-to-f64-with-nan3 .ensures, ← at-f32-to-f64-with-nan4 .f32-to-f64-with-nan4 .ensures, ← c .before .f32-to-f64-with-nan5 .ensures, ← c .f32-to-f64-with-nan6 .ensures)
 
 pub box-of-spec : {M : Type 1} → statement M
 box-of-spec =

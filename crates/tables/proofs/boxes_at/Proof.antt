@@ -44,7 +44,10 @@ part-result-end-2 : tie.Need-part-result-end-2
 part-result-end-2 c = search needs
 
 returns-2 : tie.Need-returns-2
-returns-2 c = whole-part _ _ _ _ _ (c .before .before .before .wide .ensures) (c .before .before .wide2 .ensures) (c .before .if2 .taken)
+returns-2 c =
+    let at-wide2 = c .before .before in
+    let at-wide = at-wide2 .before in
+    whole-part _ _ _ _ _ (at-wide .wide .ensures) (at-wide2 .wide2 .ensures) (c .before .if2 .taken)
 
 sub-result-3 : tie.Need-sub-result-3
 sub-result-3 c = search needs
@@ -56,7 +59,10 @@ part-result-end-3 : tie.Need-part-result-end-3
 part-result-end-3 c = search needs
 
 returns-3 : tie.Need-returns-3
-returns-3 c = short-part _ _ _ _ _ (c .before .before .before .wide .ensures) (c .before .before .wide2 .ensures) (c .before .if2 .left)
+returns-3 c =
+    let at-wide2 = c .before .before in
+    let at-wide = at-wide2 .before in
+    short-part _ _ _ _ _ (at-wide .wide .ensures) (at-wide2 .wide2 .ensures) (c .before .if2 .left)
 
 pub boxes-at-spec : {M : Type 1} → statement M
 boxes-at-spec =

@@ -43,7 +43,13 @@ float-at-requires-6 : tie.Need-float-at-requires-6
 float-at-requires-6 c κs = search needs
 
 returns : tie.Need-returns
-returns c = rw (← c .before .before .before .before .before .before .wide .ensures, ← c .before .before .before .before .before .float-at .ensures, ← c .before .before .before .before .float-at2 .ensures, ← c .before .before .before .float-at3 .ensures, ← c .before .before .float-at4 .ensures, ← c .before .float-at5 .ensures, ← c .float-at6 .ensures)
+returns c =
+    let at-float-at4 = c .before .before in
+    let at-float-at3 = at-float-at4 .before in
+    let at-float-at2 = at-float-at3 .before in
+    let at-float-at = at-float-at2 .before in
+    let at-wide = at-float-at .before in
+    rw (← at-wide .wide .ensures, ← at-float-at .float-at .ensures, ← at-float-at2 .float-at2 .ensures, ← at-float-at3 .float-at3 .ensures, ← at-float-at4 .float-at4 .ensures, ← c .before .float-at5 .ensures, ← c .float-at6 .ensures)
 
 pub cut-box-spec : {M : Type 1} → statement M
 cut-box-spec =

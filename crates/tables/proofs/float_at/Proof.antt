@@ -16,7 +16,10 @@ f32-to-f64-with-nan-requires : tie.Need-f32-to-f64-with-nan-requires
 f32-to-f64-with-nan-requires c κs = search needs
 
 returns : tie.Need-returns
-returns c = c .f32-to-f64-with-nan .ensures ∙ getD-any (c .before .before .before .before .args .shape .now) _ _ _ (c .before .before .if1 .taken)
+returns c =
+    let at-if1 = c .before .before in
+    let start = at-if1 .before .before in
+    c .f32-to-f64-with-nan .ensures ∙ getD-any (start .args .shape .now) _ _ _ (at-if1 .if1 .taken)
 
 returns-2 : tie.Need-returns-2
 returns-2 c = sym (List·getD-eq-default (c .before .before .args .shape .now) _ (c .if1 .left))

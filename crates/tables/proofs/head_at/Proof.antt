@@ -51,7 +51,11 @@ head-of-requires : tie.Need-head-of-requires
 head-of-requires c κs = search needs
 
 returns : tie.Need-returns
-returns c = c .head-of .ensures ∙ whole-head (c .before .before .before .before .before .before .before .before .args .records .now) _ _ _ (c .before .before .before .before .before .before .wide .ensures) (c .before .before .before .before .before .if1 .taken)
+returns c =
+    let at-if1 = c .before .before .before .before .before in
+    let at-wide = at-if1 .before in
+    let start = at-wide .before .before in
+    c .head-of .ensures ∙ whole-head (start .args .records .now) _ _ _ (at-wide .wide .ensures) (at-if1 .if1 .taken)
 
 word-requires : tie.Need-word-requires
 word-requires c κs = search needs
@@ -69,7 +73,11 @@ head-of-requires-2 : tie.Need-head-of-requires-2
 head-of-requires-2 c κs = search needs
 
 returns-2 : tie.Need-returns-2
-returns-2 c = rw (c .head-of2 .ensures, c .before .before .before .before .word .ensures, c .before .before .before .word2 .ensures, c .before .before .word3 .ensures, c .before .word4 .ensures)
+returns-2 c =
+    let at-word3 = c .before .before in
+    let at-word2 = at-word3 .before in
+    let at-word = at-word2 .before in
+    rw (c .head-of2 .ensures, at-word .word .ensures, at-word2 .word2 .ensures, at-word3 .word3 .ensures, c .before .word4 .ensures)
 
 pub head-at-spec : {M : Type 1} → statement M
 head-at-spec =

@@ -19,7 +19,11 @@ liquid-of-requires c κs = search needs
 
 returns : tie.Need-returns
 unfolding liquidAt choose
-returns c = rw (← c .before .before .before .before .is-registered .ensures, c .before .before .before .if1 .taken, ← c .before .before .word .ensures, ← c .before .word2 .ensures, ← c .liquid-of .ensures)
+returns c =
+    let at-word = c .before .before in
+    let at-if1 = at-word .before in
+    let at-is-registered = at-if1 .before in
+    rw (← at-is-registered .is-registered .ensures, at-if1 .if1 .taken, ← at-word .word .ensures, ← c .before .word2 .ensures, ← c .liquid-of .ensures)
 
 returns-2 : tie.Need-returns-2
 unfolding liquidAt choose

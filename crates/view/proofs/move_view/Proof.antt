@@ -44,15 +44,15 @@ use denote.Triple.Clauses.{ensured, lasts}
 use Rattle.moves.specs.Answers.{moveEntry}
 use Rattle.boxes.specs.declared.Aabb.{Aabb}
 use Rattle.boxes.specs.declared.Vec3.{Vec3}
-use Rattle.boxes.specs.declared.MoveAnswer.{MoveAnswer}
+use Rattle.sweeps.specs.declared.MoveAnswer.{MoveAnswer}
 use Rattle.window.proofs.Window as N
 use Rattle.window.proofs.Window.Laws as N′
 use Rattle.boxes.proofs.Aabb as X
 use Rattle.boxes.proofs.Aabb.Laws as X′
 use Rattle.boxes.proofs.Vec3 as Y
 use Rattle.boxes.proofs.Vec3.Laws as Y′
-use Rattle.boxes.proofs.MoveAnswer as R
-use Rattle.boxes.proofs.MoveAnswer.Laws as R′
+use Rattle.sweeps.proofs.MoveAnswer as R
+use Rattle.sweeps.proofs.MoveAnswer.Laws as R′
 use Rattle.view.specs.declared.View.{View}
 use Rattle.view.proofs.Apart.{Whole, Parts, apart}
 use Rattle.view.proofs.View as T

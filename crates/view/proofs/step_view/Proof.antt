@@ -40,18 +40,18 @@ use denote.Triple.Walked.{says, Stays, stay-none, stay-none-slice, walkOf, goes-
 use denote.Exit.{yes}
 use denote.Triple.Clauses.{ensured, lasts}
 use Rattle.step.specs.Answers.{stepEntry}
-use Rattle.step.specs.declared.Rules.{Rules}
-use Rattle.step.specs.declared.BodyNumbers.{BodyNumbers}
-use Rattle.step.specs.declared.MotionNumbers.{MotionNumbers}
+use Rattle.bodies.specs.declared.Rules.{Rules}
+use Rattle.bodies.specs.declared.BodyNumbers.{BodyNumbers}
+use Rattle.bodies.specs.declared.MotionNumbers.{MotionNumbers}
 use Rattle.step.specs.declared.StepAnswer.{StepAnswer}
 use Rattle.window.proofs.Window as N
 use Rattle.window.proofs.Window.Laws as N′
-use Rattle.step.proofs.Rules as X
-use Rattle.step.proofs.Rules.Laws as X′
-use Rattle.step.proofs.BodyNumbers as Y
-use Rattle.step.proofs.BodyNumbers.Laws as Y′
-use Rattle.step.proofs.MotionNumbers as Z
-use Rattle.step.proofs.MotionNumbers.Laws as Z′
+use Rattle.bodies.proofs.Rules as X
+use Rattle.bodies.proofs.Rules.Laws as X′
+use Rattle.bodies.proofs.BodyNumbers as Y
+use Rattle.bodies.proofs.BodyNumbers.Laws as Y′
+use Rattle.bodies.proofs.MotionNumbers as Z
+use Rattle.bodies.proofs.MotionNumbers.Laws as Z′
 use Rattle.step.proofs.StepAnswer as R
 use Rattle.step.proofs.StepAnswer.Laws as R′
 use Rattle.view.specs.declared.View.{View}

@@ -41,14 +41,22 @@ cell-at-requires c κs = search needs
 
 returns : tie.Need-returns
 unfolding cellIn choose
-returns c = rw (lt-ltb _ _ (c .before .before .before .before .if1 .taken), lt-ltb _ _ (c .before .before .before .if2 .taken), lt-ltb _ _ (c .before .before .if3 .taken), ← c .cell-at .ensures)
+returns c =
+    let at-if3 = c .before .before in
+    let at-if2 = at-if3 .before in
+    let at-if1 = at-if2 .before in
+    rw (lt-ltb _ _ (at-if1 .if1 .taken), lt-ltb _ _ (at-if2 .if2 .taken), lt-ltb _ _ (at-if3 .if3 .taken), ← c .cell-at .ensures)
 
 far-cell-requires : tie.Need-far-cell-requires
 far-cell-requires c κs = search needs
 
 returns-2 : tie.Need-returns-2
 unfolding cellIn choose
-returns-2 c = rw (lt-ltb _ _ (c .before .before .before .before .if1 .taken), lt-ltb _ _ (c .before .before .before .if2 .taken), lt-ltb _ _ (c .before .before .if3 .taken), ← c .far-cell .ensures)
+returns-2 c =
+    let at-if3 = c .before .before in
+    let at-if2 = at-if3 .before in
+    let at-if1 = at-if2 .before in
+    rw (lt-ltb _ _ (at-if1 .if1 .taken), lt-ltb _ _ (at-if2 .if2 .taken), lt-ltb _ _ (at-if3 .if3 .taken), ← c .far-cell .ensures)
 
 returns-3 : tie.Need-returns-3
 unfolding cellIn choose

@@ -26,15 +26,28 @@ cast-if3 c = let s = c .before .before .before .before .before .before .before .
 
 returns : tie.Need-returns
 unfolding windowRefusal windowFits choose
-returns c = rw (← c .before .before .before .before .before .before .sizes-fit .ensures, c .before .before .before .before .before .if1 .taken, ← c .before .before .before .before .origin-fits .ensures, c .before .before .before .if2 .taken, eq-eqb _ _ (c .if3 .taken))
+returns c =
+    let at-if2 = c .before .before .before in
+    let at-origin-fits = at-if2 .before in
+    let at-if1 = at-origin-fits .before in
+    let at-sizes-fit = at-if1 .before in
+    rw (← at-sizes-fit .sizes-fit .ensures, at-if1 .if1 .taken, ← at-origin-fits .origin-fits .ensures, at-if2 .if2 .taken, eq-eqb _ _ (c .if3 .taken))
 
 returns-2 : tie.Need-returns-2
 unfolding windowRefusal windowFits choose
-returns-2 c = rw (← c .before .before .before .before .before .before .sizes-fit .ensures, c .before .before .before .before .before .if1 .taken, ← c .before .before .before .before .origin-fits .ensures, c .before .before .before .if2 .taken, ne-eqb _ _ (c .if3 .left))
+returns-2 c =
+    let at-if2 = c .before .before .before in
+    let at-origin-fits = at-if2 .before in
+    let at-if1 = at-origin-fits .before in
+    let at-sizes-fit = at-if1 .before in
+    rw (← at-sizes-fit .sizes-fit .ensures, at-if1 .if1 .taken, ← at-origin-fits .origin-fits .ensures, at-if2 .if2 .taken, ne-eqb _ _ (c .if3 .left))
 
 returns-3 : tie.Need-returns-3
 unfolding windowRefusal windowFits choose
-returns-3 c = rw (← c .before .before .before .sizes-fit .ensures, c .before .before .if1 .taken, ← c .before .origin-fits .ensures, c .if2 .left)
+returns-3 c =
+    let at-if1 = c .before .before in
+    let at-sizes-fit = at-if1 .before in
+    rw (← at-sizes-fit .sizes-fit .ensures, at-if1 .if1 .taken, ← c .before .origin-fits .ensures, c .if2 .left)
 
 returns-4 : tie.Need-returns-4
 unfolding windowRefusal windowFits choose

@@ -16,7 +16,10 @@ clipped-requires : tie.Need-clipped-requires
 clipped-requires c κs = search needs
 
 returns : tie.Need-returns
-returns c = rw (c .clipped .ensures, c .before .before .before .on-y .ensures, c .before .before .on-z .ensures, c .before .on-x .ensures)
+returns c =
+    let at-on-z = c .before .before in
+    let at-on-y = at-on-z .before in
+    rw (c .clipped .ensures, at-on-y .on-y .ensures, at-on-z .on-z .ensures, c .before .on-x .ensures)
 
 pub clip-x-spec : {M : Type 1} → statement M
 clip-x-spec =

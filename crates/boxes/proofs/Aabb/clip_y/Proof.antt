@@ -16,7 +16,10 @@ clipped-requires : tie.Need-clipped-requires
 clipped-requires c κs = search needs
 
 returns : tie.Need-returns
-returns c = rw (c .clipped .ensures, c .before .before .before .on-x .ensures, c .before .before .on-z .ensures, c .before .on-y .ensures)
+returns c =
+    let at-on-z = c .before .before in
+    let at-on-x = at-on-z .before in
+    rw (c .clipped .ensures, at-on-x .on-x .ensures, at-on-z .on-z .ensures, c .before .on-y .ensures)
 
 pub clip-y-spec : {M : Type 1} → statement M
 clip-y-spec =

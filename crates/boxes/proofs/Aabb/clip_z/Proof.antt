@@ -16,7 +16,10 @@ clipped-requires : tie.Need-clipped-requires
 clipped-requires c κs = search needs
 
 returns : tie.Need-returns
-returns c = rw (c .clipped .ensures, c .before .before .before .on-x .ensures, c .before .before .on-y .ensures, c .before .on-z .ensures)
+returns c =
+    let at-on-y = c .before .before in
+    let at-on-x = at-on-y .before in
+    rw (c .clipped .ensures, at-on-x .on-x .ensures, at-on-y .on-y .ensures, c .before .on-z .ensures)
 
 pub clip-z-spec : {M : Type 1} → statement M
 clip-z-spec =

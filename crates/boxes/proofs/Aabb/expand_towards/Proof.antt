@@ -10,7 +10,10 @@ highs-requires : tie.Need-highs-requires
 highs-requires c κs = search needs
 
 returns : tie.Need-returns
-returns c = rw (c .before .before .before .before .before .before .before .before .before .before .before .before .before .lows .ensures, c .before .before .before .before .before .before .before .before .before .before .before .before .highs .ensures)
+returns c =
+    let at-highs = c .before .before .before .before .before .before .before .before .before .before .before .before in
+    let at-lows = at-highs .before in
+    rw (at-lows .lows .ensures, at-highs .highs .ensures)
 
 pub expand-towards-spec : {M : Type 1} → statement M
 expand-towards-spec = tie.close (tie.spec lows-requires highs-requires returns)

@@ -15,11 +15,18 @@ meets-requires-3 c κs = search needs
 
 returns : tie.Need-returns
 unfolding choose
-returns c = rw (← c .before .before .before .before .meets .ensures, c .before .before .before .if1 .taken, ← c .before .before .meets2 .ensures, c .before .if2 .taken, ← c .meets3 .ensures)
+returns c =
+    let at-meets2 = c .before .before in
+    let at-if1 = at-meets2 .before in
+    let at-meets = at-if1 .before in
+    rw (← at-meets .meets .ensures, at-if1 .if1 .taken, ← at-meets2 .meets2 .ensures, c .before .if2 .taken, ← c .meets3 .ensures)
 
 returns-2 : tie.Need-returns-2
 unfolding choose
-returns-2 c = rw (← c .before .before .before .meets .ensures, c .before .before .if1 .taken, ← c .before .meets2 .ensures, c .if2 .left)
+returns-2 c =
+    let at-if1 = c .before .before in
+    let at-meets = at-if1 .before in
+    rw (← at-meets .meets .ensures, at-if1 .if1 .taken, ← c .before .meets2 .ensures, c .if2 .left)
 
 returns-3 : tie.Need-returns-3
 unfolding choose

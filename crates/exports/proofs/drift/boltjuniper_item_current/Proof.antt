@@ -15,7 +15,11 @@ same-length : tie.Need-same-length
 same-length c = search needs
 
 returns : tie.Need-returns
-returns c = rw (c .before .before .before .before .window-of .ensures, toZ-ofZ w32 (c .before .before .before .before .before .before .before .before .args .ox) (c .before .before .before .before .before .before .before .before .fits .ox), toZ-ofZ w32 (c .before .before .before .before .before .before .before .before .args .oy) (c .before .before .before .before .before .before .before .before .fits .oy), toZ-ofZ w32 (c .before .before .before .before .before .before .before .before .args .oz) (c .before .before .before .before .before .before .before .before .fits .oz)) at (c .before .before .current-into .ensures)
+returns c =
+    let at-current-into = c .before .before in
+    let at-window-of = at-current-into .before .before in
+    let start = at-window-of .before .before .before .before in
+    rw (at-window-of .window-of .ensures, toZ-ofZ w32 (start .args .ox) (start .fits .ox), toZ-ofZ w32 (start .args .oy) (start .fits .oy), toZ-ofZ w32 (start .args .oz) (start .fits .oz)) at (at-current-into .current-into .ensures)
 
 pub boltjuniper-item-current-spec : {M : Type 1} → statement M
 boltjuniper-item-current-spec =

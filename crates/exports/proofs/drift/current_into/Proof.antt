@@ -1,12 +1,12 @@
 -- `exports::drift::current_into` meets its contract. Assumes nothing.
 use mathlib.Core.Path.{refl}
-use Rattle.exports.specs.Ticks.{currentAt}
+use Rattle.exports.specs.Currents.{currentAt}
 use borrow.Author.Needs.{needs}
 use Rattle.exports.proofs.drift.current_into.Statement.{statement}
 use Rattle.exports.proofs.drift.current_into.Tie as tie
 
-cell-at-requires : tie.Need-cell-at-requires
-cell-at-requires c κs = search needs
+cell-holding-requires : tie.Need-cell-holding-requires
+cell-holding-requires c κs = search needs
 
 liquid-at-requires : tie.Need-liquid-at-requires
 liquid-at-requires c κs = search needs
@@ -16,7 +16,10 @@ enum-known-n c = search needs
 
 returns : tie.Need-returns
 unfolding currentAt
-returns c = rw (← c .before .before .before .before .cell-at .ensures, ← c .before .before .before .liquid-at .ensures, c .before .n .given .1) (refl, refl)
+returns c =
+    let at-liquid-at = c .before .before .before in
+    let at-cell-holding = at-liquid-at .before in
+    rw (← at-cell-holding .cell-holding .ensures, ← at-liquid-at .liquid-at .ensures, c .before .n .given .1) (refl, refl)
 
 enum-known-s : tie.Need-enum-known-s
 enum-known-s c = search needs
@@ -38,20 +41,34 @@ put-current-requires c κs = search needs
 
 returns-2 : tie.Need-returns-2
 unfolding currentAt
-returns-2 c = rw (← c .before .before .before .before .before .before .before .before .before .cell-at .ensures, ← c .before .before .before .before .before .before .before .before .liquid-at .ensures, c .before .before .before .before .before .before .s .given .1, ← c .before .before .before .before .from-feet .ensures, ← c .before .before .before .item-current .ensures, c .before .n2 .given .1) (refl, refl)
+returns-2 c =
+    let at-item-current = c .before .before .before in
+    let at-from-feet = at-item-current .before in
+    let at-s = at-from-feet .before .before in
+    let at-liquid-at = at-s .before .before in
+    let at-cell-holding = at-liquid-at .before in
+    rw (← at-cell-holding .cell-holding .ensures, ← at-liquid-at .liquid-at .ensures, at-s .s .given .1, ← at-from-feet .from-feet .ensures, ← at-item-current .item-current .ensures, c .before .n2 .given .1) (refl, refl)
 
 same-length : tie.Need-same-length
 same-length c = search needs
 
 returns-3 : tie.Need-returns-3
 unfolding currentAt
-returns-3 c = rw (← c .before .before .before .before .before .before .before .before .before .before .before .before .before .cell-at .ensures, ← c .before .before .before .before .before .before .before .before .before .before .before .before .liquid-at .ensures, c .before .before .before .before .before .before .before .before .before .before .s .given .1, ← c .before .before .before .before .before .before .before .before .from-feet .ensures, ← c .before .before .before .before .before .before .before .item-current .ensures, c .before .before .before .before .before .c .given .1, c .before .before .put-current .ensures) (refl, refl)
+returns-3 c =
+    let at-put-current = c .before .before in
+    let at-c = at-put-current .before .before .before in
+    let at-item-current = at-c .before .before in
+    let at-from-feet = at-item-current .before in
+    let at-s = at-from-feet .before .before in
+    let at-liquid-at = at-s .before .before in
+    let at-cell-holding = at-liquid-at .before in
+    rw (← at-cell-holding .cell-holding .ensures, ← at-liquid-at .liquid-at .ensures, at-s .s .given .1, ← at-from-feet .from-feet .ensures, ← at-item-current .item-current .ensures, at-c .c .given .1, at-put-current .put-current .ensures) (refl, refl)
 
 pub current-into-spec : {M : Type 1} → statement M
 current-into-spec =
     tie.close
     (tie.spec
-    cell-at-requires
+    cell-holding-requires
     liquid-at-requires
     enum-known-n
     returns

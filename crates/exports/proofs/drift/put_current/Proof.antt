@@ -18,7 +18,11 @@ same-length c = search needs
 
 returns : tie.Need-returns
 unfolding stored
-returns c = rw (c .before .before .put .ensures, c .before .before .before .flag-of .ensures, c .before .before .before .before .before .before .before .put-vec .ensures)
+returns c =
+    let at-put = c .before .before in
+    let at-flag-of = at-put .before in
+    let at-put-vec = at-flag-of .before .before .before .before in
+    rw (at-put .put .ensures, at-flag-of .flag-of .ensures, at-put-vec .put-vec .ensures)
 
 pub put-current-spec : {M : Type 1} → statement M
 put-current-spec =

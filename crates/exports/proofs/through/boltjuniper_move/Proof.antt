@@ -1,6 +1,10 @@
 -- `exports::through::boltjuniper_move` meets its contract. Assumes nothing.
+use mathlib.Core.Path.{sym, _∙_}
 use mir.Syntax.{w32}
 use mir.ValLaws.{toZ-ofZ}
+use lib.ListN.{length}
+use Rattle.window.specs.Numbers.{windowOf}
+use Rattle.exports.proofs.Movers.{move-whole, short-move}
 use borrow.Author.Needs.{needs}
 use Rattle.exports.proofs.through.boltjuniper_move.Statement.{statement}
 use Rattle.exports.proofs.through.boltjuniper_move.Tie as tie
@@ -8,14 +12,17 @@ use Rattle.exports.proofs.through.boltjuniper_move.Tie as tie
 window-of-requires : tie.Need-window-of-requires
 window-of-requires c κs = search needs
 
-aabb-at-requires : tie.Need-aabb-at-requires
-aabb-at-requires c κs = search needs
+whole-move-requires : tie.Need-whole-move-requires
+whole-move-requires c κs = search needs
 
-vec-at-requires : tie.Need-vec-at-requires
-vec-at-requires c κs = search needs
+first-box-requires : tie.Need-first-box-requires
+first-box-requires c κs = search needs
 
-move-aabb-requires : tie.Need-move-aabb-requires
-move-aabb-requires c κs = search needs
+vec-from-requires : tie.Need-vec-from-requires
+vec-from-requires c κs = search needs
+
+move-window-requires : tie.Need-move-window-requires
+move-window-requires c κs = search needs
 
 move-into-requires : tie.Need-move-into-requires
 move-into-requires c κs = search needs
@@ -24,16 +31,41 @@ same-length : tie.Need-same-length
 same-length c = search needs
 
 returns : tie.Need-returns
-returns c = rw (c .before .before .before .move-aabb .ensures, c .before .before .before .before .before .before .before .window-of .ensures, c .before .before .before .before .before .before .aabb-at .ensures, c .before .before .before .before .before .vec-at .ensures, toZ-ofZ w32 (c .before .before .before .before .before .before .before .before .before .before .before .before .before .args .ox) (c .before .before .before .before .before .before .before .before .before .before .before .before .before .fits .ox), toZ-ofZ w32 (c .before .before .before .before .before .before .before .before .before .before .before .before .before .args .oy) (c .before .before .before .before .before .before .before .before .before .before .before .before .before .fits .oy), toZ-ofZ w32 (c .before .before .before .before .before .before .before .before .before .before .before .before .before .args .oz) (c .before .before .before .before .before .before .before .before .before .before .before .before .before .fits .oz)) at (c .before .before .move-into .ensures)
+returns c =
+    let s = c .before .before .before .before .before .before .before .before .before .before .before .before .before .before .before in
+    let a = s .args in
+    let whole = sym (c .before .before .before .before .before .before .before .before .whole-move .ensures) ∙ c .before .before .before .before .before .before .before .if1 .taken in
+    rw (c .before .before .before .before .move-window .ensures, c .before .before .before .before .before .before .before .before .before .window-of .ensures, c .before .before .before .before .before .before .first-box .ensures, c .before .before .before .before .before .vec-from .ensures, toZ-ofZ w32 (s .args .ox) (s .fits .ox), toZ-ofZ w32 (s .args .oy) (s .fits .oy), toZ-ofZ w32 (s .args .oz) (s .fits .oz), move-whole (a .records .now) (a .shapes .now) (a .cells .now) (windowOf (a .ox) (a .oy) (a .oz) (a .sx) (a .sy) (a .sz)) (a .mover .now) (a .step) (a .ground) (length (a .out .now)) whole) at (c .before .before .move-into .ensures)
+
+check-lent-requires : tie.Need-check-lent-requires
+check-lent-requires c κs = search needs
+
+mover-refusal-requires : tie.Need-mover-refusal-requires
+mover-refusal-requires c κs = search needs
+
+short-of-requires : tie.Need-short-of-requires
+short-of-requires c κs = search needs
+
+returns-2 : tie.Need-returns-2
+returns-2 c =
+    let s = c .before .before .before .before .before .before .before .before .before .before .before in
+    let a = s .args in
+    let first = rw (c .before .before .before .before .before .window-of .ensures, toZ-ofZ w32 (s .args .ox) (s .fits .ox), toZ-ofZ w32 (s .args .oy) (s .fits .oy), toZ-ofZ w32 (s .args .oz) (s .fits .oz)) at (c .before .before .check-lent .ensures) in
+    short-move (a .records .now) (a .shapes .now) (a .cells .now) (windowOf (a .ox) (a .oy) (a .oz) (a .sx) (a .sy) (a .sz)) (a .mover .now) (a .step) (a .ground) (a .out .now) _ (sym (c .before .before .before .before .whole-move .ensures) ∙ c .before .before .before .if1 .left) (rw (c .before .mover-refusal .ensures, first) at (c .short-of .ensures))
 
 pub boltjuniper-move-spec : {M : Type 1} → statement M
 boltjuniper-move-spec =
     tie.close
     (tie.spec
     window-of-requires
-    aabb-at-requires
-    vec-at-requires
-    move-aabb-requires
+    whole-move-requires
+    first-box-requires
+    vec-from-requires
+    move-window-requires
     move-into-requires
     same-length
-    returns)
+    returns
+    check-lent-requires
+    mover-refusal-requires
+    short-of-requires
+    returns-2)

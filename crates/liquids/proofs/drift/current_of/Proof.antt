@@ -7,15 +7,18 @@ use Rattle.liquids.proofs.drift.current_of.Tie as tie
 zero-requires : tie.Need-zero-requires
 zero-requires c κs = search needs
 
-push-requires : tie.Need-push-requires
-push-requires c κs = search needs
+carry-requires : tie.Need-carry-requires
+carry-requires c κs = search needs
 
-push-requires-2 : tie.Need-push-requires-2
-push-requires-2 c κs = search needs
+carry-requires-2 : tie.Need-carry-requires-2
+carry-requires-2 c κs = search needs
 
 returns : tie.Need-returns
 unfolding currentOf
-returns c = rw (← c .before .before .before .zero .ensures, ← c .before .before .push .ensures, ← c .before .push2 .ensures)
+returns c =
+    let at-carry = c .before .before in
+    let at-zero = at-carry .before in
+    rw (← at-zero .zero .ensures, ← at-carry .carry .ensures, ← c .before .carry2 .ensures)
 
 pub current-of-spec : {M : Type 1} → statement M
-current-of-spec = tie.close (tie.spec zero-requires push-requires push-requires-2 returns)
+current-of-spec = tie.close (tie.spec zero-requires carry-requires carry-requires-2 returns)

@@ -31,11 +31,24 @@ gather-requires c κs = search needs
 
 returns : tie.Need-returns
 unfolding currentTurn choose
-returns c = rw (← c .before .before .before .before .before .before .before .before .before .liquid-known .ensures, c .before .before .before .before .before .before .before .here .given .1, ← c .before .before .before .before .before .is-liquid .ensures, c .before .before .before .before .if1 .taken, ← c .before .before .before .liquid-flow .ensures, c .before .n2 .given .1)
+returns c =
+    let at-liquid-flow = c .before .before .before in
+    let at-if1 = at-liquid-flow .before in
+    let at-is-liquid = at-if1 .before in
+    let at-here = at-is-liquid .before .before in
+    let at-liquid-known = at-here .before .before in
+    rw (← at-liquid-known .liquid-known .ensures, at-here .here .given .1, ← at-is-liquid .is-liquid .ensures, at-if1 .if1 .taken, ← at-liquid-flow .liquid-flow .ensures, c .before .n2 .given .1)
 
 returns-2 : tie.Need-returns-2
 unfolding currentTurn choose
-returns-2 c = rw (← c .before .before .before .before .before .before .before .before .before .before .liquid-known .ensures, c .before .before .before .before .before .before .before .before .here .given .1, ← c .before .before .before .before .before .before .is-liquid .ensures, c .before .before .before .before .before .if1 .taken, ← c .before .before .before .before .liquid-flow .ensures, c .before .before .flow .given .1, ← c .gather .ensures)
+returns-2 c =
+    let at-flow = c .before .before in
+    let at-liquid-flow = at-flow .before .before in
+    let at-if1 = at-liquid-flow .before in
+    let at-is-liquid = at-if1 .before in
+    let at-here = at-is-liquid .before .before in
+    let at-liquid-known = at-here .before .before in
+    rw (← at-liquid-known .liquid-known .ensures, at-here .here .given .1, ← at-is-liquid .is-liquid .ensures, at-if1 .if1 .taken, ← at-liquid-flow .liquid-flow .ensures, at-flow .flow .given .1, ← c .gather .ensures)
 
 returns-3 : tie.Need-returns-3
 unfolding currentTurn choose
@@ -43,7 +56,10 @@ returns-3 c = rw (← c .before .before .before .liquid-known .ensures, c .befor
 
 returns-4 : tie.Need-returns-4
 unfolding currentTurn choose
-returns-4 c = rw (← c .before .before .before .before .before .liquid-known .ensures, c .before .before .before .here .given .1, ← c .before .is-liquid .ensures, c .if1 .left)
+returns-4 c =
+    let at-here = c .before .before .before in
+    let at-liquid-known = at-here .before .before in
+    rw (← at-liquid-known .liquid-known .ensures, at-here .here .given .1, ← c .before .is-liquid .ensures, c .if1 .left)
 
 pub current-turn-spec : {M : Type 1} → statement M
 current-turn-spec =

@@ -10,14 +10,14 @@ enum-told c = search needs
 enum-told-2 : tie.Need-enum-told-2
 enum-told-2 c = search needs
 
-join-requires : tie.Need-join-requires
-join-requires c κs = search needs
+stream-with-requires : tie.Need-stream-with-requires
+stream-with-requires c κs = search needs
 
 enum-told-3 : tie.Need-enum-told-3
 enum-told-3 c = search needs
 
-join-requires-2 : tie.Need-join-requires-2
-join-requires-2 c κs = search needs
+stream-with-requires-2 : tie.Need-stream-with-requires-2
+stream-with-requires-2 c κs = search needs
 
 returns : tie.Need-returns
 unfolding gathered
@@ -25,11 +25,11 @@ returns c = rw (c .enum-told .given .1)
 
 returns-2 : tie.Need-returns-2
 unfolding gathered
-returns-2 c = rw (c .before .enum-told2 .given .1, ← c .join .ensures)
+returns-2 c = rw (c .before .enum-told2 .given .1, ← c .stream-with .ensures)
 
 returns-3 : tie.Need-returns-3
 unfolding gathered
-returns-3 c = rw (c .before .enum-told3 .given .1, ← c .join2 .ensures)
+returns-3 c = rw (c .before .enum-told3 .given .1, ← c .stream-with2 .ensures)
 
 pub gather-spec : {M : Type 1} → statement M
 gather-spec =
@@ -37,9 +37,9 @@ gather-spec =
     (tie.spec
     enum-told
     enum-told-2
-    join-requires
+    stream-with-requires
     enum-told-3
-    join-requires-2
+    stream-with-requires-2
     returns
     returns-2
     returns-3)

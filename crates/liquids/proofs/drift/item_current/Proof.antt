@@ -5,7 +5,8 @@ use Rattle.window.specs.Look.{lookAt}
 use mathlib.Core.Path.{ap}
 use borrow.Author.Needs.{needs}
 use Rattle.liquids.specs.Current.{currentTurn, itemCurrent}
-use Rattle.liquids.specs.Answers.{turnedOn}
+use Rattle.base.specs.Choose.{choose}
+use Rattle.liquids.specs.Answers.{gatheredAsked}
 use Rattle.liquids.proofs.drift.item_current.Statement.{statement}
 use Rattle.liquids.proofs.drift.item_current.Tie as tie
 
@@ -14,6 +15,13 @@ Inv-loop records cells w foot state r s₀ t₀ s t = Walked (currentTurn (lookA
 
 abbrev μ-loop : tie.MeasureT-loop
 μ-loop records cells w foot state r s₀ t₀ s t = left r t
+
+is-beyond-requires : tie.Need-is-beyond-requires Inv-loop μ-loop
+is-beyond-requires c κs = search needs
+
+returns : tie.Need-returns Inv-loop μ-loop
+unfolding itemCurrent choose
+returns c = rw (← c .before .is-beyond .ensures, c .if1 .taken)
 
 reach-of-requires : tie.Need-reach-of-requires Inv-loop μ-loop
 reach-of-requires c κs = search needs
@@ -36,9 +44,13 @@ current-turn-requires c κs = search needs
 enum-known-n : tie.Need-enum-known-n Inv-loop μ-loop
 enum-known-n c = search needs
 
-returns : tie.Need-returns Inv-loop μ-loop
-unfolding itemCurrent
-returns c = rw (← c .before .before .before .before .before .before .before .before .before .before .before .reach-of .ensures, ← c .before .before .before .before .before .before .before .before .before .before .no-streams .ensures, walked-stop (c .before .before .before .before .before .before .before .before .loop .inv) (c .before .before .before .before .before .if1 .taken) (c .before .before .before .before .place .ensures) (c .before .before .before .current-turn .ensures) _ (ap turnedOn (c .before .n .given .1)))
+returns-2 : tie.Need-returns-2 Inv-loop μ-loop
+unfolding itemCurrent choose
+returns-2 c =
+    let turn = c .before .before .before in
+    let went = turn .before .before .before .before .before in
+    let start = went .before .before in
+    rw (← start .before .before .before .is-beyond .ensures, start .before .before .if1 .left, ← start .before .reach-of .ensures, ← start .no-streams .ensures, walked-stop (went .loop .inv) (turn .before .before .if2 .taken) (turn .before .place .ensures) (turn .current-turn .ensures) _ (ap gatheredAsked (c .before .n .given .1)))
 
 enum-known-g : tie.Need-enum-known-g Inv-loop μ-loop
 enum-known-g c = search needs
@@ -47,17 +59,24 @@ next-requires : tie.Need-next-requires Inv-loop μ-loop
 next-requires c κs = search needs
 
 loop-less : tie.Need-loop-less Inv-loop μ-loop
-loop-less c = walked-less (c .before .before .before .before .before .before .before .before .before .loop .inv) (c .before .before .before .before .before .before .if1 .taken) _ (c .next .ensures)
+loop-less c =
+    let turn = c .before .before .before .before in
+    walked-less (turn .before .before .before .before .before .loop .inv) (turn .before .before .if2 .taken) _ (c .next .ensures)
 
 loop-again : tie.Need-loop-again Inv-loop μ-loop
-loop-again c = walked-next (c .before .before .before .before .before .before .before .before .before .loop .inv) (c .before .before .before .before .before .before .if1 .taken) (c .before .before .before .before .before .place .ensures) (c .before .before .before .before .current-turn .ensures) _ (ap turnedOn (c .before .before .g .given .1)) _ (c .next .ensures)
+loop-again c =
+    let turn = c .before .before .before .before in
+    walked-next (turn .before .before .before .before .before .loop .inv) (turn .before .before .if2 .taken) (turn .before .place .ensures) (turn .current-turn .ensures) _ (ap gatheredAsked (c .before .before .g .given .1)) _ (c .next .ensures)
 
 current-of-requires : tie.Need-current-of-requires Inv-loop μ-loop
 current-of-requires c κs = search needs
 
-returns-2 : tie.Need-returns-2 Inv-loop μ-loop
-unfolding itemCurrent
-returns-2 c = rw (← c .before .before .before .before .before .before .before .reach-of .ensures, ← c .before .before .before .before .before .before .no-streams .ensures, walked-end (c .before .before .before .before .loop .inv) (c .before .if1 .left), c .current-of .ensures)
+returns-3 : tie.Need-returns-3 Inv-loop μ-loop
+unfolding itemCurrent choose
+returns-3 c =
+    let went = c .before .before .before .before in
+    let start = went .before .before in
+    rw (← start .before .before .before .is-beyond .ensures, start .before .before .if1 .left, ← start .before .reach-of .ensures, ← start .no-streams .ensures, walked-end (went .loop .inv) (c .before .if2 .left), c .current-of .ensures)
 
 pub item-current-spec : {M : Type 1} → statement M
 item-current-spec =
@@ -65,6 +84,8 @@ item-current-spec =
     (tie.spec
     Inv-loop
     μ-loop
+    is-beyond-requires
+    returns
     reach-of-requires
     no-streams-requires
     start-requires
@@ -72,10 +93,10 @@ item-current-spec =
     place-requires
     current-turn-requires
     enum-known-n
-    returns
+    returns-2
     enum-known-g
     next-requires
     loop-less
     loop-again
     current-of-requires
-    returns-2)
+    returns-3)

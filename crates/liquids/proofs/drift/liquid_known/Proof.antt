@@ -1,6 +1,6 @@
 -- `liquids::drift::liquid_known` meets its contract. Assumes nothing.
 use Rattle.liquids.specs.Current.{liquidKnown}
-use Rattle.liquids.specs.Liquid.{liquidAsked}
+use Rattle.flow.specs.Liquid.{liquidHeld}
 use Rattle.base.specs.Choose.{choose}
 use borrow.Author.Needs.{needs}
 use Rattle.liquids.proofs.drift.liquid_known.Statement.{statement}
@@ -10,7 +10,7 @@ same-pos-requires : tie.Need-same-pos-requires
 same-pos-requires c κs = search needs
 
 returns : tie.Need-returns
-unfolding liquidKnown liquidAsked choose
+unfolding liquidKnown liquidHeld choose
 returns c = rw (← c .before .same-pos .ensures, c .if1 .taken)
 
 look-requires : tie.Need-look-requires
@@ -20,8 +20,11 @@ liquid-told-requires : tie.Need-liquid-told-requires
 liquid-told-requires c κs = search needs
 
 returns-2 : tie.Need-returns-2
-unfolding liquidKnown liquidAsked choose
-returns-2 c = rw (← c .before .before .before .same-pos .ensures, c .before .before .if1 .left, ← c .before .look .ensures, ← c .liquid-told .ensures)
+unfolding liquidKnown liquidHeld choose
+returns-2 c =
+    let at-if1 = c .before .before in
+    let at-same-pos = at-if1 .before in
+    rw (← at-same-pos .same-pos .ensures, at-if1 .if1 .left, ← c .before .look .ensures, ← c .liquid-told .ensures)
 
 pub liquid-known-spec : {M : Type 1} → statement M
 liquid-known-spec =

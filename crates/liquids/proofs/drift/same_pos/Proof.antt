@@ -17,15 +17,38 @@ same-number-requires-3 c κs = search needs
 
 returns : tie.Need-returns
 unfolding samePos choose
-returns c = rw (← same-read _ (c .before .before .before .before .before .before .before .before .before .before .before .args .p .x) (c .before .before .before .before .before .before .before .before .before .before .before .args .q .x) (c .before .before .before .before .before .before .before .before .before .before .struct-told .given .0 .1) (c .before .before .before .before .before .before .before .before .before .struct-told2 .given .0 .1) (c .before .before .before .before .before .before .before .before .same-number .ensures), c .before .before .before .before .before .before .before .if1 .taken, ← same-read _ (c .before .before .before .before .before .before .before .before .before .before .before .args .p .y) (c .before .before .before .before .before .before .before .before .before .before .before .args .q .y) (c .before .before .before .before .before .before .struct-told3 .given .1 .0 .1) (c .before .before .before .before .before .struct-told4 .given .1 .0 .1) (c .before .before .before .before .same-number2 .ensures), c .before .before .before .if2 .taken, ← same-read _ (c .before .before .before .before .before .before .before .before .before .before .before .args .p .z) (c .before .before .before .before .before .before .before .before .before .before .before .args .q .z) (c .before .before .struct-told5 .given .1 .1 .0 .1) (c .before .struct-told6 .given .1 .1 .0 .1) (c .same-number3 .ensures))
+returns c =
+    let at-struct-told5 = c .before .before in
+    let at-if2 = at-struct-told5 .before in
+    let at-same-number2 = at-if2 .before in
+    let at-struct-told4 = at-same-number2 .before in
+    let at-struct-told3 = at-struct-told4 .before in
+    let at-if1 = at-struct-told3 .before in
+    let at-same-number = at-if1 .before in
+    let at-struct-told2 = at-same-number .before in
+    let at-struct-told = at-struct-told2 .before in
+    let start = at-struct-told .before in
+    rw (← same-read _ (start .args .p .x) (start .args .q .x) (at-struct-told .struct-told .given .0 .1) (at-struct-told2 .struct-told2 .given .0 .1) (at-same-number .same-number .ensures), at-if1 .if1 .taken, ← same-read _ (start .args .p .y) (start .args .q .y) (at-struct-told3 .struct-told3 .given .1 .0 .1) (at-struct-told4 .struct-told4 .given .1 .0 .1) (at-same-number2 .same-number2 .ensures), at-if2 .if2 .taken, ← same-read _ (start .args .p .z) (start .args .q .z) (at-struct-told5 .struct-told5 .given .1 .1 .0 .1) (c .before .struct-told6 .given .1 .1 .0 .1) (c .same-number3 .ensures))
 
 returns-2 : tie.Need-returns-2
 unfolding samePos choose
-returns-2 c = rw (← same-read _ (c .before .before .before .before .before .before .before .before .args .p .x) (c .before .before .before .before .before .before .before .before .args .q .x) (c .before .before .before .before .before .before .before .struct-told .given .0 .1) (c .before .before .before .before .before .before .struct-told2 .given .0 .1) (c .before .before .before .before .before .same-number .ensures), c .before .before .before .before .if1 .taken, ← same-read _ (c .before .before .before .before .before .before .before .before .args .p .y) (c .before .before .before .before .before .before .before .before .args .q .y) (c .before .before .before .struct-told3 .given .1 .0 .1) (c .before .before .struct-told4 .given .1 .0 .1) (c .before .same-number2 .ensures), c .if2 .left)
+returns-2 c =
+    let at-struct-told4 = c .before .before in
+    let at-struct-told3 = at-struct-told4 .before in
+    let at-if1 = at-struct-told3 .before in
+    let at-same-number = at-if1 .before in
+    let at-struct-told2 = at-same-number .before in
+    let at-struct-told = at-struct-told2 .before in
+    let start = at-struct-told .before in
+    rw (← same-read _ (start .args .p .x) (start .args .q .x) (at-struct-told .struct-told .given .0 .1) (at-struct-told2 .struct-told2 .given .0 .1) (at-same-number .same-number .ensures), at-if1 .if1 .taken, ← same-read _ (start .args .p .y) (start .args .q .y) (at-struct-told3 .struct-told3 .given .1 .0 .1) (at-struct-told4 .struct-told4 .given .1 .0 .1) (c .before .same-number2 .ensures), c .if2 .left)
 
 returns-3 : tie.Need-returns-3
 unfolding samePos choose
-returns-3 c = rw (← same-read _ (c .before .before .before .before .args .p .x) (c .before .before .before .before .args .q .x) (c .before .before .before .struct-told .given .0 .1) (c .before .before .struct-told2 .given .0 .1) (c .before .same-number .ensures), c .if1 .left)
+returns-3 c =
+    let at-struct-told2 = c .before .before in
+    let at-struct-told = at-struct-told2 .before in
+    let start = at-struct-told .before in
+    rw (← same-read _ (start .args .p .x) (start .args .q .x) (at-struct-told .struct-told .given .0 .1) (at-struct-told2 .struct-told2 .given .0 .1) (c .before .same-number .ensures), c .if1 .left)
 
 pub same-pos-spec : {M : Type 1} → statement M
 same-pos-spec =

@@ -1,5 +1,5 @@
 -- `liquids::flotation::is_falling` meets its contract. Assumes nothing.
-use Rattle.liquids.specs.Liquid.{isFalling}
+use Rattle.flow.specs.Liquid.{isFalling}
 use Rattle.base.specs.Choose.{choose}
 use borrow.Author.Needs.{needs}
 use Rattle.liquids.proofs.flotation.is_falling.Statement.{statement}

@@ -17,14 +17,21 @@ same-pos-requires-2 c κs = search needs
 
 returns-2 : tie.Need-returns-2
 unfolding waterState choose
-returns-2 c = rw (← c .before .before .before .same-pos .ensures, c .before .before .if1 .left, ← c .before .same-pos2 .ensures, c .if2 .taken)
+returns-2 c =
+    let at-if1 = c .before .before in
+    let at-same-pos = at-if1 .before in
+    rw (← at-same-pos .same-pos .ensures, at-if1 .if1 .left, ← c .before .same-pos2 .ensures, c .if2 .taken)
 
 liquid-at-requires : tie.Need-liquid-at-requires
 liquid-at-requires c κs = search needs
 
 returns-3 : tie.Need-returns-3
 unfolding waterState choose
-returns-3 c = rw (← c .before .before .before .before .same-pos .ensures, c .before .before .before .if1 .left, ← c .before .before .same-pos2 .ensures, c .before .if2 .left, ← c .liquid-at .ensures)
+returns-3 c =
+    let at-same-pos2 = c .before .before in
+    let at-if1 = at-same-pos2 .before in
+    let at-same-pos = at-if1 .before in
+    rw (← at-same-pos .same-pos .ensures, at-if1 .if1 .left, ← at-same-pos2 .same-pos2 .ensures, c .before .if2 .left, ← c .liquid-at .ensures)
 
 pub water-state-spec : {M : Type 1} → statement M
 water-state-spec =

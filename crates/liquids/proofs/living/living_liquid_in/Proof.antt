@@ -16,8 +16,8 @@ Inv-loop records cells w feet r lava₀ t₀ lava t = Walked (livingTurn (lookAt
 abbrev μ-loop : tie.MeasureT-loop
 μ-loop records cells w feet r lava₀ t₀ lava t = left r t
 
-inner-of-requires : tie.Need-inner-of-requires Inv-loop μ-loop
-inner-of-requires c κs = search needs
+shrink-requires : tie.Need-shrink-requires Inv-loop μ-loop
+shrink-requires c κs = search needs
 
 cells-of-requires : tie.Need-cells-of-requires Inv-loop μ-loop
 cells-of-requires c κs = search needs
@@ -39,14 +39,28 @@ enum-known-n c = search needs
 
 returns : tie.Need-returns Inv-loop μ-loop
 unfolding livingLiquid
-returns c = rw (← c .before .before .before .before .before .before .before .before .before .before .before .inner-of .ensures, ← c .before .before .before .before .before .before .before .before .before .before .cells-of .ensures, walked-stop (c .before .before .before .before .before .before .before .before .loop .inv) (c .before .before .before .before .before .if1 .taken) (c .before .before .before .before .place .ensures) (c .before .before .before .living-turn .ensures) _ (ap searchAsked (c .before .n .given .1)))
+returns c =
+    let at-living-turn = c .before .before .before in
+    let at-place = at-living-turn .before in
+    let at-if1 = at-place .before in
+    let at-loop = at-if1 .before .before .before in
+    let at-cells-of = at-loop .before .before in
+    let at-shrink = at-cells-of .before in
+    rw (← at-shrink .shrink .ensures, ← at-cells-of .cells-of .ensures, walked-stop (at-loop .loop .inv) (at-if1 .if1 .taken) (at-place .place .ensures) (at-living-turn .living-turn .ensures) _ (ap searchAsked (c .before .n .given .1)))
 
 enum-known-kind : tie.Need-enum-known-kind Inv-loop μ-loop
 enum-known-kind c = search needs
 
 returns-2 : tie.Need-returns-2 Inv-loop μ-loop
 unfolding livingLiquid
-returns-2 c = rw (← c .before .before .before .before .before .before .before .before .before .before .before .inner-of .ensures, ← c .before .before .before .before .before .before .before .before .before .before .cells-of .ensures, walked-done (c .before .before .before .before .before .before .before .before .loop .inv) (c .before .before .before .before .before .if1 .taken) (c .before .before .before .before .place .ensures) (c .before .before .before .living-turn .ensures) _ (ap searchAsked (c .before .kind .given .1)))
+returns-2 c =
+    let at-living-turn = c .before .before .before in
+    let at-place = at-living-turn .before in
+    let at-if1 = at-place .before in
+    let at-loop = at-if1 .before .before .before in
+    let at-cells-of = at-loop .before .before in
+    let at-shrink = at-cells-of .before in
+    rw (← at-shrink .shrink .ensures, ← at-cells-of .cells-of .ensures, walked-done (at-loop .loop .inv) (at-if1 .if1 .taken) (at-place .place .ensures) (at-living-turn .living-turn .ensures) _ (ap searchAsked (c .before .kind .given .1)))
 
 enum-known-l : tie.Need-enum-known-l Inv-loop μ-loop
 enum-known-l c = search needs
@@ -55,18 +69,35 @@ next-requires : tie.Need-next-requires Inv-loop μ-loop
 next-requires c κs = search needs
 
 loop-less : tie.Need-loop-less Inv-loop μ-loop
-loop-less c = walked-less (c .before .before .before .before .before .before .before .before .before .loop .inv) (c .before .before .before .before .before .before .if1 .taken) _ (c .next .ensures)
+loop-less c =
+    let at-if1 = c .before .before .before .before .before .before in
+    let at-loop = at-if1 .before .before .before in
+    walked-less (at-loop .loop .inv) (at-if1 .if1 .taken) _ (c .next .ensures)
 
 loop-again : tie.Need-loop-again Inv-loop μ-loop
-loop-again c = walked-next (c .before .before .before .before .before .before .before .before .before .loop .inv) (c .before .before .before .before .before .before .if1 .taken) (c .before .before .before .before .before .place .ensures) (c .before .before .before .before .living-turn .ensures) _ (ap searchAsked (c .before .before .l .given .1)) _ (c .next .ensures)
+loop-again c =
+    let at-l = c .before .before in
+    let at-living-turn = at-l .before .before in
+    let at-place = at-living-turn .before in
+    let at-if1 = at-place .before in
+    let at-loop = at-if1 .before .before .before in
+    walked-next (at-loop .loop .inv) (at-if1 .if1 .taken) (at-place .place .ensures) (at-living-turn .living-turn .ensures) _ (ap searchAsked (at-l .l .given .1)) _ (c .next .ensures)
 
 returns-3 : tie.Need-returns-3 Inv-loop μ-loop
 unfolding livingLiquid choose
-returns-3 c = rw (← c .before .before .before .before .before .before .before .inner-of .ensures, ← c .before .before .before .before .before .before .cells-of .ensures, walked-end (c .before .before .before .before .loop .inv) (c .before .if1 .left), c .if2 .taken)
+returns-3 c =
+    let at-loop = c .before .before .before .before in
+    let at-cells-of = at-loop .before .before in
+    let at-shrink = at-cells-of .before in
+    rw (← at-shrink .shrink .ensures, ← at-cells-of .cells-of .ensures, walked-end (at-loop .loop .inv) (c .before .if1 .left), c .if2 .taken)
 
 returns-4 : tie.Need-returns-4 Inv-loop μ-loop
 unfolding livingLiquid choose
-returns-4 c = rw (← c .before .before .before .before .before .before .before .inner-of .ensures, ← c .before .before .before .before .before .before .cells-of .ensures, walked-end (c .before .before .before .before .loop .inv) (c .before .if1 .left), c .if2 .left)
+returns-4 c =
+    let at-loop = c .before .before .before .before in
+    let at-cells-of = at-loop .before .before in
+    let at-shrink = at-cells-of .before in
+    rw (← at-shrink .shrink .ensures, ← at-cells-of .cells-of .ensures, walked-end (at-loop .loop .inv) (c .before .if1 .left), c .if2 .left)
 
 pub living-liquid-in-spec : {M : Type 1} → statement M
 living-liquid-in-spec =
@@ -74,7 +105,7 @@ living-liquid-in-spec =
     (tie.spec
     Inv-loop
     μ-loop
-    inner-of-requires
+    shrink-requires
     cells-of-requires
     start-requires
     loop-holds

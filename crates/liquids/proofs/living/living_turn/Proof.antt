@@ -1,6 +1,6 @@
 -- `liquids::living::living_turn` meets its contract. Assumes nothing.
 use Rattle.liquids.specs.Living.{livingTurn}
-use Rattle.liquids.specs.Liquid.{liquidAsked}
+use Rattle.flow.specs.Liquid.{liquidHeld}
 use borrow.Author.Needs.{needs}
 use Rattle.liquids.proofs.living.living_turn.Statement.{statement}
 use Rattle.liquids.proofs.living.living_turn.Tie as tie
@@ -21,12 +21,19 @@ wet-in-requires : tie.Need-wet-in-requires
 wet-in-requires c κs = search needs
 
 returns : tie.Need-returns
-unfolding livingTurn liquidAsked
-returns c = rw (← c .before .before .before .before .look .ensures, ← c .before .before .before .liquid-told .ensures, c .before .n .given .1)
+unfolding livingTurn liquidHeld
+returns c =
+    let at-liquid-told = c .before .before .before in
+    let at-look = at-liquid-told .before in
+    rw (← at-look .look .ensures, ← at-liquid-told .liquid-told .ensures, c .before .n .given .1)
 
 returns-2 : tie.Need-returns-2
-unfolding livingTurn liquidAsked
-returns-2 c = rw (← c .before .before .before .before .before .look .ensures, ← c .before .before .before .before .liquid-told .ensures, c .before .before .state .given .1, ← c .wet-in .ensures)
+unfolding livingTurn liquidHeld
+returns-2 c =
+    let at-state = c .before .before in
+    let at-liquid-told = at-state .before .before in
+    let at-look = at-liquid-told .before in
+    rw (← at-look .look .ensures, ← at-liquid-told .liquid-told .ensures, at-state .state .given .1, ← c .wet-in .ensures)
 
 pub living-turn-spec : {M : Type 1} → statement M
 living-turn-spec =

@@ -13,7 +13,10 @@ surface-of-requires c κs = search needs
 
 returns : tie.Need-returns
 unfolding wetIn choose
-returns c = rw (← c .before .before .before .is-liquid .ensures, c .before .before .if1 .taken, ← c .before .surface-of .ensures, c .if2 .taken)
+returns c =
+    let at-if1 = c .before .before in
+    let at-is-liquid = at-if1 .before in
+    rw (← at-is-liquid .is-liquid .ensures, at-if1 .if1 .taken, ← c .before .surface-of .ensures, c .if2 .taken)
 
 enum-told : tie.Need-enum-told
 enum-told c = search needs
@@ -26,15 +29,30 @@ enum-told-3 c = search needs
 
 returns-2 : tie.Need-returns-2
 unfolding wetIn choose
-returns-2 c = rw (← c .before .before .before .before .before .is-liquid .ensures, c .before .before .before .before .if1 .taken, ← c .before .before .before .surface-of .ensures, c .before .before .if2 .left, c .enum-told .given .1)
+returns-2 c =
+    let at-if2 = c .before .before in
+    let at-surface-of = at-if2 .before in
+    let at-if1 = at-surface-of .before in
+    let at-is-liquid = at-if1 .before in
+    rw (← at-is-liquid .is-liquid .ensures, at-if1 .if1 .taken, ← at-surface-of .surface-of .ensures, at-if2 .if2 .left, c .enum-told .given .1)
 
 returns-3 : tie.Need-returns-3
 unfolding wetIn choose
-returns-3 c = rw (← c .before .before .before .before .before .is-liquid .ensures, c .before .before .before .before .if1 .taken, ← c .before .before .before .surface-of .ensures, c .before .before .if2 .left, c .enum-told2 .given .1)
+returns-3 c =
+    let at-if2 = c .before .before in
+    let at-surface-of = at-if2 .before in
+    let at-if1 = at-surface-of .before in
+    let at-is-liquid = at-if1 .before in
+    rw (← at-is-liquid .is-liquid .ensures, at-if1 .if1 .taken, ← at-surface-of .surface-of .ensures, at-if2 .if2 .left, c .enum-told2 .given .1)
 
 returns-4 : tie.Need-returns-4
 unfolding wetIn choose
-returns-4 c = rw (← c .before .before .before .before .before .is-liquid .ensures, c .before .before .before .before .if1 .taken, ← c .before .before .before .surface-of .ensures, c .before .before .if2 .left, c .enum-told3 .given .1)
+returns-4 c =
+    let at-if2 = c .before .before in
+    let at-surface-of = at-if2 .before in
+    let at-if1 = at-surface-of .before in
+    let at-is-liquid = at-if1 .before in
+    rw (← at-is-liquid .is-liquid .ensures, at-if1 .if1 .taken, ← at-surface-of .surface-of .ensures, at-if2 .if2 .left, c .enum-told3 .given .1)
 
 returns-5 : tie.Need-returns-5
 unfolding wetIn choose

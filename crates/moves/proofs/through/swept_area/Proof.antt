@@ -17,4 +17,9 @@ returns c = rw (c .expand-towards2 .ensures, c .before .before .expand-towards .
 
 pub swept-area-spec : {M : Type 1} → statement M
 swept-area-spec =
-    tie.close (tie.spec expand-towards-requires new-requires expand-towards-requires-2 returns)
+    tie.close
+    (tie.spec
+    expand-towards-requires
+    new-requires
+    expand-towards-requires-2
+    returns)

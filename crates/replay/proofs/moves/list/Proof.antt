@@ -3,8 +3,8 @@ use borrow.Author.Needs.{needs}
 use Prim.Native.Nat.{_≤_, _-_}
 use mathlib.Core.Path.{_≡_, ap, _∙_}
 use lib.ListN.{length, length-replicate}
-use Rattle.boxes.specs.declared.BoxList.{BoxList}
-use Rattle.boxes.specs.Lists.{noBox, emptyList}
+use Rattle.sweeps.specs.declared.BoxList.{BoxList}
+use Rattle.sweeps.specs.Lists.{noBox, emptyList}
 use Rattle.replay.proofs.moves.list.Statement.{statement}
 use Rattle.replay.proofs.moves.list.Tie as tie
 

@@ -24,7 +24,10 @@ float-of-bits-requires c κs = search needs
 
 returns : tie.Need-returns
 unfolding bodyFloat
-returns c = rw (← c .before .before .before .body-word .ensures, ← c .before .before .body-word2 .ensures, ← c .before .join .ensures, ← c .float-of-bits .ensures)
+returns c =
+    let at-body-word2 = c .before .before in
+    let at-body-word = at-body-word2 .before in
+    rw (← at-body-word .body-word .ensures, ← at-body-word2 .body-word2 .ensures, ← c .before .join .ensures, ← c .float-of-bits .ensures)
 
 pub body-float-spec : {M : Type 1} → statement M
 body-float-spec =

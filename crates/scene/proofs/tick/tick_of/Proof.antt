@@ -1,6 +1,6 @@
 -- `scene::tick::tick_of` meets its contract. Assumes nothing.
 use Rattle.scene.proofs.Scenes.{no-tick, tick-by}
-use Rattle.scene.specs.Scene.{countsAsked}
+use Rattle.files.specs.Files.{countsAsked}
 use mathlib.Core.Path.{sym, ap, _∙_}
 use borrow.Author.Needs.{needs}
 use Rattle.scene.proofs.tick.tick_of.Statement.{statement}
@@ -18,14 +18,17 @@ refused-scene-requires c κs = search needs
 enum-known-n : tie.Need-enum-known-n
 enum-known-n c = search needs
 
-tick-with-requires : tie.Need-tick-with-requires
-tick-with-requires c κs = search needs
+step-in-requires : tie.Need-step-in-requires
+step-in-requires c κs = search needs
 
 returns : tie.Need-returns
 returns c = c .refused-scene .ensures ∙ no-tick _ (ap countsAsked (sym (c .before .enum-told .given .1)) ∙ c .before .before .before .counts-of .ensures)
 
 returns-2 : tie.Need-returns-2
-returns-2 c = c .tick-with .ensures ∙ tick-by _ _ (ap countsAsked (sym (c .before .before .n .given .1)) ∙ c .before .before .before .before .counts-of .ensures)
+returns-2 c =
+    let at-n = c .before .before in
+    let at-counts-of = at-n .before .before in
+    tick-by _ _ _ (ap countsAsked (sym (at-n .n .given .1)) ∙ at-counts-of .counts-of .ensures) (c .step-in .ensures)
 
 pub tick-of-spec : {M : Type 1} → statement M
 tick-of-spec =
@@ -35,6 +38,6 @@ tick-of-spec =
     enum-told
     refused-scene-requires
     enum-known-n
-    tick-with-requires
+    step-in-requires
     returns
     returns-2)

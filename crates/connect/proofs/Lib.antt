@@ -1,0 +1,2 @@
+-- The laws of connections.
+pub mod Unique

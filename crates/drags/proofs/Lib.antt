@@ -1,0 +1,2 @@
+-- The laws of drags.
+pub mod Constants

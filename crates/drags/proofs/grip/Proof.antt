@@ -1,0 +1,25 @@
+-- `drags::grip` meets its contract. Assumes nothing.
+use borrow.Author.Needs.{needs}
+use Rattle.drags.proofs.grip.Statement.{statement}
+use Rattle.drags.proofs.grip.Tie as tie
+
+enum-known-s : tie.Need-enum-known-s
+enum-known-s c = search needs
+
+enum-told : tie.Need-enum-told
+enum-told c = search needs
+
+enum-told-2 : tie.Need-enum-told-2
+enum-told-2 c = search needs
+
+returns : tie.Need-returns
+returns c = rw (c .before .s .given .1)
+
+returns-2 : tie.Need-returns-2
+returns-2 c = rw (c .enum-told .given .1)
+
+returns-3 : tie.Need-returns-3
+returns-3 c = search needs
+
+pub grip-spec : {M : Type 1} → statement M
+grip-spec = tie.close (tie.spec enum-known-s enum-told enum-told-2 returns returns-2 returns-3)

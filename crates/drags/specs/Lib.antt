@@ -1,0 +1,3 @@
+-- What happens to a body's velocity: pure functions of it and of a sample.
+pub mod Constants
+pub mod Drags

@@ -1,0 +1,87 @@
+-- A mover in lent numbers: with its length and room it is the move's entry, and else it is refused before any cell is asked for. Assumes nothing.
+use mathlib.Core.Path.{_≡_, refl, ap, _∙_}
+use mathlib.Core.Bool.{Bool, true, false, not, _&&_}
+use mathlib.Core.List.{List}
+use Prim.Native.Nat.{ℕ}
+use lib.Dec.{eqb, leb, ltb}
+use lib.ListN.{length}
+use lib.Ieee.{Float}
+use Rattle.base.specs.Choose.{choose}
+use Rattle.base.specs.Ask.{Ask, refused}
+use Rattle.base.proofs.Every.{both}
+use Rattle.sweeps.specs.declared.MoveResult.{MoveResult}
+use Rattle.boxes.specs.Limits.{isBox, isDelta, isStep}
+use Rattle.table_check.specs.Check.{tablesFit}
+use Rattle.lent.specs.Lent.{lentRefusal, sound, unless}
+use Rattle.lent_boxes.specs.Boxes.{vecAt, aabbAt, writtenBy}
+use Rattle.lent_boxes.specs.Moves.{moverRefusal}
+use Rattle.window.specs.declared.Window.{Window}
+use Rattle.window.specs.Window.{windowFits, windowRefusal}
+use Rattle.window.specs.Look.{lookAt}
+use Rattle.moves.specs.Answers.{moveAabb, moveAnswer, moveEntry}
+use Rattle.exports.specs.Room.{shortOf}
+use Rattle.exports.specs.Windows.{moveAt, wholeMove}
+use Rattle.exports.proofs.Short.{no-room, no-early, never-0}
+
+-- 3, then 4, one by one
+tests : {A : Type 0} (s f : Bool) (ask : Ask A) → choose (not s) (refused 3) (choose (not f) (refused 4) ask)
+    ≡ choose (not (eqb (choose s (choose f 0 4) 3) 0)) (refused (choose s (choose f 0 4) 3)) ask
+unfolding choose
+tests false f ask = refl
+tests true true ask = refl
+tests true false ask = refl
+
+module _ (records : List ℕ) (shapes : List Float) (cells : List ℕ) (w : Window) (mover : List Float) (step : Float) (ground : ℕ) where
+  abbrev first : ℕ
+  first = lentRefusal records shapes cells w
+
+  abbrev early : ℕ
+  early = moverRefusal mover step ground true
+
+  abbrev asked : Ask MoveResult
+  asked = moveAabb (lookAt cells w) records shapes (aabbAt mover 0) (vecAt mover 6) step (eqb ground 1)
+
+  -- what the entry comes to: 1 and 2 by the tests that they stand for
+  entry : (t f : Bool) → tablesFit records shapes ≡ t → windowFits (length cells) w ≡ f
+      → moveEntry records shapes cells w (aabbAt mover 0) (vecAt mover 6) step (eqb ground 1)
+      ≡ moveAnswer (aabbAt mover 0) (sound records shapes cells w (unless (not (isStep step)) 3 (unless (not (isBox (aabbAt mover 0) && isDelta (vecAt mover 6))) 4 asked)))
+  unfolding moveEntry lentRefusal windowRefusal choose
+  entry true true et ef = rw (et, ef)
+  entry true false et ef = rw (et, ef)
+  entry false f et ef = rw et
+
+  pub move-whole : (places : ℕ) → wholeMove mover ground places ≡ true
+      → moveEntry records shapes cells w (aabbAt mover 0) (vecAt mover 6) step (eqb ground 1) ≡ moveAt records shapes cells w mover step ground places
+  unfolding moveAt moverRefusal choose
+  move-whole places whole =
+      let g = both (ltb ground 2) (eqb (length mover) 9 && leb 10 places) whole in
+      let n = both (eqb (length mover) 9) (leb 10 places) (g .two) in
+      entry (tablesFit records shapes) (windowFits (length cells) w) refl refl
+      ∙ rw (g .one, n .one, n .two)
+        (ap (λ (ask : Ask MoveResult). moveAnswer (aabbAt mover 0) (sound records shapes cells w ask))
+        (tests (isStep step) (isBox (aabbAt mover 0) && isDelta (vecAt mover 6)) asked))
+
+  three : ltb ground 2 ≡ false → eqb early 0 ≡ false
+  unfolding moverRefusal choose
+  three e = rw e
+
+  four : eqb (length mover) 9 ≡ false → eqb early 0 ≡ false
+  unfolding moverRefusal choose
+  four e = rw e (either (ltb ground 2 && isStep step)) where
+    either : (s : Bool) → eqb (choose s 4 3) 0 ≡ false
+    either true = refl
+    either false = refl
+
+  cases : (places : ℕ) (a b : Bool) → ltb ground 2 ≡ a → eqb (length mover) 9 ≡ b → a && (b && leb 10 places) ≡ false
+      → moveAt records shapes cells w mover step ground places ≡ moveAnswer (aabbAt mover 0) (refused (shortOf first early))
+  unfolding moveAt
+  cases places true true ea eb n = rw n (ap (moveAnswer (aabbAt mover 0)) (no-room first early asked))
+  cases places true false ea eb n = ap (moveAnswer (aabbAt mover 0)) (no-early first early asked (leb 10 places) (four eb))
+  cases places false b ea eb n = ap (moveAnswer (aabbAt mover 0)) (no-early first early asked (leb 10 places) (three ea))
+
+  -- nothing is written then
+  pub short-move : (out : List Float) (r : ℕ) → wholeMove mover ground (length out) ≡ false → r ≡ shortOf first early
+      → (r ≡ moveAt records shapes cells w mover step ground (length out) .refusal)
+      × (out ≡ writtenBy out (moveAt records shapes cells w mover step ground (length out)))
+  unfolding writtenBy choose
+  short-move out r h e = rw (cases (length out) (ltb ground 2) (eqb (length mover) 9) refl refl h, never-0 first early) (e, refl)

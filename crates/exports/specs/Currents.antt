@@ -1,0 +1,35 @@
+-- Currents in lent numbers.
+use mathlib.Core.List.{List, [], _∷_}
+use Prim.Native.Nat.{ℕ}
+use lib.Ieee.{Float}
+use Rattle.base.specs.Loop.{stored}
+use Rattle.base.specs.Ask.{Ask, refused, found, _>>=_}
+use Rattle.boxes.specs.declared.Vec3.{Vec3}
+use Rattle.boxes.specs.Boxes.{fromFeet}
+use Rattle.window.specs.declared.Pos.{Pos}
+use Rattle.window.specs.Look.{Block}
+use Rattle.liquids.specs.declared.Current.{Current}
+use Rattle.flow.specs.Liquid.{liquidHeld}
+use Rattle.liquids.specs.Current.{itemCurrent}
+use Rattle.ranges.specs.Cells.{cellHolding}
+use Rattle.lent_boxes.specs.Boxes.{flagOf}
+
+-- what the flows do to an item at these feet, of this width and height: the cell of its feet is asked for first, as the step does
+unfoldable pub currentAt : (Pos → Ask Block) → List ℕ → Vec3 → Float → Float → Ask Current
+currentAt look records feet width height = do
+  let foot : Pos = cellHolding feet
+  state ← liquidHeld look records foot
+  itemCurrent look records (fromFeet feet width height) foot state
+
+-- what it adds to the velocity, and 1.0 where there is water: four numbers
+abbrev pub currentNumbers : Current → List Float
+currentNumbers c = c .flow .x ∷ c .flow .y ∷ c .flow .z ∷ flagOf (c .water) ∷ []
+
+abbrev pub currentRefusal : Ask Current → ℕ
+currentRefusal (refused n) = n
+currentRefusal (found c) = 0
+
+-- a refusal writes nothing
+abbrev pub currentWritten : List Float → Ask Current → List Float
+currentWritten out (refused n) = out
+currentWritten out (found c) = stored out 0 (currentNumbers c)

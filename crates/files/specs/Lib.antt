@@ -1,0 +1,2 @@
+-- The definitions of which files are scenes.
+pub mod Files

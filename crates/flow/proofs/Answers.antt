@@ -1,0 +1,35 @@
+-- What a program's answer says is said by no other: two answers that mean the same are equal. Assumes nothing.
+use mathlib.Core.Path.{_≡_}
+use Rattle.flow.specs.declared.AskedLiquid.{AskedLiquid}
+use Rattle.flow.specs.declared.AskedLiquid.the-variants as liquids
+use Rattle.flow.specs.declared.AskedBool.{AskedBool}
+use Rattle.flow.specs.declared.AskedBool.the-variants as bools
+use Rattle.flow.specs.declared.AskedGap.{AskedGap}
+use Rattle.flow.specs.declared.AskedGap.the-variants as gaps
+use Rattle.flow.specs.declared.AskedVec.{AskedVec}
+use Rattle.flow.specs.declared.AskedVec.the-variants as vecs
+use Rattle.flow.specs.Answers.{liquidAsked, boolAsked, gapAsked, vecAsked}
+
+pub one-liquid : (a b : AskedLiquid) → liquidAsked a ≡ liquidAsked b → a ≡ b
+one-liquid (liquids.Is s) (liquids.Is t) e = cc
+one-liquid (liquids.Is s) (liquids.Refused n) e = cc
+one-liquid (liquids.Refused m) (liquids.Is t) e = cc
+one-liquid (liquids.Refused m) (liquids.Refused n) e = cc
+
+pub one-bool : (a b : AskedBool) → boolAsked a ≡ boolAsked b → a ≡ b
+one-bool (bools.Is s) (bools.Is t) e = cc
+one-bool (bools.Is s) (bools.Refused n) e = cc
+one-bool (bools.Refused m) (bools.Is t) e = cc
+one-bool (bools.Refused m) (bools.Refused n) e = cc
+
+pub one-gap : (a b : AskedGap) → gapAsked a ≡ gapAsked b → a ≡ b
+one-gap (gaps.Is s) (gaps.Is t) e = cc
+one-gap (gaps.Is s) (gaps.Refused n) e = cc
+one-gap (gaps.Refused m) (gaps.Is t) e = cc
+one-gap (gaps.Refused m) (gaps.Refused n) e = cc
+
+pub one-vec : (a b : AskedVec) → vecAsked a ≡ vecAsked b → a ≡ b
+one-vec (vecs.Is s) (vecs.Is t) e = cc
+one-vec (vecs.Is s) (vecs.Refused n) e = cc
+one-vec (vecs.Refused m) (vecs.Is t) e = cc
+one-vec (vecs.Refused m) (vecs.Refused n) e = cc

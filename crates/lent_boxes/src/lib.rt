@@ -1,0 +1,72 @@
+// Boxes in lent numbers, six to a box: they are read where they lie. moved.rt has the move over them, and written.rt what is written back.
+mod moved;
+mod written;
+
+pub use moved::move_over_any;
+pub use moved::move_over_lent;
+pub use moved::mover_refusal;
+pub use written::flag_of;
+pub use written::move_into;
+pub use written::put;
+pub use written::put_vec;
+use boxes::Aabb;
+use boxes::Vec3;
+ghost use mathlib.Core.Path.{_≡_};
+ghost use Prim.Native.Nat.{_+_, _<_};
+ghost use lib.ListN.{length};
+ghost use Rattle.boxes.specs.Limits.{areBoxes};
+ghost use Rattle.lent_boxes.specs.Boxes.{aabbAt, boxesOf, lentFit};
+
+// The box that the first six numbers are.
+pub fn first_box(numbers: &[f64]) -> Aabb
+    ensures { λ r. ⌜ r ≡ aabbAt (now (numbers .entry)) 0 ⌝ }
+{
+    let min = bodies::vec_from(numbers, 0);
+    let max = bodies::vec_from(numbers, 3);
+    Aabb { min, max }
+}
+
+// The box whose six numbers begin at a place; they are there, so that reading them takes no test.
+fn box_at(numbers: &[f64], at: usize) -> Aabb
+    requires { ⌜ at + 5 < length (now numbers) ⌝ }
+    ensures { λ r. ⌜ r ≡ aabbAt (now (numbers .entry)) at ⌝ }
+{
+    Aabb {
+        min: Vec3 {
+            x: numbers[at],
+            y: numbers[at + 1],
+            z: numbers[at + 2],
+        },
+        max: Vec3 {
+            x: numbers[at + 3],
+            y: numbers[at + 4],
+            z: numbers[at + 5],
+        },
+    }
+}
+
+fn are_boxes(numbers: &[f64]) -> bool
+    ensures { λ r. ⌜ r ≡ areBoxes (boxesOf (now (numbers .entry))) ⌝ }
+{
+    let n = numbers.len() / 6;
+    let mut i = 0usize;
+    while i < n {
+        let b = box_at(numbers, i * 6);
+        if boxes::is_box(b) {
+            i += 1;
+        } else {
+            return false;
+        }
+    }
+    true
+}
+
+// Whether the numbers are boxes and nothing else.
+fn lent_fit(numbers: &[f64]) -> bool
+    ensures { λ r. ⌜ r ≡ lentFit (now (numbers .entry)) ⌝ }
+{
+    if numbers.len() % 6 == 0 {
+        return are_boxes(numbers);
+    }
+    false
+}

@@ -1,0 +1,133 @@
+// The move over boxes in lent numbers.
+use crate::box_at;
+use crate::first_box;
+use crate::lent_fit;
+use crate::written::put_result;
+use sweeps::MoveResult;
+use sweeps::Request;
+ghost use mathlib.Core.Path.{_≡_};
+ghost use lib.ListN.{length};
+ghost use Rattle.sweeps.specs.Move.{moveOver};
+ghost use Rattle.lent_boxes.specs.Boxes.{boxesOf, writtenBy};
+ghost use Rattle.lent_boxes.specs.Moves.{requestOf, moverFits, moverRefusal, listRefusal, moveListOf, moveAnyOf};
+
+// What a move in lent numbers is asked for.
+fn request_of(mover: &[f64], step: f64, ground: u32) -> Request
+    ensures { λ r. ⌜ r ≡ requestOf (now (mover .entry)) step ground ⌝ }
+{
+    let aabb = first_box(mover);
+    let delta = bodies::vec_from(mover, 6);
+    Request {
+        aabb,
+        delta,
+        step,
+        ground: ground == 1,
+    }
+}
+
+fn mover_fits(mover: &[f64], sound: bool) -> bool
+    ensures { λ r. ⌜ r ≡ moverFits (now (mover .entry)) sound ⌝ }
+{
+    if mover.len() == 9 {
+        if sound {
+            let aabb = first_box(mover);
+            if boxes::is_box(aabb) {
+                let way = bodies::vec_from(mover, 6);
+                return boxes::is_delta(way);
+            }
+            return false;
+        }
+        return false;
+    }
+    false
+}
+
+// 3, then 4, or 0; `sound` says whether what is moved over is.
+pub fn mover_refusal(mover: &[f64], step: f64, ground: u32, sound: bool) -> u32
+    ensures { λ r. ⌜ r ≡ moverRefusal (now (mover .entry)) step ground sound ⌝ }
+{
+    if ground < 2 {
+        if boxes::is_step(step) {
+            if mover_fits(mover, sound) {
+                return 0;
+            }
+            return 4;
+        }
+        return 3;
+    }
+    3
+}
+
+// 3, 4, 11 and 6 in order, or 0.
+fn list_refusal(boxes: &[f64], mover: &[f64], step: f64, ground: u32, places: usize) -> u32
+    ensures { λ r. ⌜ r ≡ listRefusal (now (boxes .entry)) (now (mover .entry)) step ground places ⌝ }
+{
+    let sound = lent_fit(boxes);
+    let early = mover_refusal(mover, step, ground, sound);
+    if early != 0 {
+        return early;
+    }
+    if places < 10 {
+        return 11;
+    }
+    if boxes.len() / 6 > 128 {
+        return 6;
+    }
+    0
+}
+
+// The move itself. The boxes are read where they lie: a list of them would be made at each call, and copied where it is handed on.
+fn moved_over(numbers: &[f64], q: Request) -> MoveResult
+    ensures { λ r. ⌜ r ≡ moveOver (boxesOf (now (numbers .entry))) (q .aabb) (q .delta) (q .step) (q .ground) ⌝ }
+{
+    let n = numbers.len() / 6;
+    let mut s = sweeps::begun(q);
+    let mut pass = 0u32;
+    while pass < 7 {
+        let axis = sweeps::axis_of(pass);
+        let now = s.now;
+        let mover = now.aabb;
+        let mut d = sweeps::wanted(pass, axis, q, now);
+        let mut i = 0usize;
+        while i < n {
+            let b = box_at(numbers, i * 6);
+            d = sweeps::clip_along(axis, b, mover, d);
+            i += 1;
+        }
+        let first = s.first;
+        s = sweeps::next(pass, q, first, sweeps::gone(pass, axis, now, d));
+        if s.over {
+            return sweeps::ended(q, s);
+        }
+        pass += 1;
+    }
+    sweeps::ended(q, s)
+}
+
+// The move of a box over boxes, for a host, who may hand over anything. It writes ten numbers and returns 0, or writes nothing and returns
+// 3, 4, 11 or 6.
+pub fn move_over_lent(boxes: &[f64], mover: &[f64], step: f64, ground: u32, out: &mut [f64]) -> u32
+    ensures { λ r. ⌜ r ≡ moveListOf (now (boxes .entry)) (now (mover .entry)) step ground (length (now (out .entry))) .refusal ⌝ }
+    ensures { λ _. ⌜ now (out .exit) ≡ writtenBy (now (out .entry)) (moveListOf (now (boxes .entry)) (now (mover .entry)) step ground (length (now (out .entry)))) ⌝ }
+{
+    let refusal = list_refusal(boxes, mover, step, ground, out.len());
+    if refusal != 0 {
+        return refusal;
+    }
+    put_result(out, moved_over(boxes, request_of(mover, step, ground)));
+    0
+}
+
+// The same for any numbers, to be timed beside the original: it looks at no limit, takes what is not there for 0 and drops what there is no
+// room for. For more than 128 boxes it writes nothing and returns 6.
+pub fn move_over_any(boxes: &[f64], mover: &[f64], step: f64, ground: u32, out: &mut [f64]) -> u32
+    ensures { λ r. ⌜ r ≡ moveAnyOf (now (boxes .entry)) (now (mover .entry)) step ground .refusal ⌝ }
+    ensures { λ _. ⌜ now (out .exit) ≡ writtenBy (now (out .entry)) (moveAnyOf (now (boxes .entry)) (now (mover .entry)) step ground) ⌝ }
+{
+    let count = boxes.len() / 6;
+    if count > 128 {
+        return 6;
+    }
+    put_result(out, moved_over(boxes, request_of(mover, step, ground)));
+    0
+}

@@ -1,0 +1,2 @@
+-- The definitions of what a step comes to in lent numbers.
+pub mod Steps

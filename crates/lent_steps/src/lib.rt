@@ -1,0 +1,70 @@
+// What a step comes to, written into lent numbers.
+use lent_boxes::put;
+use lent_boxes::put_vec;
+use step::StepAnswer;
+use tables::LiquidKind;
+ghost use mathlib.Core.Path.{_≡_};
+ghost use lib.IntN.{pos};
+ghost use lib.Ieee.{binary64, ofInt};
+ghost use lib.ListN.{length};
+ghost use Rattle.base.specs.Loop.{stored};
+ghost use Rattle.tables.specs.Tables.{kindNumber};
+ghost use Rattle.lent_steps.specs.Steps.{stepNumbers, comesFirst, stepRefusal, stepWritten};
+
+fn kind_number(kind: LiquidKind) -> u32
+    ensures { λ r. ⌜ r ≡ kindNumber kind ⌝ }
+{
+    match kind {
+        LiquidKind::None => 0,
+        LiquidKind::Water => 1,
+        LiquidKind::Lava => 2,
+    }
+}
+
+fn float_of(n: u32) -> f64
+    ensures { λ r. ⌜ r ≡ ofInt binary64 (pos n) ⌝ }
+{
+    n as f64
+}
+
+// 8, and 1 to 4.
+fn comes_first(refusal: u32) -> bool
+    ensures { λ r. ⌜ r ≡ comesFirst refusal ⌝ }
+{
+    if refusal == 8 {
+        return true;
+    }
+    if 1 <= refusal {
+        return refusal <= 4;
+    }
+    false
+}
+
+// Eight numbers, as `stepNumbers` has them; one whose place is not there is dropped.
+pub fn put_step(out: &mut [f64], a: StepAnswer)
+    ensures { λ _. ⌜ now (out .exit) ≡ stored (now (out .entry)) 0 (stepNumbers a) ⌝ }
+{
+    let liquid = a.liquid;
+    put_vec(out, 0, a.motion.feet);
+    put_vec(out, 3, a.motion.velocity);
+    put(out, 6, float_of(a.motion.ground));
+    put(out, 7, float_of(kind_number(liquid)));
+}
+
+// Feet, velocity, ground and liquid: eight numbers. It returns 0; or a refusal, and writes nothing. 11 is for less room than eight numbers.
+pub fn step_into(out: &mut [f64], a: StepAnswer) -> u32
+    ensures { λ r. ⌜ r ≡ stepRefusal (length (now (out .entry))) a ⌝ }
+    ensures { λ _. ⌜ now (out .exit) ≡ stepWritten (now (out .entry)) a ⌝ }
+{
+    if comes_first(a.refusal) {
+        return a.refusal;
+    }
+    if out.len() < 8 {
+        return 11;
+    }
+    if a.refusal != 0 {
+        return a.refusal;
+    }
+    put_step(out, a);
+    0
+}

@@ -1,0 +1,3 @@
+-- The laws of samples.
+pub mod Below
+pub mod Answers

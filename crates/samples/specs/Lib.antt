@@ -1,0 +1,2 @@
+-- What a step asks of the cells under a body.
+pub mod Samples

@@ -1,0 +1,74 @@
+-- `scene::tick::step_among` meets its contract. Assumes nothing.
+use mathlib.Core.Path.{_∙_}
+use Rattle.scene.proofs.Scenes.{rules-read, body-read, motion-read}
+use borrow.Author.Needs.{needs}
+use Rattle.scene.proofs.tick.step_among.Statement.{statement}
+use Rattle.scene.proofs.tick.step_among.Tie as tie
+
+numbers-in-requires : tie.Need-numbers-in-requires
+numbers-in-requires c κs = search needs
+
+words-in-requires : tie.Need-words-in-requires
+words-in-requires c κs = search needs
+
+slice-aggregate-rules-from : tie.Need-slice-aggregate-rules-from
+slice-aggregate-rules-from c = search needs
+
+slice-aggregate-rules-from-2 : tie.Need-slice-aggregate-rules-from-2
+slice-aggregate-rules-from-2 c = search needs
+
+rules-from-requires : tie.Need-rules-from-requires
+rules-from-requires c κs = search needs
+
+slice-aggregate-body-from : tie.Need-slice-aggregate-body-from
+slice-aggregate-body-from c = search needs
+
+slice-aggregate-body-from-2 : tie.Need-slice-aggregate-body-from-2
+slice-aggregate-body-from-2 c = search needs
+
+body-from-requires : tie.Need-body-from-requires
+body-from-requires c κs = search needs
+
+slice-aggregate-motion-from : tie.Need-slice-aggregate-motion-from
+slice-aggregate-motion-from c = search needs
+
+slice-aggregate-motion-from-2 : tie.Need-slice-aggregate-motion-from-2
+slice-aggregate-motion-from-2 c = search needs
+
+motion-from-requires : tie.Need-motion-from-requires
+motion-from-requires c κs = search needs
+
+age-in-requires : tie.Need-age-in-requires
+age-in-requires c κs = search needs
+
+step-window-requires : tie.Need-step-window-requires
+step-window-requires c κs = search needs
+
+returns : tie.Need-returns
+returns c =
+    let file = c .before .before .before .before .before .before .before .before .before .before .before .before .before .before .before .before .before .args .file .now in
+    let numbers = c .before .before .before .before .before .before .before .before .before .before .before .before .numbers-in in
+    let words = c .before .before .before .before .before .before .before .before .before .before .before .words-in in
+    let rules = c .before .before .before .before .before .before .before .before .rules-from .ensures ∙ rules-read file (numbers .result) (words .result) (numbers .ensures) (words .ensures) in
+    let body = c .before .before .before .before .before .body-from .ensures ∙ body-read file (numbers .result) (words .result) (numbers .ensures) (words .ensures) in
+    let given = c .before .before .motion-from .ensures ∙ motion-read file (numbers .result) (words .result) (numbers .ensures) (words .ensures) in
+    rw (← rules, ← body, ← given, ← c .before .age-in .ensures) (c .step-window .ensures)
+
+pub step-among-spec : {M : Type 1} → statement M
+step-among-spec =
+    tie.close
+    (tie.spec
+    numbers-in-requires
+    words-in-requires
+    slice-aggregate-rules-from
+    slice-aggregate-rules-from-2
+    rules-from-requires
+    slice-aggregate-body-from
+    slice-aggregate-body-from-2
+    body-from-requires
+    slice-aggregate-motion-from
+    slice-aggregate-motion-from-2
+    motion-from-requires
+    age-in-requires
+    step-window-requires
+    returns)

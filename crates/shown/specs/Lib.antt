@@ -1,0 +1,2 @@
+-- The definitions of what a picture of a move shows.
+pub mod Shown

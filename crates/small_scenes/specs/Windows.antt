@@ -1,0 +1,41 @@
+-- The windows that the scenes stand in, and what is asked of them.
+use mathlib.Core.List.{List, [], _∷_, _++_}
+use Prim.Native.Nat.{ℕ}
+use lib.IntN.{pos, negsuc}
+use Rattle.base.specs.Ask.{Ask, refused, found, _>>=_}
+use Rattle.boxes.specs.declared.Vec3.{Vec3}
+use Rattle.window.specs.declared.Pos.{Pos}
+use Rattle.window.specs.declared.Window.{Window}
+use Rattle.window.specs.Look.{lookAt}
+use Rattle.flow.specs.Liquid.{liquidHeld}
+use Rattle.flow.specs.Flow.{liquidFlow}
+use Rattle.small_scenes.specs.Palette.{air, records}
+
+abbrev pub middle : Pos
+middle = record { x = pos 0; y = pos 0; z = pos 0 }
+
+-- three cells a side around the middle: layers from below, rows from the north, cells from the west
+unfoldable pub around : Window
+around = record { origin = record { x = negsuc 0; y = negsuc 0; z = negsuc 0 }; sizes = record { x = 3; y = 3; z = 3 } }
+
+-- one layer of its cells
+abbrev pub crossOf : ℕ → ℕ → ℕ → ℕ → ℕ → List ℕ
+crossOf north east south west it = air ∷ north ∷ air ∷ west ∷ it ∷ east ∷ air ∷ south ∷ air ∷ []
+
+-- its cells, with these around the middle, and air elsewhere
+unfoldable pub cellsAround : ℕ → ℕ → ℕ → ℕ → ℕ → ℕ → List ℕ
+cellsAround north east south west above it = crossOf air air air air air ++ (crossOf north east south west it ++ crossOf air air air air above)
+
+-- the middle layer alone
+unfoldable pub flat : Window
+flat = record { origin = record { x = negsuc 0; y = pos 0; z = negsuc 0 }; sizes = record { x = 3; y = 1; z = 3 } }
+
+-- the middle, and the cell above it
+unfoldable pub upright : Window
+upright = record { origin = middle; sizes = record { x = 1; y = 2; z = 1 } }
+
+-- the flow of the liquid in the middle of the layer
+unfoldable pub flowAmong : List ℕ → Ask Vec3
+flowAmong cells = do
+  state ← liquidHeld (lookAt cells flat) records middle
+  liquidFlow (lookAt cells flat) records middle state

@@ -1,0 +1,3 @@
+-- What stands in a cell.
+pub mod Shapes
+pub mod Parts

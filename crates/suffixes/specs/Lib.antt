@@ -1,0 +1,2 @@
+-- The definitions of the tests on bytes.
+pub mod Bytes

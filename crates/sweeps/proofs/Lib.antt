@@ -1,0 +1,6 @@
+-- Laws of this crate's definitions, on plain values.
+pub mod Lists
+pub mod Turns
+pub mod Shape
+pub mod Limits
+pub mod Beyond

@@ -1,0 +1,3 @@
+-- The laws of a tick.
+pub mod Answers
+pub mod Refuses

@@ -1,0 +1,291 @@
+"""Boltjuniper for hosts in Python: what hosts/boltjuniper.h declares, over the shared library that hosts/build makes. Standard library alone.
+
+    import boltjuniper as b
+    tables = b.Tables(records, shapes)                    # 20 words to a state, six numbers to a box
+    window = b.Window(cells, (0, -1, 0), (2, 4, 2))       # its cells, origin and sizes
+    b.step(tables, window, b.Body(numbers, words, age))   # Tick(feet=.., velocity=.., ground=True, liquid='none'), or raises Refused
+    b.steps(tables, window, bodies)                       # a list: for each body its Tick, or its Refused as a value
+
+An array of the type that is asked for (numpy's uint32, float32 and float64; array.array's I, f and d) is lent as it is, without a copy, and is only
+read; it must not be changed by another thread while the call runs. A list or a tuple of numbers is copied. Another type of array is a TypeError and
+one with gaps a ValueError: nothing is converted in silence."""
+import array
+import ctypes
+import os
+from typing import NamedTuple
+
+LIBRARY = os.path.join(os.path.dirname(os.path.dirname(os.path.abspath(__file__))), "target", "hosts", "libboltjuniper.so")
+
+# what each refusal means: the sentences of docs/REFUSALS.md
+SENTENCES = {
+    1: "The tables of blocks break a rule: a count, a limit, a state that leads to another family, a face mask that does not fit its shape.",
+    2: "The window breaks a limit, or its cell count is not the product of its sizes.",
+    3: "A number of the body or of the rules is not finite or beyond its limit, an enum number is unknown, a yes or no is above 1, or the air state "
+       "has no registered record. In a direct call also: not 19 numbers and 6 words.",
+    4: "A position or velocity (in direct calls also a box or a delta) is not finite or beyond its limit. In a direct call also: not nine "
+       "numbers to a mover, or boxes that are not six numbers each.",
+    5: "The rules ask for a cell that the window does not hold.",
+    6: "More than 128 boxes lie in the way.",
+    7: "The flow test meets a state that is not registered. The original program would have ended there.",
+    8: "The file is no scene: a mark, number, check, kind, count or unused word is wrong, or blocks are missing or left over.",
+    9: "The computed motion is not finite.",
+    11: "In a direct call: the memory lent for the answer is too short.",
+}
+
+
+class Refused(Exception):
+    """A record that could not be judged: its `number`, and what that means. It never accuses a body."""
+
+    def __init__(self, number):
+        self.number, self.sentence = number, SENTENCES.get(number, "docs/REFUSALS.md says what it means.")
+        super().__init__("refused %d: %s" % (number, self.sentence))
+
+    def __eq__(self, other):
+        return isinstance(other, Refused) and self.number == other.number
+
+    def __hash__(self):
+        return hash(self.number)
+
+
+class NotBuilt(Exception):
+    """The shared library, or the function of it that was asked for, is not there."""
+
+
+class Tables(NamedTuple):
+    records: object
+    shapes: object
+
+
+class Window(NamedTuple):
+    """The state of each cell at ((y * sizes z) + z) * sizes x + x, counted from the origin; 4294967295 is not loaded."""
+    cells: object
+    origin: tuple
+    sizes: tuple
+
+
+class Body(NamedTuple):
+    """A body in the order of a scene file's first block, as hosts/boltjuniper.h has it: 19 numbers, 6 words, and its age in ticks."""
+    numbers: object
+    words: object
+    age: int = 0
+
+
+class Mover(NamedTuple):
+    """A box, least x y z and greatest x y z, with its delta, the step height, and whether the body was on the ground."""
+    aabb: tuple
+    delta: tuple
+    step: float = 0.0
+    ground: bool = False
+
+
+class Tick(NamedTuple):
+    feet: tuple
+    velocity: tuple
+    ground: bool
+    liquid: str
+
+
+class Moved(NamedTuple):
+    """The box after a move, the way that it went, and whether it came to stand on the ground."""
+    aabb: tuple
+    moved: tuple
+    ground: bool
+
+
+# ---- the library
+
+SLICE = [ctypes.c_void_p, ctypes.c_size_t]
+TABLES, WINDOW = SLICE * 2, SLICE + [ctypes.c_int32] * 3 + [ctypes.c_uint32] * 3
+BODY, STEP = SLICE * 2 + [ctypes.c_uint64], [ctypes.c_double, ctypes.c_uint32]
+DECLARED = {
+    "check_tables": TABLES,
+    "step": TABLES + WINDOW + BODY + SLICE,
+    "step_checked": TABLES + WINDOW + BODY + SLICE,
+    "move": TABLES + WINDOW + SLICE + STEP + SLICE,
+    "move_over_list": SLICE * 2 + STEP + SLICE,
+    "collected": TABLES + WINDOW + SLICE + STEP + SLICE,
+    "tick": SLICE * 2,
+}
+_loaded = {}
+
+
+def load(path=None):
+    """Loads the library at `path`; without it, at the first call, the one that hosts/build made or that BOLTJUNIPER_LIBRARY names."""
+    path = path or os.environ.get("BOLTJUNIPER_LIBRARY", LIBRARY)
+    try:
+        library = ctypes.CDLL(path)
+    except OSError as why:
+        raise NotBuilt("%s; hosts/build makes it" % why) from None
+    _loaded.clear()
+    for name, arguments in DECLARED.items():
+        function = getattr(library, "boltjuniper_" + name, None)
+        if function is not None:
+            function.argtypes, function.restype = arguments, ctypes.c_uint32
+            _loaded[name] = function
+
+
+def has(name):
+    """Whether the library has a function: one that was built of older code may lack some."""
+    if not _loaded:
+        load()
+    return name in _loaded
+
+
+def _function(name):
+    if not has(name):
+        raise NotBuilt("the library has no boltjuniper_%s; hosts/build makes it anew" % name)
+    return _loaded[name]
+
+
+# ---- lent memory
+
+class _Buffer(ctypes.Structure):  # CPython's Py_buffer
+    _fields_ = [("buf", ctypes.c_void_p), ("obj", ctypes.py_object), ("len", ctypes.c_ssize_t), ("itemsize", ctypes.c_ssize_t),
+                ("readonly", ctypes.c_int), ("ndim", ctypes.c_int), ("format", ctypes.c_char_p), ("shape", ctypes.c_void_p),
+                ("strides", ctypes.c_void_p), ("suboffsets", ctypes.c_void_p), ("internal", ctypes.c_void_p)]
+
+
+def _address(view):
+    b = _Buffer()
+    ctypes.pythonapi.PyObject_GetBuffer(ctypes.py_object(view), ctypes.byref(b), 0)
+    address = b.buf
+    ctypes.pythonapi.PyBuffer_Release(ctypes.byref(b))
+    return address
+
+
+class _Lent:
+    """The arguments of a call, with the memory that they point to."""
+
+    def __init__(self):
+        self.arguments, self.kept = [], []
+
+    def slice(self, what, x, code):
+        """Adds pointer and number of elements of an array of this type: f, d, I or B, as the module `array` has them."""
+        try:
+            view = memoryview(x)
+        except TypeError:
+            view = memoryview(array.array(code, x))
+        size = array.array(code).itemsize
+        if view.itemsize != size or view.format.lstrip("@=<") not in (code, "c" if code == "B" else code):
+            raise TypeError("%s: an array of type %s (%d bytes each) is asked for, and this one has type %s" % (what, code, size, view.format))
+        if not view.c_contiguous:
+            raise ValueError("%s: the array has gaps; lend a copy in one piece" % what)
+        n = view.nbytes // size
+        if n == 0 or _address(view) % size:  # it has no place of its own, or one that is not aligned
+            view = memoryview(array.array(code, view.tobytes() or bytes(size)))
+        self.arguments += [_address(view), n]
+        self.kept.append(view)
+        return self
+
+    def tables(self, tables):
+        return self.slice("records", tables.records, "I").slice("shapes", tables.shapes, "f")
+
+    def window(self, window):
+        self.slice("cells", window.cells, "I")
+        self.arguments += [*_whole(window.origin, -2**31, 2**31), *_whole(window.sizes, 0, 2**32)]
+        return self
+
+    def body(self, body):
+        self.slice("numbers", body.numbers, "d").slice("words", body.words, "I")
+        self.arguments += _whole([body.age], 0, 2**64)
+        return self
+
+    def swept(self, mover):
+        self.slice("mover", [*mover.aabb, *mover.delta], "d")
+        self.arguments.append(mover.step)
+        return self
+
+    def mover(self, mover):
+        self.swept(mover)
+        self.arguments += _whole([mover.ground], 0, 2**32)
+        return self
+
+    def answer(self, name, numbers, *last):
+        """Calls a function that writes so many numbers: these, or Refused as a value. `last` are arguments that change from call to call."""
+        out = (ctypes.c_double * numbers)()
+        refusal = _function(name)(*self.arguments, *last, *([ctypes.addressof(out), numbers] if numbers else []))
+        return Refused(refusal) if refusal else list(out)
+
+
+def _whole(numbers, low, high):
+    """ctypes cuts a number that is too large for its type; we don't."""
+    for n in numbers:
+        if not low <= n < high:
+            raise ValueError("%d is beyond %d to %d" % (n, low, high - 1))
+    return [int(n) for n in numbers]
+
+
+def _tick(out):
+    return out if isinstance(out, Refused) else Tick(tuple(out[:3]), tuple(out[3:6]), out[6] != 0, ("none", "water", "lava")[int(out[7])])
+
+
+def _moved(out):
+    return out if isinstance(out, Refused) else Moved(tuple(out[:6]), tuple(out[6:9]), out[9] != 0)
+
+
+def _judged(answer):
+    if isinstance(answer, Refused):
+        raise answer
+    return answer
+
+
+# ---- one call, one answer: a refusal is raised
+
+def check_tables(tables):
+    """Refused by 1 where tables break a rule."""
+    _judged(_Lent().tables(tables).answer("check_tables", 0))
+
+
+def step(tables, window, body):
+    """One tick of a body."""
+    return _judged(_tick(_Lent().tables(tables).window(window).body(body).answer("step", 8)))
+
+
+def step_checked(tables, window, body):
+    """The same for tables and a window that were checked before: it looks for neither 1 nor 2, and is as safe."""
+    return _judged(_tick(_Lent().tables(tables).window(window).body(body).answer("step_checked", 8)))
+
+
+def tick(file):
+    """The tick of a scene file, given as bytes."""
+    return _judged(_tick(_Lent().slice("file", file, "B").answer("tick", 8)))
+
+
+def move(tables, window, mover):
+    """The move of a box through a window."""
+    return _judged(_moved(_Lent().tables(tables).window(window).mover(mover).answer("move", 10)))
+
+
+def collected(tables, window, mover):
+    """The boxes that a move through a window collects, each least x y z and greatest x y z, in their order."""
+    lent = _Lent().tables(tables).window(window).swept(mover)
+
+    def count_and_box(k):
+        return _judged(lent.answer("collected", 7, k))
+
+    return [tuple(count_and_box(k)[1:]) for k in range(int(count_and_box(0)[0]))]
+
+
+def move_over_list(boxes, mover):
+    """The move of a box over boxes of the host's own, six numbers to a box."""
+    return _judged(_moved(_Lent().slice("boxes", boxes, "d").mover(mover).answer("move_over_list", 10)))
+
+
+# ---- many: a refusal is a value among the answers
+
+def steps(tables, window, bodies):
+    """One tick of each body over one window: a list of Tick or Refused. Tables and window are checked once, by the first body's step."""
+    lent, answers = _Lent().tables(tables).window(window), []
+    for body in bodies:
+        if answers and answers[0] in (Refused(1), Refused(2)):
+            answers.append(answers[0])
+            continue
+        one = _Lent()
+        one.arguments = list(lent.arguments)
+        answers.append(_tick(one.body(body).answer("step_checked" if answers else "step", 8)))
+    return answers
+
+
+def ticks(files):
+    """The tick of each scene file: a list of Tick or Refused."""
+    return [_tick(_Lent().slice("file", file, "B").answer("tick", 8)) for file in files]

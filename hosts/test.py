@@ -1,0 +1,190 @@
+#!/usr/bin/env python3
+"""Holds the functions of hosts/boltjuniper.py to the stored answers of the original Rust (docs/VECTORS.md). Run by hosts/run."""
+import os
+import struct
+import sys
+
+sys.dont_write_bytecode = True
+HERE = os.path.dirname(os.path.abspath(__file__))
+sys.path.insert(0, os.path.join(HERE, "..", "tools"))
+import boltjuniper as b
+import scenefile
+
+try:
+    import numpy
+except ImportError:
+    numpy = None
+os.chdir(os.path.join(HERE, ".."))
+
+
+class Count:
+    def __init__(self, what):
+        self.what, self.agree, self.differ = what, 0, 0
+
+    def add(self, name, ours, theirs):
+        self.agree += ours == theirs
+        self.differ += ours != theirs
+        if ours != theirs:
+            print("%s, %s: %s, and the vectors have %s" % (self.what, name, ours, theirs))
+
+    def tell(self):
+        print("Python, %s: %d agree, %d differ" % (self.what, self.agree, self.differ))
+        return self.differ == 0 and self.agree > 0
+
+
+def bits(numbers):
+    return "".join(" " + struct.pack(">d", x).hex() for x in numbers)
+
+
+def number(text):
+    return struct.unpack(">d", bytes.fromhex(text))[0]
+
+
+def asked(call, *arguments):
+    """What a call returns, or raises where it is refused."""
+    try:
+        return call(*arguments)
+    except b.Refused as refused:
+        return refused
+
+
+def tick_text(t):
+    if isinstance(t, b.Refused):
+        return "refused %d" % t.number
+    return "feet%s; velocity%s; ground %d; liquid %s" % (bits(t.feet), bits(t.velocity), t.ground, t.liquid)
+
+
+def move_text(mover, m):
+    """A refused move returns its box, moved zero, ground false."""
+    refusal = "refused %d " % m.number if isinstance(m, b.Refused) else ""
+    m = b.Moved(mover.aabb, (0.0, 0.0, 0.0), False) if refusal else m
+    return "%sbox%s moved%s ground %d" % (refusal, bits(m.aabb), bits(m.moved), m.ground)
+
+
+def parts(scene, as_array=lambda a: a):
+    """A scene as the calls take it, each array as this makes it."""
+    (records, shapes), (cells, origin, sizes), (numbers, words, age) = scenefile.arrays(scene)
+    return (b.Tables(as_array(records), as_array(shapes)), b.Window(as_array(cells), origin, sizes), b.Body(as_array(numbers), as_array(words), age))
+
+
+def as_numpy(a):
+    """The same array as one of numpy's that may only be read."""
+    return numpy.frombuffer(a.tobytes(), dtype={"I": numpy.uint32, "f": numpy.float32, "d": numpy.float64}[a.typecode])
+
+
+COUNTS = {name: Count(name) for name in ("tick", "ticks", "step", "step_checked", "steps", "check_tables", "move", "move_over_list", "collected",
+                                         "move over what it collects", "step of numpy's arrays", "two ticks at a door", "arrays as they are")}
+
+
+def one_scene(name, theirs):
+    with open("crates/replay/data/%s.scn" % name, "rb") as f:
+        data = f.read()
+    COUNTS["tick"].add(name, tick_text(asked(b.tick, data)), theirs)
+    COUNTS["ticks"].add(name, [tick_text(t) for t in b.ticks([data, b"", data])], [theirs, "refused 8", theirs])
+    if theirs == "refused 8":
+        return
+    scene = scenefile.unpacked(data)
+    tables, window, body = parts(scene)
+    COUNTS["step"].add(name, tick_text(asked(b.step, tables, window, body)), theirs)
+    COUNTS["steps"].add(name, [tick_text(t) for t in b.steps(tables, window, [body] * 3)], [theirs] * 3)
+    COUNTS["check_tables"].add(name, asked(b.check_tables, tables), b.Refused(1) if theirs == "refused 1" else None)
+    early = theirs in ("refused 1", "refused 2")
+    if not early:
+        COUNTS["step_checked"].add(name, tick_text(asked(b.step_checked, tables, window, body)), theirs)
+    # A move through the window meets 1 and 2 as the step does; its step height is then 3.
+    refused = asked(b.move, tables, window, b.Mover((0.0,) * 6, (0.0,) * 3, 5.0))
+    COUNTS["move"].add(name, "refused %d" % refused.number, theirs if early else "refused 3")
+    over_collected(name, tables, window, body)
+    if numpy:
+        COUNTS["step of numpy's arrays"].add(name, tick_text(asked(b.step, *parts(scene, as_numpy))), theirs)
+
+
+def over_collected(name, tables, window, body):
+    """A move through a window is the move over the boxes that it collects: here the body's own box, by its velocity."""
+    (x, y, z), delta, (width, height), step = body.numbers[:3], body.numbers[3:6], body.numbers[6:8], body.numbers[13]
+    mover = b.Mover((x - width / 2, y, z - width / 2, x + width / 2, y + height, z + width / 2), tuple(delta), step, body.words[0])
+    boxes = asked(b.collected, tables, window, mover)
+    over = boxes if isinstance(boxes, b.Refused) else asked(b.move_over_list, [number for box in boxes for number in box], mover)
+    COUNTS["move over what it collects"].add(name, move_text(mover, asked(b.move, tables, window, mover)), move_text(mover, over))
+
+
+def one_list(call, theirs):
+    """movelist box6 delta3 step ground n box6*n"""
+    words = call.split()[1:]
+    numbers = [number(w) for w in words[:10] + words[12:]]
+    mover = b.Mover(tuple(numbers[:6]), tuple(numbers[6:9]), numbers[9], int(words[10]))
+    COUNTS["move_over_list"].add(call, move_text(mover, asked(b.move_over_list, numbers[10:], mover)), theirs)
+
+
+def example(name):
+    with open("examples/%s.txt" % name) as f:
+        return scenefile.written(f.read())
+
+
+def case_a():
+    """Case A of the requirements: what its step does to the box."""
+    tables, window, _ = parts(example("case-a"))
+    mover = b.Mover((0.0, 1.25, 0.0, 1.0, 2.25, 1.0), (0.25, -0.5, 0.0))
+    theirs = b.Moved((0.25, 1.0, 0.0, 1.25, 2.0, 1.0), (0.25, -0.25, 0.0), True)
+    COUNTS["move"].add("case A", move_text(mover, asked(b.move, tables, window, mover)), move_text(mover, theirs))
+    COUNTS["collected"].add("case A", asked(b.collected, tables, window, mover), [(0, 0, 0, 1, 1, 1), (1, 0, 0, 2, 1, 1)])
+    COUNTS["collected"].add("step height", asked(b.collected, tables, window, mover._replace(step=5.0)), b.Refused(3))
+    # of the fence, joined to the unloaded cell, the arm alone lies in the way
+    tables, window, _ = parts(example("fence-unloaded"))
+    mover = b.Mover((1.6875, 1.0, 0.625, 1.9375, 1.25, 0.875), (0.0, 0.0, 0.75))
+    COUNTS["collected"].add("fence", asked(b.collected, tables, window, mover), [(1.625, 1.0, 1.375, 2.0, 2.5, 1.625)])
+
+
+def doors():
+    """What docs/MODERATORS.md says of two ticks at a door: the first ends one rounding inside it, the second behind it."""
+    first, second = example("door-1"), example("door-2")
+    stopped, passed = (asked(b.step, *parts(scene)) for scene in (first, second))
+    half = scenefile.value(first.body, scenefile.BODY["width"]) / 2
+    start = tuple(scenefile.values(second.body, scenefile.BODY["position"]))
+    COUNTS["two ticks at a door"].add("stopped", (stopped.feet, stopped.velocity[0], stopped.feet[0] + half), (start, 0.0, -1.9999999999999998))
+    COUNTS["two ticks at a door"].add("passed", (passed.feet[0], passed.feet[0] - half > -2 + 0.1875), (-1.4999999999999996, True))
+
+
+def arrays():
+    """An array is lent as it is, a list copied, and nothing converted in silence."""
+    def told(**lent):
+        try:
+            return b.step(tables._replace(**lent), window, body)
+        except (TypeError, ValueError, OverflowError) as why:
+            return type(why)
+
+    tables, window, body = parts(example("case-a"))
+    count, fine, words = COUNTS["arrays as they are"], b.step(tables, window, body), tables.records
+    count.add("a list", told(records=list(words)), fine)
+    count.add("only read", told(records=memoryview(words).toreadonly()), fine)
+    count.add("not aligned", told(records=memoryview(b"\0" + words.tobytes())[1:].cast("B").cast("I")), fine)
+    count.add("no boxes", told(shapes=words[:0]), TypeError)
+    count.add("of 8 bytes", told(records=memoryview(bytes(8 * len(words))).cast("Q")), TypeError)
+    count.add("signed", told(records=memoryview(words).cast("B").cast("i")), TypeError)
+    count.add("gaps", told(records=memoryview(words)[::2]), ValueError)
+    count.add("beyond a word", told(records=[2**32]), OverflowError)
+    count.add("none", asked(b.step, b.Tables([], []), window, body), b.Refused(1))
+    try:
+        b.step(tables, window._replace(sizes=(2**32 + 2, 4, 2)), body)
+        count.add("a size beyond a word", "taken", "ValueError")
+    except ValueError:
+        count.add("a size beyond a word", "ValueError", "ValueError")
+
+
+def main():
+    with open("crates/replay/stdout") as f:
+        for line in f.read().splitlines():
+            if line[:1].isdigit():
+                one_scene(*line.split(" ", 1))
+            elif line.startswith("movelist "):
+                one_list(*line.split("=> ", 1))
+    case_a()
+    doors()
+    arrays()
+    if not numpy:
+        print("Python, %s: not tried, numpy is not there" % COUNTS.pop("step of numpy's arrays").what)
+    fine = [count.tell() for count in COUNTS.values()]
+    sys.exit(not all(fine))
+
+
+main()
