@@ -20,7 +20,7 @@ use Rattle.sweeps.specs.Entry as E
 use Rattle.tables.specs.Tables as B
 use Rattle.window.specs.Window as W
 use Rattle.window.specs.Look as U
-use Rattle.lent.specs.Lent.{unless, lentRefusal}
+use Rattle.lent.specs.Lent.{unless, directRefusal}
 use Rattle.ranges.specs.Ranges as R
 use Rattle.ranges.specs.Walk as Q
 use Rattle.connect.specs.Connect as J
@@ -58,11 +58,11 @@ pub record FairIn (cells : List ℕ) (s : F.MoveScene) (stepsUp : Bool) : Type 0
 taken : (cells : List ℕ) (s : F.MoveScene)
     → X.moveEntry T.records T.shapes cells S.sampleWindow F.mover (s .delta) (s .step) (s .ground)
     ≡ X.moveAnswer F.mover
-    (unless (not (eqb (W.windowRefusal (length cells) S.sampleWindow) 0)) (W.windowRefusal (length cells) S.sampleWindow)
+    (unless (not (eqb (W.windowRefusal cells S.sampleWindow) 0)) (W.windowRefusal cells S.sampleWindow)
     (unless (not (L.isStep (s .step))) 3
     (unless (not (L.isBox F.mover && L.isDelta (s .delta))) 4
     (X.moveAabb (U.lookAt cells S.sampleWindow) T.records T.shapes F.mover (s .delta) (s .step) (s .ground)))))
-unfolding C.choose lentRefusal X.moveEntry
+unfolding C.choose directRefusal X.moveEntry
 taken cells s = rw tables-fit
 
 pub sliding-through : FairIn S.slidingCells F.p1 false

@@ -26,7 +26,7 @@ use Rattle.window.specs.declared.Window.{Window}
 use Rattle.window.specs.Window.{windowFits, windowRefusal}
 use Rattle.window.specs.Look.{lookAt}
 use Rattle.window.proofs.Cells as N
-use Rattle.lent.specs.Lent.{unless, lentRefusal}
+use Rattle.lent.specs.Lent.{unless, directRefusal}
 use Rattle.ranges.specs.declared.Range.{Range}
 use Rattle.ranges.specs.Ranges.{placeAt}
 use Rattle.moves.specs.Collect.{rangeOf, collectBlockBoxes}
@@ -223,14 +223,14 @@ window-taken tables window e = go (eqb tables 0) (λ z. eq→eqb {a = tables} {b
     go false f e = absurd (f e)
 
 pub demand3-window : WindowDemand
-unfolding moveEntry moveAabb lentRefusal windowOnGrid keepsStepIn
+unfolding moveEntry moveAabb directRefusal windowOnGrid keepsStepIn
 demand3-window records shapes cells w m d h ground t e =
     let c = collectBlockBoxes (lookAt cells w) records shapes (sweptArea m d h) in
-    let l = lentRefusal records shapes cells w in
+    let l = directRefusal records shapes cells w in
     let a = accepted l (not (eqb l 0)) (not (isStep h)) (not (isBox m && isDelta d)) c m d h ground (λ t z. T-not (eqb l 0) t (eq→eqb {a = l} {b = 0} z))
     (collect-refuses cells w records shapes (sweptArea m d h) .only) e in
     let bs = a .boxes in
-    let W = N.accepted (length cells) w (window-taken (tableRefusal records shapes) (windowRefusal (length cells) w) (eqb→eq l 0 (no-not (eqb l 0) (a .lent)))) in
+    let W = N.accepted (length cells) w (window-taken (tableRefusal records shapes) (windowRefusal cells w) (eqb→eq l 0 (no-not (eqb l 0) (a .lent)))) in
     let bd = no-not (isBox m && isDelta d) (a .four) in
     let t1 = and-r (isProper m) (shapesOnGrid records shapes cells w && (vecOnGrid d && (onGrid h && isFreeIn records shapes cells w m))) t in
     let t2 = and-r (shapesOnGrid records shapes cells w) (vecOnGrid d && (onGrid h && isFreeIn records shapes cells w m)) t1 in

@@ -1,4 +1,4 @@
--- The place of a cell among the lent cells, worked out without wrapping. Assumes nothing.
+-- The place of a word among the lent words, worked out without wrapping. Assumes nothing.
 use mathlib.Core.Path.{_≡_, sym}
 use mathlib.Core.List.{List}
 use Prim.Native.Nat.{ℕ, _+_, _*_, _-_, _/_, _≤_, _<_}
@@ -7,18 +7,18 @@ use native.Mathlib.Omega.{arith}
 use lib.ListN.{length}
 use borrow.Author.Tests.{le-ltb}
 use Rattle.base.proofs.Cases.{no}
-use Rattle.window.specs.declared.Cell.the-variants.{Outside}
-use Rattle.window.specs.Offsets.{cellAt}
+use Rattle.window.specs.declared.Word.the-variants.{Missing}
+use Rattle.window.specs.Offsets.{lentAt}
 
--- no cell was lent for a place
-pub unlent : (cells : List ℕ) (i : ℕ) → length cells ≤ i → Outside ≡ cellAt cells i
-unfolding cellAt
-unlent cells i h = sym (no _ _ _ (le-ltb i (length cells) h))
+-- no word was lent for a place
+pub unlent : (words : List ℕ) (i : ℕ) → length words ≤ i → Missing ≡ lentAt words i
+unfolding lentAt
+unlent words i h = sym (no _ _ _ (le-ltb i (length words) h))
 
 positive : (s : ℕ) → (s ≡ 0 → ⊥) → 0 < s
 positive s p = omega arith
 
--- whether a cell was lent for row * s + x, by a division
+-- whether a word was lent for row * s + x, by a division
 pub far-in : (row s x n : ℕ) → x < n → (s ≡ 0 → ⊥) → row ≤ (n - 1 - x) / s → row * s + x < n
 far-in row s x n h p k = let q : row * s ≤ n - 1 - x = le-div-iff-mul-le (positive s p) .0 k in omega arith
 

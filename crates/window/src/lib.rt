@@ -1,14 +1,16 @@
-// The window: a host lends cells and says by numbers where they lie. Its check (2), and the one look-up.
+// The window: a host lends words, of cells and of columns, and says by numbers where they lie. Its check (2), and the one look-up.
 mod numbers;
 
 pub use numbers::window_of;
+pub use numbers::with_air;
 ghost use mathlib.Core.Path.{_≡_};
+ghost use mathlib.Core.Bool.{_||_};
 ghost use Prim.Native.Nat.{_+_, _*_};
 ghost use lib.IntN.{_+ℤ_, _-ℤ_};
-ghost use lib.ListN.{length};
-ghost use Rattle.window.specs.Window.{sizeFits, sizesFit, coordinateFits, originFits, windowRefusal};
+ghost use lib.Signed.{ltZ};
+ghost use Rattle.window.specs.Window.{indexAt, sizeFits, sizesFit, coordinateFits, originFits, heightsFit, columnFits, columnsFit, windowRefusal};
 ghost use Rattle.window.specs.Look.{lookAt, asked, stepped};
-ghost use Rattle.window.specs.Offsets.{offsetOf, cellFor, cellAt, cellIn};
+ghost use Rattle.window.specs.Offsets.{offsetOf, lentAt, columnIn, cellIn, lookIn};
 
 pub struct Pos {
     pub x: i32,
@@ -22,10 +24,14 @@ pub struct Sizes {
     pub z: u32,
 }
 
-// The numbers of a window; the lent cells go beside it. Sizes are u32 so that any number a host hands in can be checked.
+// The numbers of a window: where it lies, the world's lowest and highest cell, and the state that the sky and the void read. Its lent words go
+// beside it: the cells, then one for each column. Sizes are u32 so that any number a host hands in can be checked.
 pub struct Window {
     pub origin: Pos,
     pub sizes: Sizes,
+    pub lowest: i32,
+    pub highest: i32,
+    pub air: u32,
 }
 
 // A way from a cell to one beside it.
@@ -56,63 +62,106 @@ fn offset(x: i32, d: i8, o: i32) -> u64
     }
 }
 
-fn cell_of(v: u32) -> Cell
-    ensures { λ r. ⌜ r ≡ cellFor v ⌝ }
-{
-    if v == 4294967295 {
-        return Cell::Unloaded;
-    }
-    Cell::State(v)
+// A lent word, or none.
+enum Word {
+    Is(u32),
+    Missing,
 }
 
-fn cell_at(cells: &[u32], i: u64) -> Cell
-    ensures { λ r. ⌜ r ≡ cellAt (now (cells .entry)) i ⌝ }
+fn word_at(words: &[u32], i: u64) -> Word
+    ensures { λ r. ⌜ r ≡ lentAt (now (words .entry)) i ⌝ }
 {
     let i = i as usize;
-    if i < cells.len() {
-        return cell_of(cells[i]);
+    if i < words.len() {
+        return Word::Is(words[i]);
     }
-    Cell::Outside
+    Word::Missing
 }
 
-// The cell at row * size + x, where that might not fit in a u64: only a window of 2^32 rows and more comes here.
-fn far_cell(cells: &[u32], row: u64, size: u64, x: u64) -> Cell
-    ensures { λ r. ⌜ r ≡ cellAt (now (cells .entry)) (row * size + x) ⌝ }
+// The word at row * size + x, where that might not fit in a u64: only a window of 2^32 rows and more comes here.
+fn far_word(words: &[u32], row: u64, size: u64, x: u64) -> Word
+    ensures { λ r. ⌜ r ≡ lentAt (now (words .entry)) (row * size + x) ⌝ }
 {
-    let n = cells.len() as u64;
+    let n = words.len() as u64;
     if n <= x {
-        return Cell::Outside;
+        return Word::Missing;
     }
     if size == 0 {
-        return cell_at(cells, x);
+        return word_at(words, x);
     }
     if row <= (n - 1 - x) / size {
-        return cell_at(cells, row * size + x);
+        return word_at(words, row * size + x);
     }
-    Cell::Outside
+    Word::Missing
 }
 
-// The cell at three offsets into the window. Below the sizes no sum here wraps.
-fn cell_in(cells: &[u32], s: Sizes, x: u64, y: u64, z: u64) -> Cell
-    ensures { λ r. ⌜ r ≡ cellIn (now (cells .entry)) s x y z ⌝ }
+// The word at three offsets. Of u32s no sum here wraps.
+fn word_in(words: &[u32], s: Sizes, x: u32, y: u32, z: u32) -> Word
+    ensures { λ r. ⌜ r ≡ lentAt (now (words .entry)) (indexAt s x y z) ⌝ }
 {
-    let sx = s.x as u64;
-    let sy = s.y as u64;
-    let sz = s.z as u64;
-    if x < sx {
-        if y < sy {
-            if z < sz {
-                let row = y * sz + z;
-                if row < 4294967296 {
-                    return cell_at(cells, row * sx + x);
-                }
-                return far_cell(cells, row, sx, x);
+    let row = (y as u64) * (s.z as u64) + (z as u64);
+    if row < 4294967296 {
+        return word_at(words, row * (s.x as u64) + (x as u64));
+    }
+    far_word(words, row, s.x as u64, x as u64)
+}
+
+// The word of the column at two offsets.
+fn column_in(words: &[u32], s: Sizes, x: u64, z: u64) -> Word
+    ensures { λ r. ⌜ r ≡ columnIn (now (words .entry)) s x z ⌝ }
+{
+    if x < s.x as u64 {
+        if z < s.z as u64 {
+            return word_in(words, s, x as u32, s.y, z as u32);
+        }
+        return Word::Missing; // beyond on z
+    }
+    Word::Missing // beyond on x
+}
+
+// The cell at three offsets.
+fn cell_in(words: &[u32], s: Sizes, x: u64, y: u64, z: u64) -> Cell
+    ensures { λ r. ⌜ r ≡ cellIn (now (words .entry)) s x y z ⌝ }
+{
+    if x < s.x as u64 {
+        if y < s.y as u64 {
+            if z < s.z as u64 {
+                return match word_in(words, s, x as u32, y as u32, z as u32) {
+                    Word::Is(v) => Cell::State(v),
+                    Word::Missing => Cell::Outside,
+                };
             }
-            return Cell::Outside; // beyond on z
+            return Cell::Outside;
         }
         return Cell::Outside; // beyond on y
     }
-    Cell::Outside // beyond on x
+    Cell::Outside
+}
+
+// Whether y and d together lie above or below the world.
+fn is_void(y: i32, d: i8, lowest: i32, highest: i32) -> bool
+    ensures { λ r. ⌜ r ≡ ltZ (y +ℤ d) lowest || ltZ highest (y +ℤ d) ⌝ }
+{
+    let at = (y as i64) + (d as i64);
+    (at < lowest as i64) | ((highest as i64) < at)
+}
+
+// The column decides, then the world's ends, then the window's height.
+fn look_in(words: &[u32], s: Sizes, air: u32, void: bool, x: u64, y: u64, z: u64) -> Cell
+    ensures { λ r. ⌜ r ≡ lookIn (now (words .entry)) s air void x y z ⌝ }
+{
+    match column_in(words, s, x, z) {
+        Word::Missing => Cell::Outside,
+        Word::Is(v) => {
+            if v == 0 {
+                return Cell::Unloaded;
+            }
+            if void {
+                return Cell::State(air);
+            }
+            cell_in(words, s, x, y, z)
+        }
+    }
 }
 
 // The look-up of the cell a step away from p.
@@ -122,7 +171,8 @@ pub fn look_by(cells: &[u32], w: Window, p: Pos, d: CellStep) -> Cell
     let x = offset(p.x, d.x, w.origin.x);
     let y = offset(p.y, d.y, w.origin.y);
     let z = offset(p.z, d.z, w.origin.z);
-    cell_in(cells, w.sizes, x, y, z)
+    let void = is_void(p.y, d.y, w.lowest, w.highest);
+    look_in(cells, w.sizes, w.air, void, x, y, z)
 }
 
 // The look-up of the cell at p.
@@ -157,15 +207,55 @@ fn origin_fits(o: Pos) -> bool
     coordinate_fits(o.x) & coordinate_fits(o.y) & coordinate_fits(o.z)
 }
 
+fn heights_fit(w: Window) -> bool
+    ensures { λ r. ⌜ r ≡ heightsFit (w .lowest) (w .highest) ⌝ }
+{
+    coordinate_fits(w.lowest) & coordinate_fits(w.highest) & (w.lowest <= w.highest)
+}
+
+fn wide(x: u32) -> usize
+    ensures { λ r. ⌜ r ≡ x ⌝ }
+{
+    x as usize
+}
+
+fn column_fits(words: &[u32], i: usize) -> bool
+    ensures { λ r. ⌜ r ≡ columnFits (now (words .entry)) i ⌝ }
+{
+    if i < words.len() {
+        return words[i] <= 1;
+    }
+    true
+}
+
+// So many words from the first on are 1 or 0.
+fn columns_fit(words: &[u32], first: u32, count: u32) -> bool
+    ensures { λ r. ⌜ r ≡ columnsFit (now (words .entry)) first count ⌝ }
+{
+    let mut k = 0u32;
+    while k < count {
+        if column_fits(words, wide(first) + wide(k)) {
+            k += 1;
+        } else {
+            return false;
+        }
+    }
+    true
+}
+
 // The check of a window that a host hands in: 0, or 2.
 pub fn check_window(cells: &[u32], w: Window) -> u32
-    ensures { λ r. ⌜ r ≡ windowRefusal (length (now (cells .entry))) w ⌝ }
+    ensures { λ r. ⌜ r ≡ windowRefusal (now (cells .entry)) w ⌝ }
 {
     if sizes_fit(w.sizes) {
-        if origin_fits(w.origin) {
-            let product = w.sizes.x * w.sizes.y * w.sizes.z;
-            if cells.len() == product as usize {
-                return 0;
+        if origin_fits(w.origin) & heights_fit(w) {
+            let count = w.sizes.x * w.sizes.y * w.sizes.z;
+            let columns = w.sizes.x * w.sizes.z;
+            if cells.len() == wide(count + columns) {
+                if columns_fit(cells, count, columns) {
+                    return 0;
+                }
+                return 2;
             }
             return 2;
         }

@@ -1,0 +1,24 @@
+-- `window::word_at` meets its contract. Assumes nothing.
+use Rattle.window.specs.Offsets.{lentAt}
+use Rattle.base.specs.Choose.{choose}
+use borrow.Author.Tests.{le-ltb, lt-ltb}
+use borrow.Author.Needs.{needs}
+use Rattle.window.proofs.word_at.Statement.{statement}
+use Rattle.window.proofs.word_at.Tie as tie
+
+mul-t6 : tie.Need-mul-t6
+mul-t6 c = search needs
+
+shared-slice-read-t8 : tie.Need-shared-slice-read-t8
+shared-slice-read-t8 c = search needs
+
+returns : tie.Need-returns
+unfolding lentAt choose
+returns c = rw (lt-ltb _ _ (c .before .if1 .taken))
+
+returns-2 : tie.Need-returns-2
+unfolding lentAt choose
+returns-2 c = rw (le-ltb _ _ (c .if1 .left))
+
+pub word-at-spec : {M : Type 1} → statement M
+word-at-spec = tie.close (tie.spec mul-t6 shared-slice-read-t8 returns returns-2)
