@@ -32,7 +32,7 @@ use Rattle.window.proofs.Cells.{fits, found-inside}
 use Rattle.moves.specs.Collect.{CellShape, cube, boxes, originOf, cubeAt, toAabb, aabbsOf, shapeAabbs, shapeOf, cellShape}
 use Rattle.moves.specs.Settled.{settled, settledBoxes}
 use Rattle.grid.specs.Grid.{onGrid, isProper}
-use Rattle.grid.specs.Demand.{cellAndHalf, isInCell, shapeOnGrid, settledOnGrid, cellFrom, everyColumn, everyHeight, shapesOnGrid}
+use Rattle.grid.specs.Demand.{cellAndHalf, isInCell, shapeOnGrid, settledOnGrid, cellFrom, everyColumn, aboveWorld, belowWorld, deepBelow, everyHeight, shapesOnGrid}
 use Rattle.grid.proofs.Units.{At, add-at, at-same, le-at, lt-at}
 use Rattle.grid.proofs.Axis.{Span}
 use Rattle.grid.proofs.Counted.{base, OnSpan, zero-at}
@@ -241,13 +241,13 @@ module _ (w : Window) (test : Pos → Bool) (p : Pos) (i : InColumn w p) (t : T 
   layers = every (w .sizes .y) (λ y. everyColumn w test (w .origin .y +ℤ pos y))
 
   abbrev highTest : Bool
-  highTest = everyColumn w test (w .highest +ℤ pos 1)
+  highTest = everyColumn w test (aboveWorld w)
 
   abbrev nextTest : Bool
-  nextTest = everyColumn w test (w .lowest -ℤ pos 1)
+  nextTest = everyColumn w test (belowWorld w)
 
   abbrev deepTest : Bool
-  deepTest = everyColumn w test (w .lowest -ℤ pos 2)
+  deepTest = everyColumn w test (deepBelow w)
 
   in-layer : OnAxis (w .origin .y) (w .sizes .y) (p .y) → T (test p)
   unfolding everyHeight
@@ -255,19 +255,19 @@ module _ (w : Window) (test : Pos → Bool) (p : Pos) (i : InColumn w p) (t : T 
       let l = every-at (w .sizes .y) (λ y. everyColumn w test (w .origin .y +ℤ pos y)) (T-true layers (and-l layers (highTest && (nextTest && deepTest)) t)) (y .index) (y .below) in
       subst (λ (y : ℤ). T (test (atHeight p y))) (y .from) (at-column w test p (w .origin .y +ℤ pos (y .index)) i (subst T (sym l) tt))
 
-  in-sky : T (test (atHeight p (w .highest +ℤ pos 1)))
+  in-sky : T (test (atHeight p (aboveWorld w)))
   unfolding everyHeight
-  in-sky = at-column w test p (w .highest +ℤ pos 1) i (and-l highTest (nextTest && deepTest) (and-r layers (highTest && (nextTest && deepTest)) t))
+  in-sky = at-column w test p (aboveWorld w) i (and-l highTest (nextTest && deepTest) (and-r layers (highTest && (nextTest && deepTest)) t))
 
   rest-below : T (nextTest && deepTest)
   unfolding everyHeight
   rest-below = and-r highTest (nextTest && deepTest) (and-r layers (highTest && (nextTest && deepTest)) t)
 
-  in-next : T (test (atHeight p (w .lowest -ℤ pos 1)))
-  in-next = at-column w test p (w .lowest -ℤ pos 1) i (and-l nextTest deepTest rest-below)
+  in-next : T (test (atHeight p (belowWorld w)))
+  in-next = at-column w test p (belowWorld w) i (and-l nextTest deepTest rest-below)
 
-  in-deep : T (test (atHeight p (w .lowest -ℤ pos 2)))
-  in-deep = at-column w test p (w .lowest -ℤ pos 2) i (and-r nextTest deepTest rest-below)
+  in-deep : T (test (atHeight p (deepBelow w)))
+  in-deep = at-column w test p (deepBelow w) i (and-r nextTest deepTest rest-below)
 
 -- where a box of a cell lies
 pub data Stands (p : Pos) (b : Aabb) (nx nz : ℕ) : Type 0 where
@@ -295,7 +295,7 @@ module _ (records : List ℕ) (shapes : List Float) (words : List ℕ) (w : Wind
     below-world e = go (ltZ (p .y +ℤ pos 1) (w .lowest)) refl
       where
         go : (t : Bool) → ltZ (p .y +ℤ pos 1) (w .lowest) ≡ t → T (test p)
-        go true f = alike (w .lowest -ℤ pos 2) (deep w (p .y) f) (deep w (w .lowest -ℤ pos 2) (below-lowest w)) (in-deep w test p i G)
+        go true f = alike (deepBelow w) (deep w (p .y) f) (deep w (deepBelow w) (below-lowest w)) (in-deep w test p i G)
         go false f = subst (λ (y : ℤ). T (test (atHeight p y))) (just-below w (p .y) e f) (in-next w test p i G)
 
     in-world : isVoid w p ≡ false → T (test p)
@@ -315,7 +315,7 @@ module _ (records : List ℕ) (shapes : List Float) (words : List ℕ) (w : Wind
       where
         go : (l h : Bool) → ltZ (p .y) (w .lowest) ≡ l → ltZ (w .highest) (p .y) ≡ h → T (test p)
         go true h e f = below-world e
-        go false true e f = alike (w .highest +ℤ pos 1) (sky w (p .y) f) (sky w (w .highest +ℤ pos 1) (above-highest w)) (in-sky w test p i G)
+        go false true e f = alike (aboveWorld w) (sky w (p .y) f) (sky w (aboveWorld w) (above-highest w)) (in-sky w test p i G)
         go false false e f = in-world (λ j. e j || f j)
 
   -- what holds of a cube and of every box on the grid holds of each box of a cell

@@ -1,17 +1,17 @@
 -- A cell far above or below all that a move reaches: its boxes overlap nothing there, however their corners are rounded (`far-clear`). Assumes nothing.
-use mathlib.Core.Path.{_≡_, refl, sym, subst}
+use mathlib.Core.Path.{_≡_, refl, subst}
 use mathlib.Core.Bool.{Bool, true, false, not, _&&_, cond, true≢false, false≢true}
 use Prim.Native.Nat.{ℕ, suc, _+_, _-_, _*_, _^_, _≤_, _<_}
 use native.Mathlib.Nat.{mul-le-mul-right, mul-pos}
 use native.Mathlib.Omega.{arith}
 use lib.IntN.{ℤ, pos, negsuc, natAbs}
-use lib.Dec.{T, ltb, ltb→lt, lt→ltb, nltb→le, leb→le, lit<}
+use lib.Dec.{T, ltb, ltb→lt, lt→ltb, lit<}
 use lib.Ieee.{Float, nan, inf, fin, binary64, up, down, round, ofInt, ofBits, sum, add, neg, lt, le}
 use lib.Ieee.Fits.{and-l, and-r, down-pos}
 use lib.Ieee.Exact.{HasValue}
 use lib.Ieee.Back.{round-whole}
 use lib.Ieee.Order.{round-mono}
-use lib.Ieee.Positive.{above, positive-of-value, above-of-le, own-value, values-of-le}
+use lib.Ieee.Positive.{above, positive-of-value, above-of-le, values-of-le}
 use Rattle.floats.specs.Numbers.{one64}
 use Rattle.floats.proofs.Rounding.{neg-round}
 use Rattle.boxes.specs.declared.Aabb.{Aabb}

@@ -12,7 +12,6 @@ use lib.ListN.{length, getD}
 use borrow.Author.Tests.{ltb-true, lt-ltb}
 use Rattle.base.specs.Choose.{choose}
 use Rattle.base.specs.Ask.{Ask, refused, found, _>>=_}
-use Rattle.base.proofs.Tests.{T-true}
 use Rattle.base.proofs.Differences.{subℕ-pos, subℕ-neg, subℕ-add, subℕ-less, subℕ-same, subℕ-lt}
 use Rattle.cover.specs.declared.Side.{Side}
 use Rattle.cover.specs.declared.Side.the-variants.{North, East, South, West}
@@ -23,7 +22,8 @@ use Rattle.window.specs.Window.{columnInside, heightInside, isVoid, indexOf, co
 use Rattle.window.specs.Look.{Block, none, some, lookAt, stepped}
 use Rattle.connect.specs.declared.Joined.{Joined}
 use Rattle.connect.specs.Connect.{wayTo, upwards, connects, straight, raisedBy, connectKind, joins, post, transitions, postTransition, besideNeighbours, connectedState}
-use Rattle.moves.specs.Collect.{CellShape, cube, boxes, connectedShape, shapeOf, cellShape}
+use Rattle.moves.specs.Collect.{boxes, connectedShape, shapeOf, cellShape}
+use Rattle.grid.specs.Demand.{aboveWorld, belowWorld, deepBelow}
 
 -- ---- heights, as differences
 record Height (y : ℤ) : Type 0 where
@@ -69,9 +69,9 @@ sky w y e =
     record {
       here = or-right (ltZ y (w .lowest)) (ltZ (w .highest) y) e;
       beside = or-right (ltZ (y +ℤ pos 0) (w .lowest)) (ltZ (w .highest) (y +ℤ pos 0))
-      (lt-by (w .highest) (y +ℤ pos 0) (t .over) (t .under) (h .over + 0) (h .under) (t .is) (higher h 0) ∙ lt-ltb (t .over + h .under) (h .over + 0 + t .under) (omega arith));
+          (lt-by (w .highest) (y +ℤ pos 0) (t .over) (t .under) (h .over + 0) (h .under) (t .is) (higher h 0) ∙ lt-ltb (t .over + h .under) (h .over + 0 + t .under) (omega arith));
       above = or-right (ltZ (y +ℤ pos 1) (w .lowest)) (ltZ (w .highest) (y +ℤ pos 1))
-      (lt-by (w .highest) (y +ℤ pos 1) (t .over) (t .under) (h .over + 1) (h .under) (t .is) (higher h 1) ∙ lt-ltb (t .over + h .under) (h .over + 1 + t .under) (omega arith));
+          (lt-by (w .highest) (y +ℤ pos 1) (t .over) (t .under) (h .over + 1) (h .under) (t .is) (higher h 1) ∙ lt-ltb (t .over + h .under) (h .over + 1 + t .under) (omega arith));
     }
 
 pub deep : (w : Window) (y : ℤ) → ltZ (y +ℤ pos 1) (w .lowest) ≡ true → Out w y
@@ -81,25 +81,25 @@ deep w y e =
     let l : h .over + 1 + t .under < t .over + h .under = ltb-true (h .over + 1 + t .under) (t .over + h .under) (sym (lt-by (y +ℤ pos 1) (w .lowest) (h .over + 1) (h .under) (t .over) (t .under) (higher h 1) (t .is)) ∙ e) in
     record {
       here = or-left (ltZ y (w .lowest)) (ltZ (w .highest) y)
-      (lt-by y (w .lowest) (h .over) (h .under) (t .over) (t .under) (h .is) (t .is) ∙ lt-ltb (h .over + t .under) (t .over + h .under) (omega arith));
+          (lt-by y (w .lowest) (h .over) (h .under) (t .over) (t .under) (h .is) (t .is) ∙ lt-ltb (h .over + t .under) (t .over + h .under) (omega arith));
       beside = or-left (ltZ (y +ℤ pos 0) (w .lowest)) (ltZ (w .highest) (y +ℤ pos 0))
-      (lt-by (y +ℤ pos 0) (w .lowest) (h .over + 0) (h .under) (t .over) (t .under) (higher h 0) (t .is) ∙ lt-ltb (h .over + 0 + t .under) (t .over + h .under) (omega arith));
+          (lt-by (y +ℤ pos 0) (w .lowest) (h .over + 0) (h .under) (t .over) (t .under) (higher h 0) (t .is) ∙ lt-ltb (h .over + 0 + t .under) (t .over + h .under) (omega arith));
       above = or-left (ltZ (y +ℤ pos 1) (w .lowest)) (ltZ (w .highest) (y +ℤ pos 1)) e;
     }
 
-pub above-highest : (w : Window) → ltZ (w .highest) (w .highest +ℤ pos 1) ≡ true
+pub above-highest : (w : Window) → ltZ (w .highest) (aboveWorld w) ≡ true
 above-highest w =
     let t = height (w .highest) in
-    lt-by (w .highest) (w .highest +ℤ pos 1) (t .over) (t .under) (t .over + 1) (t .under) (t .is) (higher t 1) ∙ lt-ltb (t .over + t .under) (t .over + 1 + t .under) (omega arith)
+    lt-by (w .highest) (aboveWorld w) (t .over) (t .under) (t .over + 1) (t .under) (t .is) (higher t 1) ∙ lt-ltb (t .over + t .under) (t .over + 1 + t .under) (omega arith)
 
-pub below-lowest : (w : Window) → ltZ (w .lowest -ℤ pos 2 +ℤ pos 1) (w .lowest) ≡ true
+pub below-lowest : (w : Window) → ltZ (deepBelow w +ℤ pos 1) (w .lowest) ≡ true
 below-lowest w =
     let t = height (w .lowest) in
-    let e : w .lowest -ℤ pos 2 +ℤ pos 1 ≡ subℕ (t .over + 1) (t .under + 2) = ap (λ (z : ℤ). z +ℤ pos 1) (lower t 2) ∙ subℕ-add (t .over) (t .under + 2) 1 in
-    lt-by (w .lowest -ℤ pos 2 +ℤ pos 1) (w .lowest) (t .over + 1) (t .under + 2) (t .over) (t .under) e (t .is) ∙ lt-ltb (t .over + 1 + t .under) (t .over + (t .under + 2)) (omega arith)
+    let e : deepBelow w +ℤ pos 1 ≡ subℕ (t .over + 1) (t .under + 2) = ap (λ (z : ℤ). z +ℤ pos 1) (lower t 2) ∙ subℕ-add (t .over) (t .under + 2) 1 in
+    lt-by (deepBelow w +ℤ pos 1) (w .lowest) (t .over + 1) (t .under + 2) (t .over) (t .under) e (t .is) ∙ lt-ltb (t .over + 1 + t .under) (t .over + (t .under + 2)) (omega arith)
 
 -- what lies below the world, but not with the cell above it, is the highest there
-pub just-below : (w : Window) (y : ℤ) → ltZ y (w .lowest) ≡ true → ltZ (y +ℤ pos 1) (w .lowest) ≡ false → w .lowest -ℤ pos 1 ≡ y
+pub just-below : (w : Window) (y : ℤ) → ltZ y (w .lowest) ≡ true → ltZ (y +ℤ pos 1) (w .lowest) ≡ false → belowWorld w ≡ y
 just-below w y e n =
     let t = height (w .lowest) in
     let h = height y in

@@ -272,12 +272,12 @@ module _ (records : List ℕ) (shapes : List Float) (cells : List ℕ) (w : Wind
                   inr (aside (areaOf s) o (k .box) (k .on) (λ v. subst T e (turned swept o (overlap-from swept o (areaOf s) (k .box) (area-on (area m d h s)) (k .on) v))))
           at p i (far f) n = inr record {
             apart = λ q c C i t.
-              let a = area m d h s in
-              let al : base ≤ areaOf s .y .lo + 2 ^ 38 = a .y .lo .low in
-              let ah : areaOf s .y .hi ≤ base + 2 ^ 38 = a .y .hi .high in
-              let il : areaOf s .y .lo ≤ c .y .lo = i .y .low in
-              let ih : c .y .hi ≤ areaOf s .y .hi = i .y .high in
-              far-clear q o (c .y) (C .y) (omega arith) (omega arith) f t;
+                let a = area m d h s in
+                let al : base ≤ areaOf s .y .lo + 2 ^ 38 = a .y .lo .low in
+                let ah : areaOf s .y .hi ≤ base + 2 ^ 38 = a .y .hi .high in
+                let il : areaOf s .y .lo ≤ c .y .lo = i .y .low in
+                let ih : c .y .hi ≤ areaOf s .y .hi = i .y .high in
+                far-clear q o (c .y) (C .y) (omega arith) (omega arith) f t;
           }
 
       through : T (isFreeIn records shapes cells w m) → (ground : Bool) → Demand3 (IsSettled records shapes cells w) (keepsStep bs m d h ground) m d (moveOver bs m d h ground)

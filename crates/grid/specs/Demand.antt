@@ -142,13 +142,22 @@ cellFrom w x y z = record { x = w .origin .x +ℤ pos x; y = y; z = w .origin .z
 unfoldable pub everyColumn : Window → (Pos → Bool) → ℤ → Bool
 everyColumn w test y = every (w .sizes .x) (λ x. every (w .sizes .z) (λ z. test (cellFrom w x y z)))
 
--- A test of what every cell comes to, at any height. Beside the window's own heights one above the world is enough, and two below it: there the cells
--- of a column all come to the same, but that the highest below the world has the lowest of the world above it, which a wall asks for.
+-- Outside the world the cells of a column all come to the same above it, and below it from the second cell down: the first has the lowest of the world
+-- above it, which a wall asks for.
+abbrev pub aboveWorld : Window → ℤ
+aboveWorld w = w .highest +ℤ pos 1
+
+abbrev pub belowWorld : Window → ℤ
+belowWorld w = w .lowest -ℤ pos 1
+
+abbrev pub deepBelow : Window → ℤ
+deepBelow w = w .lowest -ℤ pos 2
+
+-- so these three heights, beside the window's own, are a test of what every cell comes to, at any height
 unfoldable pub everyHeight : Window → (Pos → Bool) → Bool
 everyHeight w test =
     every (w .sizes .y) (λ y. everyColumn w test (w .origin .y +ℤ pos y))
-    && (everyColumn w test (w .highest +ℤ pos 1)
-    && (everyColumn w test (w .lowest -ℤ pos 1) && everyColumn w test (w .lowest -ℤ pos 2)))
+    && (everyColumn w test (aboveWorld w) && (everyColumn w test (belowWorld w) && everyColumn w test (deepBelow w)))
 
 abbrev pub shapesOnGrid : List ℕ → List Float → List ℕ → Window → Bool
 shapesOnGrid records shapes cells w = everyHeight w (λ p. settledOnGrid shapes (cellShape (lookAt cells w) records p))
