@@ -142,8 +142,8 @@ cellFrom w x y z = record { x = w .origin .x +ℤ pos x; y = y; z = w .origin .z
 unfoldable pub everyColumn : Window → (Pos → Bool) → ℤ → Bool
 everyColumn w test y = every (w .sizes .x) (λ x. every (w .sizes .z) (λ z. test (cellFrom w x y z)))
 
--- Outside the world the cells of a column all come to the same above it, and below it from the second cell down: the first has the lowest of the world
--- above it, which a wall asks for.
+-- Above the world the cells of a column all come to the same, and so do those below it from the second on: the first has the world's lowest cell above
+-- it, which a wall asks for.
 abbrev pub aboveWorld : Window → ℤ
 aboveWorld w = w .highest +ℤ pos 1
 
@@ -153,7 +153,7 @@ belowWorld w = w .lowest -ℤ pos 1
 abbrev pub deepBelow : Window → ℤ
 deepBelow w = w .lowest -ℤ pos 2
 
--- so these three heights, beside the window's own, are a test of what every cell comes to, at any height
+-- So a test at the window's heights and at these three is a test of what every cell comes to, at any height.
 unfoldable pub everyHeight : Window → (Pos → Bool) → Bool
 everyHeight w test =
     every (w .sizes .y) (λ y. everyColumn w test (w .origin .y +ℤ pos y))
