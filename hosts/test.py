@@ -101,12 +101,16 @@ def one_scene(name, theirs):
 
 
 def over_collected(name, tables, window, body):
-    """A move through a window is the move over the boxes that it collects: here the body's own box, by its velocity."""
+    """A move through a window is the move over the boxes that it collects: here the body's own box, by its velocity. Only a block beyond the limit on
+    boxes can be met in a window and not handed in."""
     (x, y, z), delta, (width, height), step = body.numbers[:3], body.numbers[3:6], body.numbers[6:8], body.numbers[13]
     mover = b.Mover((x - width / 2, y, z - width / 2, x + width / 2, y + height, z + width / 2), tuple(delta), step, body.words[0])
     air = body.words[5]
     boxes = asked(b.collected, tables, window, air, mover)
     over = boxes if isinstance(boxes, b.Refused) else asked(b.move_over_list, [number for box in boxes for number in box], mover)
+    if isinstance(boxes, list) and any(abs(number) > 2**25 for box in boxes for number in box):
+        COUNTS["move over what it collects"].add(name, over, b.Refused(4))
+        return
     COUNTS["move over what it collects"].add(name, move_text(mover, asked(b.move, tables, window, air, mover)), move_text(mover, over))
 
 
