@@ -2,7 +2,7 @@
 use mathlib.Core.Path.{_≡_, refl, sym, ap, _∙_, subst}
 use mathlib.Core.Bool.{Bool, true, false, not, _&&_, false≢true}
 use mathlib.Core.List.{List}
-use Prim.Native.Nat.{ℕ, _+_, _*_, _<_, _≤_, _^_}
+use Prim.Native.Nat.{ℕ, _+_, _*_, _<_, _^_}
 use native.Mathlib.Nat.{mul-comm, mul-assoc}
 use native.Mathlib.Omega.{arith}
 use lib.Arith.{digits-lt}
@@ -10,7 +10,7 @@ use lib.Dec.{T, leb, ltb, eqb, leb·zero}
 use lib.IntN.{ℤ, pos, negsuc, natAbs, _+ℤ_, _-ℤ_, +ℤ-idl, +ℤ-comm, -ℤ-+ℤ-cancel}
 use lib.ListN.{length, getD}
 use lib.Signed.{ltZ, leZ}
-use borrow.Author.Tests.{le-ltb, lt-ltb, ltb-true}
+use borrow.Author.Tests.{le-ltb, ltb-true}
 use Rattle.base.proofs.Every.{both}
 use Rattle.base.specs.Choose.{choose}
 use Rattle.base.specs.Ask.{refused, found}
@@ -18,7 +18,7 @@ use Rattle.window.specs.declared.Pos.{Pos}
 use Rattle.window.specs.declared.Sizes.{Sizes}
 use Rattle.window.specs.declared.Window.{Window}
 use Rattle.window.specs.declared.Cell.the-variants.{Outside, Unloaded, State}
-use Rattle.window.specs.Window.{within, columnInside, heightInside, isVoid, indexAt, cellCount, columnCount, indexOf, columnIndexOf}
+use Rattle.window.specs.Window.{within, isVoid, indexAt, cellCount, columnCount, indexOf, columnIndexOf}
 use Rattle.window.specs.Look.{none, some, lookAt, asked}
 use Rattle.window.specs.Offsets.{offsetOf, inColumn, lookDown, lookIn}
 use Rattle.window.proofs.Order.{lt-moved, le-moved}
