@@ -43,17 +43,17 @@ sum-turn f k s a e q =
     let n : k + 1 ≡ suc k = omega arith in
     rw (n, e, q) (mod-add-mod (sumOf f k) 4294967296 (f k))
 
--- ---- how many words a block of a kind has: 6 to 123
+-- ---- how many words a block of a kind has: 8 to 123
 
 pub record Per (n : ℕ) : Type 0 where
-  pub least : 6 ≤ n
+  pub least : 8 ≤ n
   pub most : n ≤ 123
 
 pub per-block : (kind : ℕ) → Per (perBlock kind)
 unfolding perBlock choose
 per-block kind = go (eqb kind 1) (eqb kind 2) (eqb kind 3) (eqb kind 4)
   where
-    go : (a b c d : Bool) → Per (choose a 48 (choose b 120 (choose c 120 (choose d 6 123))))
+    go : (a b c d : Bool) → Per (choose a 48 (choose b 120 (choose c 120 (choose d 8 123))))
     go true b c d = record { least = omega arith; most = omega arith }
     go false true c d = record { least = omega arith; most = omega arith }
     go false false true d = record { least = omega arith; most = omega arith }
@@ -95,7 +95,7 @@ pub words-most : (p : Part) → p .words ≤ blocksOf p * perBlock (p .kind)
 unfolding blocksOf choose
 words-most p = go (eqb (p .words % perBlock (p .kind)) 0) (eqb→eq (p .words % perBlock (p .kind)) 0) (div-add-mod' (p .words) (perBlock (p .kind))) (mod-lt (p .words) (positive (per-block (p .kind) .least)))
   where
-    positive : {n : ℕ} → 6 ≤ n → 0 < n
+    positive : {n : ℕ} → 8 ≤ n → 0 < n
     positive h = omega arith
 
     go : (b : Bool) → (T b → p .words % perBlock (p .kind) ≡ 0) → p .words / perBlock (p .kind) * perBlock (p .kind) + p .words % perBlock (p .kind) ≡ p .words

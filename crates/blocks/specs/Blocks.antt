@@ -48,9 +48,9 @@ blockFits block number kind used =
 
 -- ---- parts: the blocks of one kind, one after the other
 
--- the payload words in use in a full block: the body's 48, "six records each" of 20 words, "20 boxes each" of six, the window's six, "123 cells each"
+-- the payload words in use in a full block: the body's 48, "six records each" of 20 words, "20 boxes each" of six, the window's eight, "123 cells each"
 unfoldable pub perBlock : ℕ → ℕ
-perBlock kind = choose (eqb kind 1) 48 (choose (eqb kind 2) 120 (choose (eqb kind 3) 120 (choose (eqb kind 4) 6 123)))
+perBlock kind = choose (eqb kind 1) 48 (choose (eqb kind 2) 120 (choose (eqb kind 3) 120 (choose (eqb kind 4) 8 123)))
 
 -- as many blocks as the words fill, and one more for what is left over
 unfoldable pub blocksOf : Part → ℕ
@@ -83,7 +83,7 @@ abbrev pub boxPart : ℕ → ℕ → Part
 boxPart states boxes = record { first = endOf (recordPart states); kind = 3; words = boxes * 6 }
 
 abbrev pub windowPart : ℕ → ℕ → Part
-windowPart states boxes = record { first = endOf (boxPart states boxes); kind = 4; words = 6 }
+windowPart states boxes = record { first = endOf (boxPart states boxes); kind = 4; words = 8 }
 
 abbrev pub cellPart : ℕ → ℕ → ℕ → Part
 cellPart states boxes cells = record { first = endOf (windowPart states boxes); kind = 5; words = cells }

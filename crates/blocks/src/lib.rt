@@ -117,7 +117,7 @@ fn per_block(kind: u32) -> u32
         return 120;
     }
     if kind == 4 {
-        return 6;
+        return 8;
     }
     123
 }
@@ -216,7 +216,7 @@ pub fn window_part(states: u16, boxes: u16) -> Part
     Part {
         first: first as u32,
         kind: 4,
-        words: 6,
+        words: 8,
     }
 }
 

@@ -7,7 +7,7 @@ use Rattle.base.specs.Ask.{Ask, refused, found}
 use Rattle.window.specs.declared.Pos.{Pos}
 use Rattle.window.specs.declared.Window.{Window}
 use Rattle.window.specs.Look.{lookAt}
-use Rattle.lent.specs.Lent.{sound}
+use Rattle.lent.specs.Lent.{direct}
 use Rattle.connect.specs.declared.AskedBool.{AskedBool}
 use Rattle.connect.specs.declared.AskedBool.the-variants.{Is, Refused as BoolRefused}
 use Rattle.connect.specs.declared.AskedState.{AskedState}
@@ -31,4 +31,4 @@ stateAnswer (found s) = record { refusal = 0; state = s }
 -- 1, then 2, before any cell is asked for; then 5
 unfoldable pub connectedEntry : List ℕ → List Float → List ℕ → Window → Pos → ℕ → StateAnswer
 connectedEntry records shapes cells w p state =
-    stateAnswer (sound records shapes cells w (connectedState (lookAt cells w) records p state))
+    stateAnswer (direct records shapes cells w (connectedState (lookAt cells w) records p state))

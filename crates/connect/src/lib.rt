@@ -313,7 +313,7 @@ pub fn connected_state(records: &[u32], cells: &[u32], w: Window, p: Pos, state:
 pub fn connected_state_at(records: &[u32], shapes: &[f32], cells: &[u32], w: Window, p: Pos, state: u32) -> StateAnswer
     ensures { λ r. ⌜ r ≡ connectedEntry (now (records .entry)) (now (shapes .entry)) (now (cells .entry)) w p state ⌝ }
 {
-    let bad = lent::check_lent(records, shapes, cells, w);
+    let bad = lent::check_direct(records, shapes, cells, w);
     if bad != 0 {
         return StateAnswer { refusal: bad, state: 0 };
     }

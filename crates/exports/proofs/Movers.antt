@@ -12,7 +12,7 @@ use Rattle.base.proofs.Every.{both}
 use Rattle.sweeps.specs.declared.MoveResult.{MoveResult}
 use Rattle.boxes.specs.Limits.{isBox, isDelta, isStep}
 use Rattle.table_check.specs.Check.{tablesFit}
-use Rattle.lent.specs.Lent.{lentRefusal, sound, unless}
+use Rattle.lent.specs.Lent.{lentRefusal, directRefusal, direct, unless}
 use Rattle.lent_boxes.specs.Boxes.{vecAt, aabbAt, writtenBy}
 use Rattle.lent_boxes.specs.Moves.{moverRefusal}
 use Rattle.window.specs.declared.Window.{Window}
@@ -33,7 +33,7 @@ tests true false ask = refl
 
 module _ (records : List ℕ) (shapes : List Float) (cells : List ℕ) (w : Window) (mover : List Float) (step : Float) (ground : ℕ) where
   abbrev first : ℕ
-  first = lentRefusal records shapes cells w
+  first = directRefusal records shapes cells w
 
   abbrev early : ℕ
   early = moverRefusal mover step ground true
@@ -41,14 +41,11 @@ module _ (records : List ℕ) (shapes : List Float) (cells : List ℕ) (w : Wind
   abbrev asked : Ask MoveResult
   asked = moveAabb (lookAt cells w) records shapes (aabbAt mover 0) (vecAt mover 6) step (eqb ground 1)
 
-  -- what the entry comes to: 1 and 2 by the tests that they stand for
-  entry : (t f : Bool) → tablesFit records shapes ≡ t → windowFits (length cells) w ≡ f
-      → moveEntry records shapes cells w (aabbAt mover 0) (vecAt mover 6) step (eqb ground 1)
-      ≡ moveAnswer (aabbAt mover 0) (sound records shapes cells w (unless (not (isStep step)) 3 (unless (not (isBox (aabbAt mover 0) && isDelta (vecAt mover 6))) 4 asked)))
-  unfolding moveEntry lentRefusal windowRefusal choose
-  entry true true et ef = rw (et, ef)
-  entry true false et ef = rw (et, ef)
-  entry false f et ef = rw et
+  -- what the entry comes to
+  entry : moveEntry records shapes cells w (aabbAt mover 0) (vecAt mover 6) step (eqb ground 1)
+      ≡ moveAnswer (aabbAt mover 0) (direct records shapes cells w (unless (not (isStep step)) 3 (unless (not (isBox (aabbAt mover 0) && isDelta (vecAt mover 6))) 4 asked)))
+  unfolding moveEntry
+  entry = refl
 
   pub move-whole : (places : ℕ) → wholeMove mover ground places ≡ true
       → moveEntry records shapes cells w (aabbAt mover 0) (vecAt mover 6) step (eqb ground 1) ≡ moveAt records shapes cells w mover step ground places
@@ -56,9 +53,9 @@ module _ (records : List ℕ) (shapes : List Float) (cells : List ℕ) (w : Wind
   move-whole places whole =
       let g = both (ltb ground 2) (eqb (length mover) 9 && leb 10 places) whole in
       let n = both (eqb (length mover) 9) (leb 10 places) (g .two) in
-      entry (tablesFit records shapes) (windowFits (length cells) w) refl refl
+      entry
       ∙ rw (g .one, n .one, n .two)
-        (ap (λ (ask : Ask MoveResult). moveAnswer (aabbAt mover 0) (sound records shapes cells w ask))
+        (ap (λ (ask : Ask MoveResult). moveAnswer (aabbAt mover 0) (direct records shapes cells w ask))
         (tests (isStep step) (isBox (aabbAt mover 0) && isDelta (vecAt mover 6)) asked))
 
   three : ltb ground 2 ≡ false → eqb early 0 ≡ false

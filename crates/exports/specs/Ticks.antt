@@ -19,6 +19,7 @@ use Rattle.bodies.specs.Limits.{numberRefusal}
 use Rattle.lent.specs.Lent.{lentRefusal}
 use Rattle.window.specs.declared.Window.{Window}
 use Rattle.window.specs.Look.{lookAt}
+use Rattle.window.specs.Numbers.{withAir}
 use Rattle.step.specs.declared.StepAnswer.{StepAnswer}
 use Rattle.ticks.specs.declared.Tick.{Tick}
 use Rattle.step.specs.Answers.{finiteTick, stepAnswer}
@@ -50,7 +51,7 @@ wholeBody numbers words places = lengthsFit numbers words && leb 8 places
 
 abbrev pub tickAt : List ℕ → List Float → List ℕ → Window → List Float → List ℕ → ℕ → Ask Tick
 tickAt records shapes cells w numbers words age =
-    stepBodySensed (lookAt cells w) records shapes (rulesAt numbers words) (bodyOf (bodyAt numbers words)) (motionOf (motionAt numbers words)) age >>= finiteTick
+    stepBodySensed (lookAt cells (withAir w (rulesAt numbers words .air))) records shapes (rulesAt numbers words) (bodyOf (bodyAt numbers words)) (motionOf (motionAt numbers words)) age >>= finiteTick
 
 unfoldable pub steppedAt : ℕ → List ℕ → List Float → List ℕ → Window → List Float → List ℕ → ℕ → ℕ → StepAnswer
 steppedAt lent records shapes cells w numbers words age places =

@@ -7,7 +7,7 @@ use lib.Dec.{eqb, leb, ltb}
 use lib.ListN.{length}
 use lib.Ieee.{Float}
 use Rattle.sweeps.specs.declared.MoveAnswer.{MoveAnswer}
-use Rattle.lent.specs.Lent.{lentRefusal}
+use Rattle.lent.specs.Lent.{directRefusal}
 use Rattle.lent_boxes.specs.Boxes.{vecAt, aabbAt}
 use Rattle.lent_boxes.specs.Moves.{moverRefusal}
 use Rattle.window.specs.declared.Window.{Window}
@@ -23,5 +23,5 @@ wholeMove mover ground places = ltb ground 2 && (eqb (length mover) 9 && leb 10 
 unfoldable pub moveAt : List ℕ → List Float → List ℕ → Window → List Float → Float → ℕ → ℕ → MoveAnswer
 moveAt records shapes cells w mover step ground places =
     moveAnswer (aabbAt mover 0)
-    (roomy (lentRefusal records shapes cells w) (moverRefusal mover step ground true) (leb 10 places)
+    (roomy (directRefusal records shapes cells w) (moverRefusal mover step ground true) (leb 10 places)
     (moveAabb (lookAt cells w) records shapes (aabbAt mover 0) (vecAt mover 6) step (eqb ground 1)))

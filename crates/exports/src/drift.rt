@@ -61,6 +61,9 @@ pub extern "C" fn boltjuniper_item_current(
     sx: u32,
     sy: u32,
     sz: u32,
+    lowest: i32,
+    highest: i32,
+    air: u32,
     x: f64,
     y: f64,
     z: f64,
@@ -68,9 +71,9 @@ pub extern "C" fn boltjuniper_item_current(
     height: f64,
     out: &mut [f64],
 ) -> u32
-    ensures { λ r. ⌜ r ≡ currentRefusal (currentAt (lookAt (now (cells .entry)) (windowOf ox oy oz sx sy sz)) (now (records .entry)) (vec x y z) width height) ⌝ }
-    ensures { λ _. ⌜ now (out .exit) ≡ currentWritten (now (out .entry)) (currentAt (lookAt (now (cells .entry)) (windowOf ox oy oz sx sy sz)) (now (records .entry)) (vec x y z) width height) ⌝ }
+    ensures { λ r. ⌜ r ≡ currentRefusal (currentAt (lookAt (now (cells .entry)) (windowOf ox oy oz sx sy sz lowest highest air)) (now (records .entry)) (vec x y z) width height) ⌝ }
+    ensures { λ _. ⌜ now (out .exit) ≡ currentWritten (now (out .entry)) (currentAt (lookAt (now (cells .entry)) (windowOf ox oy oz sx sy sz lowest highest air)) (now (records .entry)) (vec x y z) width height) ⌝ }
 {
-    let w = window::window_of(ox, oy, oz, sx, sy, sz);
+    let w = window::window_of(ox, oy, oz, sx, sy, sz, lowest, highest, air);
     current_into(records, cells, w, Vec3 { x, y, z }, width, height, out)
 }

@@ -26,22 +26,25 @@ pub extern "C" fn boltjuniper_move(
     sx: u32,
     sy: u32,
     sz: u32,
+    lowest: i32,
+    highest: i32,
+    air: u32,
     mover: &[f64],
     step: f64,
     ground: u32,
     out: &mut [f64],
 ) -> u32
-    ensures { λ r. ⌜ r ≡ moveAt (now (records .entry)) (now (shapes .entry)) (now (cells .entry)) (windowOf ox oy oz sx sy sz) (now (mover .entry)) step ground (length (now (out .entry))) .refusal ⌝ }
-    ensures { λ _. ⌜ now (out .exit) ≡ writtenBy (now (out .entry)) (moveAt (now (records .entry)) (now (shapes .entry)) (now (cells .entry)) (windowOf ox oy oz sx sy sz) (now (mover .entry)) step ground (length (now (out .entry)))) ⌝ }
+    ensures { λ r. ⌜ r ≡ moveAt (now (records .entry)) (now (shapes .entry)) (now (cells .entry)) (windowOf ox oy oz sx sy sz lowest highest air) (now (mover .entry)) step ground (length (now (out .entry))) .refusal ⌝ }
+    ensures { λ _. ⌜ now (out .exit) ≡ writtenBy (now (out .entry)) (moveAt (now (records .entry)) (now (shapes .entry)) (now (cells .entry)) (windowOf ox oy oz sx sy sz lowest highest air) (now (mover .entry)) step ground (length (now (out .entry)))) ⌝ }
 {
-    let w = window::window_of(ox, oy, oz, sx, sy, sz);
+    let w = window::window_of(ox, oy, oz, sx, sy, sz, lowest, highest, air);
     if whole_move(mover, ground, out.len()) {
         let aabb = lent_boxes::first_box(mover);
         let delta = bodies::vec_from(mover, 6);
         let a = view::move_window(records, shapes, cells, w, aabb, delta, step, ground == 1);
         return lent_boxes::move_into(out, a);
     }
-    let first = lent::check_lent(records, shapes, cells, w);
+    let first = lent::check_direct(records, shapes, cells, w);
     let early = lent_boxes::mover_refusal(mover, step, ground, true);
     short_of(first, early)
 }

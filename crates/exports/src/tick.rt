@@ -43,13 +43,13 @@ fn answer_into(out: &mut [f64], a: StepAnswer) -> u32
 // returns a refusal and writes nothing. Where lengths fit and there is room the step itself finds 1 to 4, so that nothing is looked at twice.
 #[no_mangle]
 pub extern "C" fn boltjuniper_step(
-    records: &[u32], shapes: &[f32], cells: &[u32], ox: i32, oy: i32, oz: i32, sx: u32, sy: u32, sz: u32, numbers: &[f64],
-    words: &[u32], age: u64, out: &mut [f64],
+    records: &[u32], shapes: &[f32], cells: &[u32], ox: i32, oy: i32, oz: i32, sx: u32, sy: u32, sz: u32, lowest: i32, highest: i32,
+    numbers: &[f64], words: &[u32], age: u64, out: &mut [f64],
 ) -> u32
-    ensures { λ r. ⌜ r ≡ stepAt (now (records .entry)) (now (shapes .entry)) (now (cells .entry)) (windowOf ox oy oz sx sy sz) (now (numbers .entry)) (now (words .entry)) age (length (now (out .entry))) .refusal ⌝ }
-    ensures { λ _. ⌜ now (out .exit) ≡ answerWritten (now (out .entry)) (stepAt (now (records .entry)) (now (shapes .entry)) (now (cells .entry)) (windowOf ox oy oz sx sy sz) (now (numbers .entry)) (now (words .entry)) age (length (now (out .entry)))) ⌝ }
+    ensures { λ r. ⌜ r ≡ stepAt (now (records .entry)) (now (shapes .entry)) (now (cells .entry)) (windowOf ox oy oz sx sy sz lowest highest 0) (now (numbers .entry)) (now (words .entry)) age (length (now (out .entry))) .refusal ⌝ }
+    ensures { λ _. ⌜ now (out .exit) ≡ answerWritten (now (out .entry)) (stepAt (now (records .entry)) (now (shapes .entry)) (now (cells .entry)) (windowOf ox oy oz sx sy sz lowest highest 0) (now (numbers .entry)) (now (words .entry)) age (length (now (out .entry)))) ⌝ }
 {
-    let w = window::window_of(ox, oy, oz, sx, sy, sz);
+    let w = window::window_of(ox, oy, oz, sx, sy, sz, lowest, highest, 0);
     if whole_body(numbers, words, out.len()) {
         let rules = bodies::rules_from(numbers, words);
         let body = bodies::body_from(numbers, words);
@@ -65,13 +65,13 @@ pub extern "C" fn boltjuniper_step(
 #[no_mangle]
 pub extern "C" fn boltjuniper_step_checked(
     records: &[u32], shapes: &[f32], cells: &[u32],
-    ox: i32, oy: i32, oz: i32, sx: u32, sy: u32, sz: u32,
+    ox: i32, oy: i32, oz: i32, sx: u32, sy: u32, sz: u32, lowest: i32, highest: i32,
     numbers: &[f64], words: &[u32], age: u64, out: &mut [f64],
 ) -> u32
-    ensures { λ r. ⌜ r ≡ checkedAt (now (records .entry)) (now (shapes .entry)) (now (cells .entry)) (windowOf ox oy oz sx sy sz) (now (numbers .entry)) (now (words .entry)) age (length (now (out .entry))) .refusal ⌝ }
-    ensures { λ _. ⌜ now (out .exit) ≡ answerWritten (now (out .entry)) (checkedAt (now (records .entry)) (now (shapes .entry)) (now (cells .entry)) (windowOf ox oy oz sx sy sz) (now (numbers .entry)) (now (words .entry)) age (length (now (out .entry)))) ⌝ }
+    ensures { λ r. ⌜ r ≡ checkedAt (now (records .entry)) (now (shapes .entry)) (now (cells .entry)) (windowOf ox oy oz sx sy sz lowest highest 0) (now (numbers .entry)) (now (words .entry)) age (length (now (out .entry))) .refusal ⌝ }
+    ensures { λ _. ⌜ now (out .exit) ≡ answerWritten (now (out .entry)) (checkedAt (now (records .entry)) (now (shapes .entry)) (now (cells .entry)) (windowOf ox oy oz sx sy sz lowest highest 0) (now (numbers .entry)) (now (words .entry)) age (length (now (out .entry)))) ⌝ }
 {
-    let w = window::window_of(ox, oy, oz, sx, sy, sz);
+    let w = window::window_of(ox, oy, oz, sx, sy, sz, lowest, highest, 0);
     if whole_body(numbers, words, out.len()) {
         let rules = bodies::rules_from(numbers, words);
         let body = bodies::body_from(numbers, words);

@@ -2,7 +2,7 @@
 use mathlib.Core.Bool.{Bool, true, false, _&&_, true≢false, false≢true}
 use mathlib.Core.List.{List}
 use mathlib.Core.Path.{_≡_, refl, sym, ap}
-use Prim.Native.Nat.{ℕ, _*_, _≤_}
+use Prim.Native.Nat.{ℕ, _+_, _*_, _≤_}
 use native.Mathlib.Omega.{arith}
 use lib.Dec.{leb, eqb}
 use lib.ListN.{length}
@@ -106,7 +106,7 @@ module _ (file : List ℕ) (states boxes : ℕ) (s : Sizes) (es : states ≡ bod
   same = rw (ez, es, eb)
 
   pub counts-fit : sizesFit s ≡ true
-      → found record { states = states; boxes = boxes; cells = s .x * s .y * s .z } ≡ choose (countsFit file) (found (countsOf file)) (refused 8)
+      → found record { states = states; boxes = boxes; cells = s .x * s .y * s .z + s .x * s .z } ≡ choose (countsFit file) (found (countsOf file)) (refused 8)
   unfolding countsFit countsIn choose
   counts-fit e =
       rw (same, es, eb, le-leb 1 (bodyWord file 46) (rw es at one), le-leb (bodyWord file 46) 4096 (rw es at most), le-leb (bodyWord file 47) 16384 (rw eb at few), rw same at e)

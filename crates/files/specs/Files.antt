@@ -1,7 +1,7 @@
 -- Which files are scenes, and the counts and the window that a scene holds. Document 01's words stand in quotes.
 use mathlib.Core.Bool.{Bool, not, _&&_, _||_}
 use mathlib.Core.List.{List}
-use Prim.Native.Nat.{ℕ, _-_, _*_}
+use Prim.Native.Nat.{ℕ, _+_, _-_, _*_}
 use lib.Dec.{eqb, leb, ltb}
 use lib.IntN.{ℤ, pos, negsuc}
 use lib.ListN.{length}
@@ -9,7 +9,7 @@ use Rattle.base.specs.Choose.{choose}
 use Rattle.base.specs.Ask.{Ask, refused, found}
 use Rattle.window.specs.declared.Sizes.{Sizes}
 use Rattle.window.specs.declared.Window.{Window}
-use Rattle.window.specs.Window.{sizesFit}
+use Rattle.window.specs.Window.{cellCount, columnCount, sizesFit}
 use Rattle.window.specs.Numbers.{windowOf}
 use Rattle.blocks.specs.declared.Part.{Part}
 use Rattle.blocks.specs.Blocks.{partWord, partFits, endOf, bodyPart, recordPart, boxPart, windowPart, cellPart}
@@ -26,7 +26,7 @@ bodyWord file i = partWord file bodyPart i
 unfoldable pub flapFits : List ℕ → Bool
 flapFits file = not (eqb (bodyWord file 44) 0) || (eqb (bodyWord file 24) 0 && eqb (bodyWord file 25) 0)
 
--- ---- the window: "signed origin, sizes"
+-- ---- the window: "signed origin, sizes", then the two heights; its air state is the body's
 
 -- a word as a signed number: two's complement
 unfoldable pub signedWord : ℕ → ℤ
@@ -37,12 +37,13 @@ windowIn file p =
     windowOf
     (signedWord (partWord file p 0)) (signedWord (partWord file p 1)) (signedWord (partWord file p 2))
     (partWord file p 3) (partWord file p 4) (partWord file p 5)
+    (signedWord (partWord file p 6)) (signedWord (partWord file p 7)) (bodyWord file 45)
 
 -- ---- "counts and sizes within limits": "States: 1 to 4,096. Boxes: at most 16,384", "Window sizes: 1 to 64 each"
 
--- "state count, box count", and how many cells a window of these sizes has
+-- "state count, box count", and how many words a window of these sizes has: its cells, then one for each column
 unfoldable pub countsIn : List ℕ → Sizes → Counts
-countsIn file s = record { states = bodyWord file 46; boxes = bodyWord file 47; cells = s .x * s .y * s .z }
+countsIn file s = record { states = bodyWord file 46; boxes = bodyWord file 47; cells = cellCount s + columnCount s }
 
 -- the sizes stand behind the records and boxes
 unfoldable pub sizesIn : List ℕ → Sizes

@@ -70,7 +70,10 @@ fn window_at(file: &[u8], p: Part) -> Window
     let sx = part_word(file, p, 3);
     let sy = part_word(file, p, 4);
     let sz = part_word(file, p, 5);
-    window::window_of(ox, oy, oz, sx, sy, sz)
+    let lowest = signed_of(part_word(file, p, 6));
+    let highest = signed_of(part_word(file, p, 7));
+    let air = body_word(file, 45);
+    window::window_of(ox, oy, oz, sx, sy, sz, lowest, highest, air)
 }
 
 fn sizes_at(file: &[u8], p: Part) -> Sizes
@@ -94,7 +97,7 @@ fn counts_within(file: &[u8]) -> Counted
                     return Counted::Are(Counts {
                         states: states as u16,
                         boxes: boxes as u16,
-                        cells: s.x * s.y * s.z,
+                        cells: s.x * s.y * s.z + s.x * s.z,
                     });
                 }
             }

@@ -10,7 +10,7 @@ use Rattle.tables.specs.declared.LiquidKind.{LiquidKind}
 use Rattle.tables.specs.declared.LiquidKind.the-variants.{None}
 use Rattle.window.specs.declared.Window.{Window}
 use Rattle.window.specs.Look.{lookAt}
-use Rattle.lent.specs.Lent.{unless, sound}
+use Rattle.lent.specs.Lent.{unless, direct}
 use Rattle.liquids.specs.declared.Streams.{Streams}
 use Rattle.liquids.specs.declared.Current.{Current}
 use Rattle.liquids.specs.declared.Gathered.{Gathered}
@@ -52,4 +52,4 @@ liquidAnswer (found kind) = record { refusal = 0; kind = kind }
 -- 1, then 2, then 4, before any cell is asked for; then 5
 unfoldable pub livingEntry : List ℕ → List Float → List ℕ → Window → Aabb → LiquidAnswer
 livingEntry records shapes cells w aabb =
-    liquidAnswer (sound records shapes cells w (unless (not (isBox aabb)) 4 (livingLiquid (lookAt cells w) records aabb)))
+    liquidAnswer (direct records shapes cells w (unless (not (isBox aabb)) 4 (livingLiquid (lookAt cells w) records aabb)))

@@ -121,7 +121,7 @@ pub fn living_liquid(
 ) -> LiquidAnswer
     ensures { λ r. ⌜ r ≡ livingEntry (now (records .entry)) (now (shapes .entry)) (now (cells .entry)) w aabb ⌝ }
 {
-    let bad = lent::check_lent(records, shapes, cells, w);
+    let bad = lent::check_direct(records, shapes, cells, w);
     if bad != 0 {
         return LiquidAnswer {
             refusal: bad,

@@ -17,7 +17,7 @@ use Rattle.boxes.specs.Boxes.{overlap}
 use Rattle.sweeps.specs.Lists.{room}
 use Rattle.window.specs.declared.Pos.{Pos}
 use Rattle.window.specs.declared.Window.{Window}
-use Rattle.window.specs.Window.{inside}
+use Rattle.window.specs.Window.{columnInside}
 use Rattle.window.specs.Look.{Block, lookAt}
 use Rattle.window.proofs.Cells.{outside-refused}
 use Rattle.ranges.specs.declared.Range.{Range}
@@ -218,7 +218,7 @@ module _ (look : Pos → Ask Block) (records : List ℕ) (shapes : List Float) (
 
 -- a cell of the range that lies outside the window: the collection is refused
 pub outside-refuses : (cells : List ℕ) (w : Window) (records : List ℕ) (shapes : List Float) (area : Aabb) (x y z : ℕ) → x < rangeOf area .x .count → y < rangeOf area .y .count → z < rangeOf area .z .count
-    → inside w (placeAt (rangeOf area) x y z) ≡ false → (bs : List Aabb) → collectBlockBoxes (lookAt cells w) records shapes area ≡ found bs → ⊥
+    → columnInside w (placeAt (rangeOf area) x y z) ≡ false → (bs : List Aabb) → collectBlockBoxes (lookAt cells w) records shapes area ≡ found bs → ⊥
 unfolding cellShape
 outside-refuses cells w records shapes area x y z hx hy hz out bs e =
     let s = all-settled (lookAt cells w) records shapes area bs e x y z hx hy hz in

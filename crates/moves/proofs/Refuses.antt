@@ -17,7 +17,6 @@ use Rattle.cover.specs.declared.Side.{Side}
 use Rattle.cover.specs.declared.Side.the-variants.{North, East, South, West}
 use Rattle.window.specs.declared.Pos.{Pos}
 use Rattle.window.specs.declared.Window.{Window}
-use Rattle.window.specs.Window.{inside, indexOf}
 use Rattle.window.specs.Look.{Block, none, some, lookAt}
 use Rattle.ranges.specs.declared.Range.{Range}
 use Rattle.ranges.specs.Walk.{line, layer, walk}
@@ -84,7 +83,7 @@ module _ {P : ℕ → Type 0} where
 -- ---- look-ups and connections
 pub look-refuses : (cells : List ℕ) (w : Window) (p : Pos) → Refuses Five (lookAt cells w p)
 unfolding lookAt
-look-refuses cells w p = either (inside w p && ltb (indexOf w p) (length cells)) _ _ (finds _) (names 5 refl)
+look-refuses cells w p = either _ _ _ (names 5 refl) (either _ _ _ (finds _) (either _ _ _ (finds _) (either _ _ _ (names 5 refl) (finds _))))
 
 module _ (look : Pos → Ask Block) (h : (p : Pos) → Refuses Five (look p)) (records : List ℕ) where
   joins-refuses : (p : Pos) (kind : ℕ) (side : Side) → Refuses Five (joins look records p kind side)

@@ -17,7 +17,7 @@ use Rattle.sweeps.specs.Entry.{refusedMove}
 use Rattle.window.specs.declared.Pos.{Pos}
 use Rattle.window.specs.declared.Window.{Window}
 use Rattle.window.specs.Look.{Block, lookAt}
-use Rattle.lent.specs.Lent.{unless, sound}
+use Rattle.lent.specs.Lent.{unless, direct}
 use Rattle.moves.specs.declared.AskedHit.{AskedHit}
 use Rattle.moves.specs.declared.AskedHit.the-variants.{Is, Refused}
 use Rattle.moves.specs.declared.AskedMove.{AskedMove}
@@ -57,7 +57,7 @@ moveAnswer aabb (found m) = record { refusal = 0; result = m }
 
 unfoldable pub collectEntry : List ℕ → List Float → List ℕ → Window → Aabb → Held
 collectEntry records shapes cells w area =
-    heldAsked (sound records shapes cells w (unless (not (isBox area)) 4 (collectBlockBoxes (lookAt cells w) records shapes area)))
+    heldAsked (direct records shapes cells w (unless (not (isBox area)) 4 (collectBlockBoxes (lookAt cells w) records shapes area)))
 
 abbrev pub hitAnswer : Ask Bool → HitAnswer
 hitAnswer (refused n) = record { refusal = n; hit = false }
@@ -65,12 +65,12 @@ hitAnswer (found b) = record { refusal = 0; hit = b }
 
 unfoldable pub collidesEntry : List ℕ → List Float → List ℕ → Window → Aabb → HitAnswer
 collidesEntry records shapes cells w area =
-    hitAnswer (sound records shapes cells w (unless (not (isBox area)) 4 (collidesWithBlocks (lookAt cells w) records shapes area)))
+    hitAnswer (direct records shapes cells w (unless (not (isBox area)) 4 (collidesWithBlocks (lookAt cells w) records shapes area)))
 
 unfoldable pub moveEntry : List ℕ → List Float → List ℕ → Window → Aabb → Vec3 → Float → Bool → MoveAnswer
 moveEntry records shapes cells w aabb delta stepHeight wasOnGround =
     moveAnswer aabb
-    (sound records shapes cells w
+    (direct records shapes cells w
     (unless (not (isStep stepHeight)) 3
     (unless (not (isBox aabb && isDelta delta)) 4
     (moveAabb (lookAt cells w) records shapes aabb delta stepHeight wasOnGround))))

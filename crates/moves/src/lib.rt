@@ -128,7 +128,7 @@ pub fn collides(records: &[u32], shapes: &[f32], cells: &[u32], w: Window, area:
 pub fn collect_block_boxes(records: &[u32], shapes: &[f32], cells: &[u32], w: Window, area: Aabb) -> Collected
     ensures { λ r. ⌜ heldIn r ≡ collectEntry (now (records .entry)) (now (shapes .entry)) (now (cells .entry)) w area ⌝ }
 {
-    let bad = lent::check_lent(records, shapes, cells, w);
+    let bad = lent::check_direct(records, shapes, cells, w);
     if bad != 0 {
         return Collected::refused(bad);
     }
@@ -142,7 +142,7 @@ pub fn collect_block_boxes(records: &[u32], shapes: &[f32], cells: &[u32], w: Wi
 pub fn collides_with_blocks(records: &[u32], shapes: &[f32], cells: &[u32], w: Window, area: Aabb) -> HitAnswer
     ensures { λ r. ⌜ r ≡ collidesEntry (now (records .entry)) (now (shapes .entry)) (now (cells .entry)) w area ⌝ }
 {
-    let bad = lent::check_lent(records, shapes, cells, w);
+    let bad = lent::check_direct(records, shapes, cells, w);
     if bad != 0 {
         return HitAnswer { refusal: bad, hit: false };
     }
@@ -183,7 +183,7 @@ fn is_fit(aabb: Aabb, delta: Vec3) -> bool
 pub fn move_aabb(records: &[u32], shapes: &[f32], cells: &[u32], w: Window, aabb: Aabb, delta: Vec3, step: f64, ground: bool) -> MoveAnswer
     ensures { λ r. ⌜ r ≡ moveEntry (now (records .entry)) (now (shapes .entry)) (now (cells .entry)) w aabb delta step ground ⌝ }
 {
-    let bad = lent::check_lent(records, shapes, cells, w);
+    let bad = lent::check_direct(records, shapes, cells, w);
     if bad != 0 {
         return refused_move(bad, aabb);
     }

@@ -11,7 +11,7 @@ use Rattle.base.specs.Choose.{choose}
 use Rattle.base.specs.Loop.{stored}
 use Rattle.boxes.specs.declared.Aabb.{Aabb}
 use Rattle.sweeps.specs.Lists.{Held, noBox}
-use Rattle.lent.specs.Lent.{sound, unless}
+use Rattle.lent.specs.Lent.{direct, unless}
 use Rattle.lent_boxes.specs.Boxes.{vecAt, aabbAt}
 use Rattle.lent_boxes.specs.Moves.{moverRefusal}
 use Rattle.window.specs.declared.Window.{Window}
@@ -31,7 +31,7 @@ earlyOf mover step = moverRefusal mover step 0 true
 unfoldable pub collectedAt : List ℕ → List Float → List ℕ → Window → List Float → Float → ℕ → Held
 collectedAt records shapes cells w mover step places =
     heldAsked
-    (sound records shapes cells w
+    (direct records shapes cells w
     (unless (not (eqb (earlyOf mover step) 0)) (earlyOf mover step)
     (unless (ltb places 7) 11
     (collectBlockBoxes (lookAt cells w) records shapes (sweptBy mover step)))))

@@ -27,7 +27,7 @@ fn swept_by(mover: &[f64], step: f64) -> Aabb
 fn collected(records: &[u32], shapes: &[f32], cells: &[u32], w: Window, mover: &[f64], step: f64, places: usize) -> Collected
     ensures { λ r. ⌜ heldIn r ≡ collectedAt (now (records .entry)) (now (shapes .entry)) (now (cells .entry)) w (now (mover .entry)) step places ⌝ }
 {
-    let bad = lent::check_lent(records, shapes, cells, w);
+    let bad = lent::check_direct(records, shapes, cells, w);
     if bad != 0 {
         return Collected::refused(bad);
     }
@@ -83,15 +83,18 @@ pub extern "C" fn boltjuniper_collected(
     sx: u32,
     sy: u32,
     sz: u32,
+    lowest: i32,
+    highest: i32,
+    air: u32,
     mover: &[f64],
     step: f64,
     k: u32,
     out: &mut [f64],
 ) -> u32
-    ensures { λ r. ⌜ r ≡ collectedAt (now (records .entry)) (now (shapes .entry)) (now (cells .entry)) (windowOf ox oy oz sx sy sz) (now (mover .entry)) step (length (now (out .entry))) .refusal ⌝ }
-    ensures { λ _. ⌜ now (out .exit) ≡ boxWritten (now (out .entry)) (collectedAt (now (records .entry)) (now (shapes .entry)) (now (cells .entry)) (windowOf ox oy oz sx sy sz) (now (mover .entry)) step (length (now (out .entry)))) k ⌝ }
+    ensures { λ r. ⌜ r ≡ collectedAt (now (records .entry)) (now (shapes .entry)) (now (cells .entry)) (windowOf ox oy oz sx sy sz lowest highest air) (now (mover .entry)) step (length (now (out .entry))) .refusal ⌝ }
+    ensures { λ _. ⌜ now (out .exit) ≡ boxWritten (now (out .entry)) (collectedAt (now (records .entry)) (now (shapes .entry)) (now (cells .entry)) (windowOf ox oy oz sx sy sz lowest highest air) (now (mover .entry)) step (length (now (out .entry)))) k ⌝ }
 {
-    let w = window::window_of(ox, oy, oz, sx, sy, sz);
+    let w = window::window_of(ox, oy, oz, sx, sy, sz, lowest, highest, air);
     let c = collected(records, shapes, cells, w, mover, step, out.len());
     if c.refusal != 0 {
         return c.refusal;

@@ -78,8 +78,8 @@ netherBrickFence = 22
 abbrev pub plainWall : ℕ
 plainWall = 38
 
-abbrev pub unloaded : ℕ
-unloaded = 4294967295
+abbrev pub unregistered : ℕ
+unregistered = 4294967295
 
 -- ---- the tables
 

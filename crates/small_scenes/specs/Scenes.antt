@@ -1,7 +1,7 @@
 -- The small scenes that document 01 marks P, as one table, and the one statement that each is as the document says.
 use mathlib.Core.Bool.{Bool, true, false, Bool·beq, _&&_}
 use mathlib.Core.Path.{_≡_}
-use mathlib.Core.List.{List, [], _∷_}
+use mathlib.Core.List.{List, [], _∷_, _++_}
 use Prim.Native.Nat.{ℕ, _+_}
 use lib.Dec.{eqb}
 use lib.ListN.{length}
@@ -22,12 +22,13 @@ use Rattle.window.specs.Look.{lookAt}
 use Rattle.connect.specs.Connect.{connectedState}
 use Rattle.liquids.specs.Living.{livingLiquid}
 use Rattle.small_scenes.specs.Moves.{ratio, whole, mover, MoveScene, listFor, p1, p2, p3, p4, p5, p6}
-use Rattle.small_scenes.specs.Palette.{records, shapes, air, fullCube, water0, water1, water4, oakFence, netherBrickFence, plainWall, unloaded}
-use Rattle.small_scenes.specs.Windows.{middle, around, cellsAround, flat, upright, flowAmong}
+use Rattle.small_scenes.specs.Palette.{records, shapes, air, fullCube, water0, water1, water4, oakFence, netherBrickFence, plainWall, unregistered}
+use Rattle.small_scenes.specs.Windows.{middle, around, cellsAround, columnsBut, flat, upright, flowAmong}
 
--- A fence or wall of the palette in the middle of a window: what lies north, east, south, west and above; then the state that it comes to.
+-- A fence or wall of the palette in the middle of a window: whether the column to the north is loaded, what lies north, east, south, west and above; then the state that it comes to.
 pub record JoinScene : Type 0 where
   pub it : ℕ
+  pub column : ℕ
   pub north : ℕ
   pub east : ℕ
   pub south : ℕ
@@ -77,16 +78,18 @@ isFound test (refused k) = false
 
 -- the window passes its check, and what is asked of it has the answer
 abbrev pub isFoundIn : {A : Type 0} → List ℕ → Window → (A → Bool) → Ask A → Bool
-isFoundIn cells window test ask = eqb (windowRefusal (length cells) window) 0 && isFound test ask
+isFoundIn cells window test ask = eqb (windowRefusal cells window) 0 && isFound test ask
 
 unfoldable pub holds : Scene → Bool
 holds (move m) = moves (moveOverList (listFor (m .boxes)) mover (m .delta) (m .step) (m .ground)) (m .moved) (m .after)
 holds (join j) =
-    let cells : List ℕ = cellsAround (j .north) (j .east) (j .south) (j .west) (j .above) (j .it) in
+    let cells : List ℕ = cellsAround (j .column) (j .north) (j .east) (j .south) (j .west) (j .above) (j .it) in
     isFoundIn cells around (eqb (j .comes-to)) (connectedState (lookAt cells around) records middle (j .it))
-holds (flow f) = isFoundIn (f .cells) flat (sameVec (f .flows)) (flowAmong (f .cells))
+holds (flow f) =
+    let cells : List ℕ = f .cells ++ columnsBut 1 in
+    isFoundIn cells flat (sameVec (f .flows)) (flowAmong cells)
 holds (wade b) =
-    let cells : List ℕ = water4 ∷ air ∷ [] in
+    let cells : List ℕ = water4 ∷ air ∷ 1 ∷ [] in
     isFoundIn cells upright (λ kind. eqb (kindNumber kind) (kindNumber (b .within)))
     (livingLiquid (lookAt cells upright) records (fromFeet (vec (ratio 1 2) (b .feet) (ratio 1 2)) (ratio 1 2) (whole 1)))
 
@@ -105,9 +108,9 @@ scenes =
     ∷ move p5
     ∷ move p6
     -- P7: an oak fence joins north (1) and east (2) only
-    ∷ join record { it = oakFence; north = unloaded; east = fullCube; south = air; west = netherBrickFence; above = air; comes-to = oakFence + 1 + 2 }
-    -- P8: a wall joined north (1) and south (4), unloaded above: no post (16)
-    ∷ join record { it = plainWall; north = plainWall; east = air; south = plainWall; west = air; above = unloaded; comes-to = plainWall + 1 + 4 }
+    ∷ join record { it = oakFence; column = 0; north = air; east = fullCube; south = air; west = netherBrickFence; above = air; comes-to = oakFence + 1 + 2 }
+    -- P8: a wall joined north (1) and south (4), unregistered above: no post (16)
+    ∷ join record { it = plainWall; column = 1; north = plainWall; east = air; south = plainWall; west = air; above = unregistered; comes-to = plainWall + 1 + 4 }
     -- P9: depth 1 to the east, the rest walled
     ∷ flow record { cells = fullCube ∷ fullCube ∷ fullCube ∷ fullCube ∷ water0 ∷ water1 ∷ fullCube ∷ fullCube ∷ fullCube ∷ []; flows = vec (whole 1) (whole 0) (whole 0) }
     -- P10: feet at 0.5 wet, at 0.5625 dry

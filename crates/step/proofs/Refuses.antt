@@ -13,6 +13,7 @@ use Rattle.base.specs.Ask.{Ask, refused, found}
 use Rattle.window.specs.declared.Window.{Window}
 use Rattle.table_check.specs.Check.{tablesFit}
 use Rattle.window.specs.Window.{windowFits, windowRefusal}
+use Rattle.window.specs.Numbers.{withAir}
 use Rattle.lent.specs.Lent.{unless, lentRefusal}
 use Rattle.moves.proofs.Refuses.{Refuses, wider, finds, names, either, after}
 use Rattle.bodies.specs.declared.BodyNumbers.{BodyNumbers}
@@ -51,7 +52,7 @@ numbers-chosen false motion = inr (omega arith, omega arith, λ e. omega arith)
 module _ (records : List ℕ) (shapes : List Float) (cells : List ℕ) (w : Window) (rules : Rules) (body : BodyNumbers) (given : MotionNumbers) (age : ℕ) where
   lent-number : (lentRefusal records shapes cells w ≡ 0) ⊎ Named (lentRefusal records shapes cells w)
   unfolding lentRefusal windowRefusal
-  lent-number = lent-chosen (tablesFit records shapes) (windowFits (length cells) w)
+  lent-number = lent-chosen (tablesFit records shapes) (windowFits cells w)
 
   given-number : (numberRefusal records rules body given ≡ 0) ⊎ Named (numberRefusal records rules body given)
   unfolding numberRefusal
@@ -62,7 +63,7 @@ module _ (records : List ℕ) (shapes : List Float) (cells : List ℕ) (w : Wind
   step-refuses =
       checked-refuses _ _ lent-number
       (checked-refuses _ _ given-number
-      (after _ _ (wider _ from-core (core-refuses cells w records shapes rules _ _ age)) (λ t.
+      (after _ _ (wider _ from-core (core-refuses cells (withAir w (rules .air)) records shapes rules _ _ age)) (λ t.
       either _ _ _ (names 9 (omega arith, omega arith, λ e. omega arith)) (finds t))))
 
   of-answer : (m : Ask Tick) → Refuses Named m → (stepAnswer given m .refusal ≡ 0) ⊎ Named (stepAnswer given m .refusal)

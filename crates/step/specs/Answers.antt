@@ -11,6 +11,7 @@ use Rattle.boxes.specs.declared.Vec3.{Vec3}
 use Rattle.tables.specs.declared.LiquidKind.the-variants.{None}
 use Rattle.window.specs.declared.Window.{Window}
 use Rattle.window.specs.Look.{lookAt}
+use Rattle.window.specs.Numbers.{withAir}
 use Rattle.lent.specs.Lent.{unless, sound}
 use Rattle.bodies.specs.declared.BodyNumbers.{BodyNumbers}
 use Rattle.bodies.specs.declared.Rules.{Rules}
@@ -46,7 +47,7 @@ fitting records rules body given ask =
 abbrev pub checkedAsked : List ℕ → List Float → List ℕ → Window → Rules → BodyNumbers → MotionNumbers → ℕ → Ask Tick
 checkedAsked records shapes cells w rules body given age =
     fitting records rules body given
-    (stepBodySensed (lookAt cells w) records shapes rules (bodyOf body) (motionOf given) age >>= finiteTick)
+    (stepBodySensed (lookAt cells (withAir w (rules .air))) records shapes rules (bodyOf body) (motionOf given) age >>= finiteTick)
 
 -- step_checked: over tables and a window that were checked before
 unfoldable pub checkedEntry : List ℕ → List Float → List ℕ → Window → Rules → BodyNumbers → MotionNumbers → ℕ → StepAnswer
@@ -75,4 +76,4 @@ frictionEntry records shapes cells w rules feet =
     (sound records shapes cells w
     (unless (not (rulesFit records rules)) 3
     (unless (not (isPosition feet)) 4
-    (livingBlockFriction (lookAt cells w) records rules feet))))
+    (livingBlockFriction (lookAt cells (withAir w (rules .air))) records rules feet))))

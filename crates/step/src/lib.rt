@@ -101,7 +101,7 @@ pub fn step_checked(
         records,
         shapes,
         cells,
-        w,
+        window::with_air(w, rules.air),
         rules,
         body_of(body),
         motion_of(given),
@@ -180,7 +180,7 @@ pub fn living_block_friction(
     }
     if rules_fit(records, rules) {
         if is_position(feet) {
-            let told = samples::living_sample(records, cells, w, rules, feet);
+            let told = samples::living_sample(records, cells, window::with_air(w, rules.air), rules, feet);
             return match told {
                 AskedSupport::Refused(n) => refused_number(n),
                 AskedSupport::Is(s) => Answer {

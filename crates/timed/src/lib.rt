@@ -35,6 +35,9 @@ pub extern "C" fn boltjuniper_way(
     sx: u32,
     sy: u32,
     sz: u32,
+    lowest: i32,
+    highest: i32,
+    air: u32,
     x0: f64,
     y0: f64,
     z0: f64,
@@ -48,9 +51,9 @@ pub extern "C" fn boltjuniper_way(
     ground: u32,
     k: u32,
 ) -> f64
-    ensures { λ r. ⌜ r ≡ wayOf k (moveAabb (lookAt (now (cells .entry)) (windowOf ox oy oz sx sy sz)) (now (records .entry)) (now (shapes .entry)) (boxBetween x0 y0 z0 x1 y1 z1) (vec dx dy dz) step (not (eqb ground 0))) ⌝ }
+    ensures { λ r. ⌜ r ≡ wayOf k (moveAabb (lookAt (now (cells .entry)) (windowOf ox oy oz sx sy sz lowest highest air)) (now (records .entry)) (now (shapes .entry)) (boxBetween x0 y0 z0 x1 y1 z1) (vec dx dy dz) step (not (eqb ground 0))) ⌝ }
 {
-    let w = window::window_of(ox, oy, oz, sx, sy, sz);
+    let w = window::window_of(ox, oy, oz, sx, sy, sz, lowest, highest, air);
     let a = Aabb {
         min: Vec3 { x: x0, y: y0, z: z0 },
         max: Vec3 { x: x1, y: y1, z: z1 },

@@ -31,7 +31,7 @@ pub fn view_of<'a>(cells: &'a [u32], w: Window) -> View<'a>
 
 // The check of a view that a host hands in: 0, or 2.
 pub fn check_view<'a>(v: View<'a>) -> u32
-    ensures { λ r. ⌜ r ≡ windowRefusal (length (now (v .entry .cells))) (v .entry .window) ⌝ }
+    ensures { λ r. ⌜ r ≡ windowRefusal (now (v .entry .cells)) (v .entry .window) ⌝ }
 {
     window::check_window(v.cells, v.window)
 }

@@ -1,42 +1,25 @@
--- The cells of a window: inside a window that passes its check each cell has a place of its own among the lent cells, so that the look-up refuses
--- the outside cells and no others. Assumes nothing.
+-- The cells of a window: in a window that passes its check each inside cell and each column has a place of its own among the lent words, and
+-- what the look-up says follows from the column, the world's ends and the window's height. Assumes nothing.
 use mathlib.Core.Path.{_≡_, refl, sym, ap, _∙_, subst}
 use mathlib.Core.Bool.{Bool, true, false, _&&_, false≢true}
 use mathlib.Core.List.{List}
 use Prim.Native.Nat.{ℕ, _+_, _*_, _/_, _%_, _<_}
-use native.Mathlib.Nat.{mul-comm, mul-assoc}
+use native.Mathlib.Nat.{mul-comm}
 use native.Mathlib.Omega.{arith}
 use lib.Arith.{digits-lt, digits-div, digits-mod}
-use lib.Dec.{leb, ltb, eqb}
-use lib.IntN.{ℤ, pos, negsuc, natAbs, _+ℤ_, _-ℤ_, -ℤ-+ℤ-cancel}
+use lib.Dec.{ltb, eqb}
+use lib.IntN.{ℤ, pos, natAbs, _+ℤ_, _-ℤ_, -ℤ-+ℤ-cancel}
 use lib.ListN.{length, getD}
-use lib.Signed.{ltZ, leZ}
-use borrow.Author.Tests.{ltb-true, eqb-true, lt-ltb}
+use borrow.Author.Tests.{eqb-true, lt-ltb}
 use Rattle.base.proofs.Every.{both}
 use Rattle.base.specs.Choose.{choose}
 use Rattle.base.specs.Ask.{refused, found}
 use Rattle.window.specs.declared.Pos.{Pos}
 use Rattle.window.specs.declared.Sizes.{Sizes}
 use Rattle.window.specs.declared.Window.{Window}
-use Rattle.window.specs.Window.{within, inside, indexAt, indexOf, sizesFit, originFits, windowFits, windowRefusal}
-use Rattle.window.specs.Look.{Block, blockFor, lookAt}
-use Rattle.window.proofs.Offsets.{within-by}
-
--- on one axis: the difference to the origin is not below zero and below the size, and tells the coordinate
-record Ahead (d : ℤ) (n : ℕ) : Type 0 where
-  pub size : ℕ
-  pub is : d ≡ pos size
-  pub small : size < n
-
-ahead : (o : ℤ) (n : ℕ) (c : ℤ) → within o n c ≡ true → Ahead (c -ℤ o) n
-ahead o n c e = go (c -ℤ o) (sym (within-by o n c) ∙ e)
-  where
-    go : (d : ℤ) → (leZ (pos 0) d && ltZ d (pos n)) ≡ true → Ahead d n
-    go (pos k) e = record { size = k; is = refl; small = ltb-true k n (both (leb 0 k) (ltb k n) e .two) }
-    go (negsuc k) e = absurd (false≢true e)
-
-below-size : (o : ℤ) (n : ℕ) (c : ℤ) → within o n c ≡ true → natAbs (c -ℤ o) < n
-below-size o n c e = let a = ahead o n c e in subst (λ (d : ℤ). natAbs d < n) (sym (a .is)) (a .small)
+use Rattle.window.specs.Window.{within, columnInside, heightInside, isVoid, indexAt, cellCount, columnCount, indexOf, columnIndexOf, sizesFit, originFits, heightsFit, columnsFit, windowFits, windowRefusal}
+use Rattle.window.specs.Look.{Block, none, some, lookAt}
+use Rattle.window.proofs.Offsets.{Ahead, ahead, below-size, place-below}
 
 same-coordinate : (o : ℤ) (n : ℕ) (c d : ℤ) → within o n c ≡ true → within o n d ≡ true → natAbs (c -ℤ o) ≡ natAbs (d -ℤ o) → c ≡ d
 same-coordinate o n c d t u e =
@@ -46,11 +29,6 @@ same-coordinate o n c d t u e =
     sym (-ℤ-+ℤ-cancel c o) ∙ ap (λ (z : ℤ). z +ℤ o) (a .is ∙ ap pos k ∙ sym (b .is)) ∙ -ℤ-+ℤ-cancel d o
 
 -- ---- places
--- a place is a number of three digits
-pub place-below : (s : Sizes) (x y z : ℕ) → x < s .x → y < s .y → z < s .z → indexAt s x y z < s .x * s .y * s .z
-place-below s x y z hx hy hz =
-    subst (λ (n : ℕ). indexAt s x y z < n) (mul-comm (s .y * s .z) (s .x) ∙ sym (mul-assoc (s .x) (s .y) (s .z))) (digits-lt (digits-lt hy hz) hx)
-
 module _ (q r m a b : ℕ) (ha : a < m) (hb : b < m) (e : q * m + a ≡ r * m + b) where
   last-digit : a ≡ b
   last-digit = sym (digits-mod q ha) ∙ ap (λ (n : ℕ). n % m) e ∙ digits-mod r hb
@@ -70,12 +48,10 @@ pub record Inside (w : Window) (p : Pos) : Type 0 where
   pub y : within (w .origin .y) (w .sizes .y) (p .y) ≡ true
   pub z : within (w .origin .z) (w .sizes .z) (p .z) ≡ true
 
-pub is-inside : (w : Window) (p : Pos) → inside w p ≡ true → Inside w p
-unfolding inside
-is-inside w p e =
-    let xyz = both (within (w .origin .x) (w .sizes .x) (p .x) && within (w .origin .y) (w .sizes .y) (p .y)) (within (w .origin .z) (w .sizes .z) (p .z)) e in
-    let xy = both (within (w .origin .x) (w .sizes .x) (p .x)) (within (w .origin .y) (w .sizes .y) (p .y)) (xyz .one) in
-    record { x = xy .one; y = xy .two; z = xyz .two }
+pub is-inside : (w : Window) (p : Pos) → columnInside w p ≡ true → heightInside w p ≡ true → Inside w p
+is-inside w p c h =
+    let xz = both (within (w .origin .x) (w .sizes .x) (p .x)) (within (w .origin .z) (w .sizes .z) (p .z)) c in
+    record { x = xz .one; y = h; z = xz .two }
 
 -- how far an inside cell lies from the origin
 pub record Near (w : Window) (p : Pos) : Type 0 where
@@ -90,17 +66,15 @@ is-near {w} {p} i = record {
   z = below-size (w .origin .z) (w .sizes .z) (p .z) (i .z);
 }
 
--- the place of an inside cell is below the product of the sizes
-pub index-below : (w : Window) (p : Pos) → inside w p ≡ true → indexOf w p < w .sizes .x * w .sizes .y * w .sizes .z
+-- the place of an inside cell is below the product of the sizes: it is none of the columns' words
+pub index-below : (w : Window) (p : Pos) → Inside w p → indexOf w p < cellCount (w .sizes)
 unfolding indexOf
-index-below w p e = let n = is-near (is-inside w p e) in place-below (w .sizes) _ _ _ (n .x) (n .y) (n .z)
+index-below w p i = let n = is-near i in place-below (w .sizes) _ _ _ (n .x) (n .y) (n .z)
 
 -- different inside cells have different places
-pub index-unique : (w : Window) (p q : Pos) → inside w p ≡ true → inside w q ≡ true → indexOf w p ≡ indexOf w q → p ≡ q
+pub index-unique : (w : Window) (p q : Pos) → Inside w p → Inside w q → indexOf w p ≡ indexOf w q → p ≡ q
 unfolding indexOf
-index-unique w p q a b e =
-    let i = is-inside w p a in
-    let j = is-inside w q b in
+index-unique w p q i j e =
     let n = is-near i in
     let m = is-near j in
     let s = same-place (w .sizes) _ _ _ _ _ _ (n .x) (n .z) (m .x) (m .z) e in
@@ -110,39 +84,81 @@ index-unique w p q a b e =
     λ k. record { x = x k; y = y k; z = z k }
 
 -- ---- the look-up
--- an outside cell is refused with 5
-pub outside-refused : (cells : List ℕ) (w : Window) (p : Pos) → inside w p ≡ false → lookAt cells w p ≡ refused 5
-unfolding lookAt choose
-outside-refused cells w p e = rw e
 
--- in a window that passes its check, a cell was lent for every inside cell
-pub index-lent : (cells : List ℕ) (w : Window) (p : Pos) → windowFits (length cells) w ≡ true → inside w p ≡ true → indexOf w p < length cells
-unfolding windowFits
-index-lent cells w p f i =
-    let n = w .sizes .x * w .sizes .y * w .sizes .z in
-    let fits = sizesFit (w .sizes) && originFits (w .origin) in
-    let e : length cells ≡ n = eqb-true (length cells) n (both fits (eqb (length cells) n) f .two) in
-    subst (λ (k : ℕ). indexOf w p < k) (sym e) (index-below w p i)
-
--- so no inside cell is refused: what stands at its place is found
-pub inside-found : (cells : List ℕ) (w : Window) (p : Pos) → windowFits (length cells) w ≡ true → inside w p ≡ true
-    → lookAt cells w p ≡ found (blockFor (getD cells (indexOf w p) 0))
+-- a column outside the window is refused with 5, at every height
+pub outside-refused : (words : List ℕ) (w : Window) (p : Pos) → columnInside w p ≡ false → lookAt words w p ≡ refused 5
 unfolding lookAt choose
-inside-found cells w p f i = rw (i, lt-ltb (indexOf w p) (length cells) (index-lent cells w p f i))
+outside-refused words w p e = rw e
 
--- what is found, unloaded or a state, is inside
-pub found-inside : (cells : List ℕ) (w : Window) (p : Pos) (b : Block) → lookAt cells w p ≡ found b → inside w p ≡ true
-unfolding lookAt choose
-found-inside cells w p b e = go (inside w p) e
+-- what is found, unloaded or a state, is in a column of the window
+pub found-inside : (words : List ℕ) (w : Window) (p : Pos) (b : Block) → lookAt words w p ≡ found b → columnInside w p ≡ true
+found-inside words w p b e = go (columnInside w p) refl
   where
-    go : (t : Bool) → choose (t && ltb (indexOf w p) (length cells)) (found (blockFor (getD cells (indexOf w p) 0))) (refused 5) ≡ found b → t ≡ true
-    go true e = refl
-    go false e = let z : _≡_ {A = ℕ} 0 1 = cc in absurd (omega arith)
+    go : (t : Bool) → columnInside w p ≡ t → columnInside w p ≡ true
+    go true h = h
+    go false h = let g = outside-refused words w p h in let z : _≡_ {A = ℕ} 0 1 = cc in absurd (omega arith)
+
+-- what a window that passes its check keeps to
+pub record Fits (words : List ℕ) (w : Window) : Type 0 where
+  pub sizes : sizesFit (w .sizes) ≡ true
+  pub origin : originFits (w .origin) ≡ true
+  pub heights : heightsFit (w .lowest) (w .highest) ≡ true
+  pub count : length words ≡ cellCount (w .sizes) + columnCount (w .sizes)
+  pub columns : columnsFit words (cellCount (w .sizes)) (columnCount (w .sizes)) ≡ true
+
+pub fits : (words : List ℕ) (w : Window) → windowFits words w ≡ true → Fits words w
+unfolding windowFits
+fits words w e =
+    let n = cellCount (w .sizes) + columnCount (w .sizes) in
+    let d = both _ (columnsFit words (cellCount (w .sizes)) (columnCount (w .sizes))) e in
+    let c = both _ (eqb (length words) n) (d .one) in
+    let b = both _ (heightsFit (w .lowest) (w .highest)) (c .one) in
+    let a = both (sizesFit (w .sizes)) (originFits (w .origin)) (b .one) in
+    record { sizes = a .one; origin = a .two; heights = b .two; count = eqb-true (length words) n (c .two); columns = d .two }
+
+-- there a word was lent for every column of the window
+pub column-lent : (words : List ℕ) (w : Window) (p : Pos) → windowFits words w ≡ true → columnInside w p ≡ true → columnIndexOf w p < length words
+unfolding columnIndexOf
+column-lent words w p f c =
+    let xz = both (within (w .origin .x) (w .sizes .x) (p .x)) (within (w .origin .z) (w .sizes .z) (p .z)) c in
+    let x = below-size (w .origin .x) (w .sizes .x) (p .x) (xz .one) in
+    let z = below-size (w .origin .z) (w .sizes .z) (p .z) (xz .two) in
+    let k = digits-lt z x in
+    subst (λ (n : ℕ). columnIndexOf w p < n) (sym (fits words w f .count))
+    (behind (cellCount (w .sizes)) (subst (λ (n : ℕ). natAbs (p .z -ℤ w .origin .z) * w .sizes .x + natAbs (p .x -ℤ w .origin .x) < n) (mul-comm (w .sizes .z) (w .sizes .x)) k))
+  where
+    behind : {i n : ℕ} (k : ℕ) → i < n → k + i < k + n
+    behind k h = omega arith
+
+module _ (words : List ℕ) (w : Window) (p : Pos) (f : windowFits words w ≡ true) (c : columnInside w p ≡ true) where
+  lent : ltb (columnIndexOf w p) (length words) ≡ true
+  lent = lt-ltb (columnIndexOf w p) (length words) (column-lent words w p f c)
+
+  -- a column that is not loaded reads so at every height, in the window's or not
+  pub column-unloaded : eqb (getD words (columnIndexOf w p) 0) 0 ≡ true → lookAt words w p ≡ found none
+  unfolding lookAt choose
+  column-unloaded u = rw (c, lent, u)
+
+  module _ (loaded : eqb (getD words (columnIndexOf w p) 0) 0 ≡ false) where
+    -- above and below the world a loaded column reads air, whatever the window holds there
+    pub void-is-air : isVoid w p ≡ true → lookAt words w p ≡ found (some (w .air))
+    unfolding lookAt choose
+    void-is-air v = rw (c, lent, loaded, v)
+
+    -- within the world a cell beyond the window's height is refused with 5
+    pub beyond-refused : isVoid w p ≡ false → heightInside w p ≡ false → lookAt words w p ≡ refused 5
+    unfolding lookAt choose
+    beyond-refused v h = rw (c, lent, loaded, v, h)
+
+    -- and inside it is found: what stands at its place
+    pub inside-found : isVoid w p ≡ false → heightInside w p ≡ true → lookAt words w p ≡ found (some (getD words (indexOf w p) 0))
+    unfolding lookAt choose
+    inside-found v h = rw (c, lent, loaded, v, h)
 
 -- the check's answer
-pub accepted : (n : ℕ) (w : Window) → windowRefusal n w ≡ 0 → windowFits n w ≡ true
+pub accepted : (words : List ℕ) (w : Window) → windowRefusal words w ≡ 0 → windowFits words w ≡ true
 unfolding windowRefusal choose
-accepted n w e = go (windowFits n w) e
+accepted words w e = go (windowFits words w) e
   where
     go : (t : Bool) → _≡_ {A = ℕ} (choose t 0 2) 0 → t ≡ true
     go true e = refl

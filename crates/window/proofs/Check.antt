@@ -45,3 +45,6 @@ layer-count s k = mul-le-mul {n₂ = 64} {m₂ = 64} (k .x .high) (k .y .high)
 
 pub cell-count : (s : Sizes) → AllSmall s → s .x * s .y * s .z ≤ 262144
 cell-count s k = mul-le-mul {n₂ = 4096} {m₂ = 64} (layer-count s k) (k .z .high)
+
+pub column-count : (s : Sizes) → AllSmall s → s .x * s .z ≤ 4096
+column-count s k = mul-le-mul {n₂ = 64} {m₂ = 64} (k .x .high) (k .z .high)

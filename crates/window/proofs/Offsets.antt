@@ -1,23 +1,26 @@
 -- The program's offsets come to the look-up as it is defined. Assumes nothing.
 use mathlib.Core.Path.{_≡_, refl, sym, ap, _∙_, subst}
-use mathlib.Core.Bool.{Bool, true, false, _&&_}
+use mathlib.Core.Bool.{Bool, true, false, not, _&&_, false≢true}
 use mathlib.Core.List.{List}
-use Prim.Native.Nat.{ℕ, _<_, _^_}
+use Prim.Native.Nat.{ℕ, _+_, _*_, _<_, _^_}
+use native.Mathlib.Nat.{mul-comm, mul-assoc}
 use native.Mathlib.Omega.{arith}
-use lib.Dec.{T, ltb, eqb, leb·zero}
+use lib.Arith.{digits-lt}
+use lib.Dec.{T, leb, ltb, eqb, leb·zero}
 use lib.IntN.{ℤ, pos, negsuc, natAbs, _+ℤ_, _-ℤ_, +ℤ-idl, +ℤ-comm, -ℤ-+ℤ-cancel}
 use lib.ListN.{length, getD}
 use lib.Signed.{ltZ, leZ}
-use borrow.Author.Tests.{le-ltb}
+use borrow.Author.Tests.{le-ltb, ltb-true}
+use Rattle.base.proofs.Every.{both}
 use Rattle.base.specs.Choose.{choose}
 use Rattle.base.specs.Ask.{refused, found}
 use Rattle.window.specs.declared.Pos.{Pos}
 use Rattle.window.specs.declared.Sizes.{Sizes}
 use Rattle.window.specs.declared.Window.{Window}
 use Rattle.window.specs.declared.Cell.the-variants.{Outside, Unloaded, State}
-use Rattle.window.specs.Window.{within, inside, indexOf}
-use Rattle.window.specs.Look.{none, some, blockFor, lookAt, asked}
-use Rattle.window.specs.Offsets.{offsetOf, cellAt, cellIn}
+use Rattle.window.specs.Window.{within, isVoid, indexAt, cellCount, columnCount, indexOf, columnIndexOf}
+use Rattle.window.specs.Look.{none, some, lookAt, asked}
+use Rattle.window.specs.Offsets.{offsetOf, inColumn, lookDown, lookIn}
 use Rattle.window.proofs.Order.{lt-moved, le-moved}
 
 -- on one axis, by the difference to the origin
@@ -48,25 +51,52 @@ offset-is o n c t = go (c -ℤ o) (subst T (within-by o n c) t)
     go (pos k) t = refl
     go (negsuc k) t = absurd t
 
--- what stands at a place
-asked-at : (cells : List ℕ) (i : ℕ) → asked (cellAt cells i) ≡ choose (ltb i (length cells)) (found (blockFor (getD cells i 0))) (refused 5)
-unfolding choose cellAt
-asked-at cells i = go (ltb i (length cells)) (eqb (getD cells i 0) 4294967295) (getD cells i 0)
-  where
-    go : (t u : Bool) (v : ℕ) → asked (choose t (choose u Unloaded (State v)) Outside) ≡ choose t (found (choose u none (some v))) (refused 5)
-    go true true v = refl
-    go true false v = refl
-    go false u v = refl
+-- ---- on one axis: the difference to the origin is not below zero and below the size, and tells the coordinate
+pub record Ahead (d : ℤ) (n : ℕ) : Type 0 where
+  pub size : ℕ
+  pub is : d ≡ pos size
+  pub small : size < n
 
--- the look-up, where a, b and c say whether a cell is within on each axis
-asked-in : (cells : List ℕ) (a b c : Bool) (i j : ℕ) → (T a → T b → T c → i ≡ j)
-    → asked (choose a (choose b (choose c (cellAt cells i) Outside) Outside) Outside)
-    ≡ choose (a && b && c && ltb j (length cells)) (found (blockFor (getD cells j 0))) (refused 5)
+pub ahead : (o : ℤ) (n : ℕ) (c : ℤ) → within o n c ≡ true → Ahead (c -ℤ o) n
+ahead o n c e = go (c -ℤ o) (sym (within-by o n c) ∙ e)
+  where
+    go : (d : ℤ) → (leZ (pos 0) d && ltZ d (pos n)) ≡ true → Ahead d n
+    go (pos k) e = record { size = k; is = refl; small = ltb-true k n (both (leb 0 k) (ltb k n) e .two) }
+    go (negsuc k) e = absurd (false≢true e)
+
+pub below-size : (o : ℤ) (n : ℕ) (c : ℤ) → within o n c ≡ true → natAbs (c -ℤ o) < n
+below-size o n c e = let a = ahead o n c e in subst (λ (d : ℤ). natAbs d < n) (sym (a .is)) (a .small)
+
+-- ---- places: a place is a number of three digits
+pub place-below : (s : Sizes) (x y z : ℕ) → x < s .x → y < s .y → z < s .z → indexAt s x y z < cellCount s
+place-below s x y z hx hy hz =
+    subst (λ (n : ℕ). indexAt s x y z < n) (mul-comm (s .y * s .z) (s .x) ∙ sym (mul-assoc (s .x) (s .y) (s .z))) (digits-lt (digits-lt hy hz) hx)
+
+-- the same places by layers; the words of the columns stand where a layer above the highest would
+pub cell-place : (s : Sizes) (x y z : ℕ) → y * columnCount s + (z * s .x + x) ≡ indexAt s x y z
+cell-place s x y z = omega arith
+
+pub column-place : (s : Sizes) (x z : ℕ) → s .y * columnCount s + (z * s .x + x) ≡ cellCount s + (z * s .x + x)
+column-place s x z = omega arith
+
+-- ---- the look-up, where a, b and c say whether a cell is within on each axis; the column's word stands at k, and the cell's at j
+looked-in : (words : List ℕ) (a b c void : Bool) (air i k m j : ℕ) → (T a → T c → i ≡ k) → (T a → T b → T c → m ≡ j)
+    → asked (choose a (choose c (choose (ltb i (length words)) (inColumn (getD words i 0) air void (choose b (State (getD words m 0)) Outside)) Outside) Outside) Outside)
+    ≡ choose (not ((a && c) && ltb k (length words))) (refused 5)
+    (choose (eqb (getD words k 0) 0) (found none) (choose void (found (some air)) (choose (not b) (refused 5) (found (some (getD words j 0))))))
 unfolding choose
-asked-in cells true true true i j e = ap (λ (k : ℕ). asked (cellAt cells k)) (e tt tt tt) ∙ asked-at cells j
-asked-in cells true true false i j e = refl
-asked-in cells true false c i j e = refl
-asked-in cells false b c i j e = refl
+looked-in words false b c void air i k m j e f = refl
+looked-in words true b false void air i k m j e f = refl
+looked-in words true b true void air i k m j e f = rw (e tt tt) (column (ltb k (length words)) (eqb (getD words k 0) 0) void b (f tt))
+  where
+    column : (t u v b : Bool) → (T b → T true → m ≡ j)
+        → asked (choose t (choose u Unloaded (choose v (State air) (choose b (State (getD words m 0)) Outside))) Outside)
+        ≡ choose (not t) (refused 5) (choose u (found none) (choose v (found (some air)) (choose (not b) (refused 5) (found (some (getD words j 0))))))
+    column false u v b f = refl
+    column true true v b f = refl
+    column true false true b f = refl
+    column true false false false f = refl
+    column true false false true f = rw (f tt tt)
 
 pub record Narrow (s : Sizes) : Type 0 where
   pub x : s .x < 2 ^ 32
@@ -74,10 +104,14 @@ pub record Narrow (s : Sizes) : Type 0 where
   pub z : s .z < 2 ^ 32
 
 -- the cell at the offsets of p is the look-up at p
-pub looked : (cells : List ℕ) (w : Window) (p : Pos) → Narrow (w .sizes)
-    → asked (cellIn cells (w .sizes) (offsetOf (p .x -ℤ w .origin .x)) (offsetOf (p .y -ℤ w .origin .y)) (offsetOf (p .z -ℤ w .origin .z)))
-    ≡ lookAt cells w p
-unfolding cellIn lookAt inside indexOf
-looked cells w p n =
-    rw (offset-within (w .origin .x) (w .sizes .x) (p .x) (n .x), offset-within (w .origin .y) (w .sizes .y) (p .y) (n .y), offset-within (w .origin .z) (w .sizes .z) (p .z) (n .z))
-    (asked-in cells _ _ _ _ _ (λ a b c. rw (offset-is (w .origin .x) (w .sizes .x) (p .x) a, offset-is (w .origin .y) (w .sizes .y) (p .y) b, offset-is (w .origin .z) (w .sizes .z) (p .z) c)))
+pub looked : (words : List ℕ) (w : Window) (p : Pos) → Narrow (w .sizes)
+    → asked (lookIn words (w .sizes) (w .air) (isVoid w p) (offsetOf (p .x -ℤ w .origin .x)) (offsetOf (p .y -ℤ w .origin .y)) (offsetOf (p .z -ℤ w .origin .z)))
+    ≡ lookAt words w p
+unfolding lookIn lookDown lookAt indexOf columnIndexOf
+looked words w p n =
+    let o = w .origin in
+    let s = w .sizes in
+    rw (offset-within (o .x) (s .x) (p .x) (n .x), offset-within (o .y) (s .y) (p .y) (n .y), offset-within (o .z) (s .z) (p .z) (n .z))
+    (looked-in words _ _ _ (isVoid w p) (w .air) _ _ _ _
+    (λ a c. rw (offset-is (o .x) (s .x) (p .x) a, offset-is (o .z) (s .z) (p .z) c) (column-place s _ _))
+    (λ a b c. rw (offset-is (o .x) (s .x) (p .x) a, offset-is (o .y) (s .y) (p .y) b, offset-is (o .z) (s .z) (p .z) c) (cell-place s _ _ _)))

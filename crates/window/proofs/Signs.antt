@@ -75,6 +75,19 @@ worked x d o f g h =
       whole = whole;
     }
 
+-- a sum of the two in i64
+pub record Summed (y d : ℤ) : Type 0 where
+  pub sum : SFits w64 (wide w32 y +ℤ wide w8 d)
+  pub value : toZ w64 (ofZ w64 (wide w32 y +ℤ wide w8 d)) ≡ y +ℤ d
+
+pub summed : (y d : ℤ) → SFits w32 y → SFits w8 d → Summed y d
+summed y d f g =
+    let n : mag (y +ℤ d) < 2 ^ 31 + 2 ^ 7 = mag-add y d (2 ^ 31) (2 ^ 7) (f .sfits) (g .sfits) in
+    let whole : SFits w64 (y +ℤ d) = record { sfits = omega arith } in
+    let wy = wide-is w32 y f (widens32 f) in
+    let wd = wide-is w8 d g (widens8 g) in
+    record { sum = rw (wy, wd) whole; value = rw (wy, wd, toZ-ofZ w64 (y +ℤ d) whole) }
+
 -- the two answers of `offset`
 pub below : (z : ℤ) → ltZ z (pos 0) ≡ true → 18446744073709551615 ≡ offsetOf z
 unfolding offsetOf

@@ -1,5 +1,6 @@
--- The one look-up: a cell inside is unloaded or has a state; a cell outside the window is refused, and never taken for unloaded.
-use mathlib.Core.Bool.{_&&_}
+-- The one look-up. The column decides first: outside the window it is refused, and never taken for unloaded; a column that is not loaded is so at
+-- every height. In a loaded one the sky and the void are air, whatever the window holds there; then the window's height decides.
+use mathlib.Core.Bool.{not, _&&_}
 use mathlib.Core.List.{List}
 use Prim.Native.Nat.{ℕ}
 use lib.Dec.{ltb, eqb}
@@ -12,21 +13,21 @@ use Rattle.window.specs.declared.CellStep.{CellStep}
 use Rattle.window.specs.declared.Window.{Window}
 use Rattle.window.specs.declared.Cell.{Cell}
 use Rattle.window.specs.declared.Cell.the-variants.{Outside, Unloaded, State}
-use Rattle.window.specs.Window.{inside, indexOf}
+use Rattle.window.specs.Window.{columnInside, heightInside, isVoid, indexOf, columnIndexOf}
 
 -- what the Rust's `block_at` answers: None where the chunk is not loaded
 pub data Block : Type 0 where
   none : Block
   some : ℕ → Block
 
--- 4294967295 marks a cell that is not loaded
-abbrev pub blockFor : ℕ → Block
-blockFor v = choose (eqb v 4294967295) none (some v)
-
--- a cell outside the window is refused with 5; so is one for which the host lent no cell, which no window that passes its check has
+-- a column for which the host lent no word is refused as one outside is; no window that passes its check has one
 unfoldable pub lookAt : List ℕ → Window → Pos → Ask Block
-lookAt cells w p =
-    choose (inside w p && ltb (indexOf w p) (length cells)) (found (blockFor (getD cells (indexOf w p) 0))) (refused 5)
+lookAt words w p =
+    choose (not (columnInside w p && ltb (columnIndexOf w p) (length words))) (refused 5)
+    (choose (eqb (getD words (columnIndexOf w p) 0) 0) (found none)
+    (choose (isVoid w p) (found (some (w .air)))
+    (choose (not (heightInside w p)) (refused 5)
+    (found (some (getD words (indexOf w p) 0))))))
 
 -- what the program's answer says
 abbrev pub asked : Cell → Ask Block

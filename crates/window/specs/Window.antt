@@ -1,10 +1,13 @@
--- The window: which cells it holds, where each stands among the lent cells, and when a window is turned away.
-use mathlib.Core.Bool.{Bool, _&&_}
+-- The window: which columns and cells it holds, where the word of each stands among the lent words, and when a window is turned away.
+use mathlib.Core.Bool.{Bool, _&&_, _||_}
+use mathlib.Core.List.{List}
 use Prim.Native.Nat.{ℕ, _+_, _*_}
 use lib.Dec.{leb, eqb}
 use lib.IntN.{ℤ, pos, natAbs, _+ℤ_, _-ℤ_}
+use lib.ListN.{length, getD}
 use lib.Signed.{leZ, ltZ}
 use Rattle.base.specs.Choose.{choose}
+use Rattle.base.specs.Every.{every}
 use Rattle.window.specs.declared.Pos.{Pos}
 use Rattle.window.specs.declared.Sizes.{Sizes}
 use Rattle.window.specs.declared.Window.{Window}
@@ -13,20 +16,41 @@ use Rattle.window.specs.declared.Window.{Window}
 abbrev pub within : ℤ → ℕ → ℤ → Bool
 within origin size c = leZ origin c && ltZ c (origin +ℤ pos size)
 
-unfoldable pub inside : Window → Pos → Bool
-inside w p =
-    within (w .origin .x) (w .sizes .x) (p .x)
-    && within (w .origin .y) (w .sizes .y) (p .y)
-    && within (w .origin .z) (w .sizes .z) (p .z)
+-- the column of a cell lies in the window
+abbrev pub columnInside : Window → Pos → Bool
+columnInside w p = within (w .origin .x) (w .sizes .x) (p .x) && within (w .origin .z) (w .sizes .z) (p .z)
+
+-- and so does its height
+abbrev pub heightInside : Window → Pos → Bool
+heightInside w p = within (w .origin .y) (w .sizes .y) (p .y)
+
+-- above or below the world
+unfoldable pub isVoid : Window → Pos → Bool
+isVoid w p = ltZ (p .y) (w .lowest) || ltZ (w .highest) (p .y)
+
+-- ---- places among the lent words: the cells first, then one word for each column
 
 -- ((y × size z) + z) × size x + x
 abbrev pub indexAt : Sizes → ℕ → ℕ → ℕ → ℕ
 indexAt s x y z = (y * s .z + z) * s .x + x
 
+abbrev pub cellCount : Sizes → ℕ
+cellCount s = s .x * s .y * s .z
+
+abbrev pub columnCount : Sizes → ℕ
+columnCount s = s .x * s .z
+
 -- the place of a cell inside the window, counted from the origin: there no difference is below zero
 unfoldable pub indexOf : Window → Pos → ℕ
 indexOf w p =
     indexAt (w .sizes) (natAbs (p .x -ℤ w .origin .x)) (natAbs (p .y -ℤ w .origin .y)) (natAbs (p .z -ℤ w .origin .z))
+
+-- the place of a column's word: z × size x + x, behind the cells
+unfoldable pub columnIndexOf : Window → Pos → ℕ
+columnIndexOf w p =
+    cellCount (w .sizes) + (natAbs (p .z -ℤ w .origin .z) * w .sizes .x + natAbs (p .x -ℤ w .origin .x))
+
+-- ---- the check
 
 -- sizes are 1 to 64 each
 abbrev pub sizeFits : ℕ → Bool
@@ -35,17 +59,34 @@ sizeFits n = leb 1 n && leb n 64
 unfoldable pub sizesFit : Sizes → Bool
 sizesFit s = sizeFits (s .x) && sizeFits (s .y) && sizeFits (s .z)
 
--- an origin's coordinates are of size at most 2^25
+-- coordinates and heights are of size at most 2^25
 unfoldable pub coordinateFits : ℤ → Bool
 coordinateFits c = leb (natAbs c) 33554432
 
 unfoldable pub originFits : Pos → Bool
 originFits o = coordinateFits (o .x) && coordinateFits (o .y) && coordinateFits (o .z)
 
--- a window over that many cells breaks no limit, and the cell count is the product
-unfoldable pub windowFits : ℕ → Window → Bool
-windowFits cells w = sizesFit (w .sizes) && originFits (w .origin) && eqb cells (w .sizes .x * w .sizes .y * w .sizes .z)
+-- the lowest cell is not over the highest
+unfoldable pub heightsFit : ℤ → ℤ → Bool
+heightsFit lowest highest = coordinateFits lowest && coordinateFits highest && leZ lowest highest
+
+-- a column's word is 1, loaded, or 0, not
+unfoldable pub columnFits : List ℕ → ℕ → Bool
+columnFits words i = leb (getD words i 0) 1
+
+-- so many words from the first on
+unfoldable pub columnsFit : List ℕ → ℕ → ℕ → Bool
+columnsFit words first count = every count (λ k. columnFits words (first + k))
+
+-- a window over these words breaks no limit, and there are as many cells and columns as its sizes say
+unfoldable pub windowFits : List ℕ → Window → Bool
+windowFits words w =
+    sizesFit (w .sizes)
+    && originFits (w .origin)
+    && heightsFit (w .lowest) (w .highest)
+    && eqb (length words) (cellCount (w .sizes) + columnCount (w .sizes))
+    && columnsFit words (cellCount (w .sizes)) (columnCount (w .sizes))
 
 -- 0, or the number of the refusal
-unfoldable pub windowRefusal : ℕ → Window → ℕ
-windowRefusal cells w = choose (windowFits cells w) 0 2
+unfoldable pub windowRefusal : List ℕ → Window → ℕ
+windowRefusal words w = choose (windowFits words w) 0 2

@@ -1,14 +1,16 @@
-// The window: a host lends cells and says by numbers where they lie. Its check (2), and the one look-up.
+// The window: a host lends words, of cells and of columns, and says by numbers where they lie. Its check (2), and the one look-up.
 mod numbers;
 
 pub use numbers::window_of;
+pub use numbers::with_air;
 ghost use mathlib.Core.Path.{_≡_};
-ghost use Prim.Native.Nat.{_+_, _*_};
+ghost use mathlib.Core.Bool.{_||_};
+ghost use Prim.Native.Nat.{_<_};
 ghost use lib.IntN.{_+ℤ_, _-ℤ_};
-ghost use lib.ListN.{length};
-ghost use Rattle.window.specs.Window.{sizeFits, sizesFit, coordinateFits, originFits, windowRefusal};
+ghost use lib.Signed.{ltZ};
+ghost use Rattle.window.specs.Window.{sizeFits, sizesFit, coordinateFits, originFits, heightsFit, columnFits, columnsFit, windowRefusal};
 ghost use Rattle.window.specs.Look.{lookAt, asked, stepped};
-ghost use Rattle.window.specs.Offsets.{offsetOf, cellFor, cellAt, cellIn};
+ghost use Rattle.window.specs.Offsets.{offsetOf, placeIn, lookDown, lookIn};
 
 pub struct Pos {
     pub x: i32,
@@ -22,10 +24,14 @@ pub struct Sizes {
     pub z: u32,
 }
 
-// The numbers of a window; the lent cells go beside it. Sizes are u32 so that any number a host hands in can be checked.
+// The numbers of a window: where it lies, the world's lowest and highest cell, and the state that the sky and the void read. Its lent words go
+// beside it: the cells, then one for each column. Sizes are u32 so that any number a host hands in can be checked.
 pub struct Window {
     pub origin: Pos,
     pub sizes: Sizes,
+    pub lowest: i32,
+    pub highest: i32,
+    pub air: u32,
 }
 
 // A way from a cell to one beside it.
@@ -56,61 +62,67 @@ fn offset(x: i32, d: i8, o: i32) -> u64
     }
 }
 
-fn cell_of(v: u32) -> Cell
-    ensures { λ r. ⌜ r ≡ cellFor v ⌝ }
+// Where a word stands that is the word `at` of its layer, so many layers up: any number from n on where it is not one of n words. Only where a
+// layer has 2^32 words and more might the place not fit in a u64.
+fn place(layer: u64, up: u32, at: u64, n: u64) -> u64
+    requires { ⌜ at < layer ⌝ }
+    ensures { λ r. ⌜ r ≡ placeIn layer up at n ⌝ }
 {
-    if v == 4294967295 {
-        return Cell::Unloaded;
+    let up = up as u64;
+    if layer < 4294967296 {
+        return up * layer + at;
     }
-    Cell::State(v)
+    if at < n {
+        if up <= (n - 1 - at) / layer {
+            return up * layer + at;
+        }
+        return n;
+    }
+    n
 }
 
-fn cell_at(cells: &[u32], i: u64) -> Cell
-    ensures { λ r. ⌜ r ≡ cellAt (now (cells .entry)) i ⌝ }
+// Whether y and d together lie above or below the world.
+fn is_void(y: i32, d: i8, lowest: i32, highest: i32) -> bool
+    ensures { λ r. ⌜ r ≡ ltZ (y +ℤ d) lowest || ltZ highest (y +ℤ d) ⌝ }
 {
-    let i = i as usize;
-    if i < cells.len() {
-        return cell_of(cells[i]);
-    }
-    Cell::Outside
+    let at = (y as i64) + (d as i64);
+    (at < lowest as i64) | ((highest as i64) < at)
 }
 
-// The cell at row * size + x, where that might not fit in a u64: only a window of 2^32 rows and more comes here.
-fn far_cell(cells: &[u32], row: u64, size: u64, x: u64) -> Cell
-    ensures { λ r. ⌜ r ≡ cellAt (now (cells .entry)) (row * size + x) ⌝ }
+// The column decides, then the world's ends, then the window's height. The column's word stands where that of a cell above the highest would, so
+// that where it was lent the cells below it were.
+fn look_down(words: &[u32], layer: u64, at: u64, height: u32, air: u32, void: bool, y: u64) -> Cell
+    requires { ⌜ at < layer ⌝ }
+    ensures { λ r. ⌜ r ≡ lookDown (now (words .entry)) layer at height air void y ⌝ }
 {
-    let n = cells.len() as u64;
-    if n <= x {
-        return Cell::Outside;
-    }
-    if size == 0 {
-        return cell_at(cells, x);
-    }
-    if row <= (n - 1 - x) / size {
-        return cell_at(cells, row * size + x);
-    }
-    Cell::Outside
-}
-
-// The cell at three offsets into the window. Below the sizes no sum here wraps.
-fn cell_in(cells: &[u32], s: Sizes, x: u64, y: u64, z: u64) -> Cell
-    ensures { λ r. ⌜ r ≡ cellIn (now (cells .entry)) s x y z ⌝ }
-{
-    let sx = s.x as u64;
-    let sy = s.y as u64;
-    let sz = s.z as u64;
-    if x < sx {
-        if y < sy {
-            if z < sz {
-                let row = y * sz + z;
-                if row < 4294967296 {
-                    return cell_at(cells, row * sx + x);
-                }
-                return far_cell(cells, row, sx, x);
-            }
-            return Cell::Outside; // beyond on z
+    let i = place(layer, height, at, words.len() as u64) as usize;
+    if i < words.len() {
+        if words[i] == 0 {
+            return Cell::Unloaded;
+        }
+        if void {
+            return Cell::State(air);
+        }
+        if y < height as u64 {
+            let k = (y * layer + at) as usize;
+            return Cell::State(words[k]);
         }
         return Cell::Outside; // beyond on y
+    }
+    Cell::Outside
+}
+
+// The cell at three offsets.
+fn look_in(words: &[u32], s: Sizes, air: u32, void: bool, x: u64, y: u64, z: u64) -> Cell
+    ensures { λ r. ⌜ r ≡ lookIn (now (words .entry)) s air void x y z ⌝ }
+{
+    let sx = s.x as u64;
+    let sz = s.z as u64;
+    if x < sx {
+        if z < sz {
+            return look_down(words, sx * sz, z * sx + x, s.y, air, void, y);
+        }
+        return Cell::Outside; // beyond on z
     }
     Cell::Outside // beyond on x
 }
@@ -122,7 +134,8 @@ pub fn look_by(cells: &[u32], w: Window, p: Pos, d: CellStep) -> Cell
     let x = offset(p.x, d.x, w.origin.x);
     let y = offset(p.y, d.y, w.origin.y);
     let z = offset(p.z, d.z, w.origin.z);
-    cell_in(cells, w.sizes, x, y, z)
+    let void = is_void(p.y, d.y, w.lowest, w.highest);
+    look_in(cells, w.sizes, w.air, void, x, y, z)
 }
 
 // The look-up of the cell at p.
@@ -157,15 +170,55 @@ fn origin_fits(o: Pos) -> bool
     coordinate_fits(o.x) & coordinate_fits(o.y) & coordinate_fits(o.z)
 }
 
+fn heights_fit(w: Window) -> bool
+    ensures { λ r. ⌜ r ≡ heightsFit (w .lowest) (w .highest) ⌝ }
+{
+    coordinate_fits(w.lowest) & coordinate_fits(w.highest) & (w.lowest <= w.highest)
+}
+
+fn wide(x: u32) -> usize
+    ensures { λ r. ⌜ r ≡ x ⌝ }
+{
+    x as usize
+}
+
+fn column_fits(words: &[u32], i: usize) -> bool
+    ensures { λ r. ⌜ r ≡ columnFits (now (words .entry)) i ⌝ }
+{
+    if i < words.len() {
+        return words[i] <= 1;
+    }
+    true
+}
+
+// So many words from the first on are 1 or 0.
+fn columns_fit(words: &[u32], first: u32, count: u32) -> bool
+    ensures { λ r. ⌜ r ≡ columnsFit (now (words .entry)) first count ⌝ }
+{
+    let mut k = 0u32;
+    while k < count {
+        if column_fits(words, wide(first) + wide(k)) {
+            k += 1;
+        } else {
+            return false;
+        }
+    }
+    true
+}
+
 // The check of a window that a host hands in: 0, or 2.
 pub fn check_window(cells: &[u32], w: Window) -> u32
-    ensures { λ r. ⌜ r ≡ windowRefusal (length (now (cells .entry))) w ⌝ }
+    ensures { λ r. ⌜ r ≡ windowRefusal (now (cells .entry)) w ⌝ }
 {
     if sizes_fit(w.sizes) {
-        if origin_fits(w.origin) {
-            let product = w.sizes.x * w.sizes.y * w.sizes.z;
-            if cells.len() == product as usize {
-                return 0;
+        if origin_fits(w.origin) & heights_fit(w) {
+            let count = w.sizes.x * w.sizes.y * w.sizes.z;
+            let columns = w.sizes.x * w.sizes.z;
+            if cells.len() == wide(count + columns) {
+                if columns_fit(cells, count, columns) {
+                    return 0;
+                }
+                return 2;
             }
             return 2;
         }

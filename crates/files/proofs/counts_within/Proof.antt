@@ -5,7 +5,7 @@ use Rattle.blocks.specs.declared.Part.{Part}
 use mathlib.Core.Path.{sym, ap, _∙_}
 use borrow.Author.Tests.{le-leb, lt-leb}
 use Rattle.base.specs.Choose.{choose}
-use Rattle.window.proofs.Check.{sizes-small, layer-count, cell-count}
+use Rattle.window.proofs.Check.{sizes-small, layer-count, cell-count, column-count}
 use native.Mathlib.Omega.{arith}
 use borrow.Author.Needs.{needs}
 use Rattle.files.proofs.counts_within.Statement.{statement}
@@ -44,8 +44,17 @@ mul-t14 c = let s = c .before .before .before .sizes-at .result in omega (arith,
 mul-t15 : tie.Need-mul-t15
 mul-t15 c = let s = c .before .before .before .before .sizes-at .result in omega (arith, cell-count s (sizes-small s (sym (c .before .before .before .sizes-fit .ensures) ∙ c .before .before .if4 .taken)))
 
+mul-t16 : tie.Need-mul-t16
+mul-t16 c = let s = c .before .before .before .before .before .sizes-at .result in omega (arith, column-count s (sizes-small s (sym (c .before .before .before .before .sizes-fit .ensures) ∙ c .before .before .before .if4 .taken)))
+
+add-t17 : tie.Need-add-t17
+add-t17 c =
+    let s = c .before .before .before .before .before .sizes-at .result in
+    let small = sizes-small s (sym (c .before .before .before .before .sizes-fit .ensures) ∙ c .before .before .before .if4 .taken) in
+    omega (arith, cell-count s small, column-count s small)
+
 returns : tie.Need-returns
-returns c = counts-fit (c .before .before .before .before .before .before .before .before .before .before .before .before .args .file .now) (c .before .before .before .before .before .before .before .before .before .before .body-word .result) (c .before .before .before .before .before .before .before .before .before .body-word2 .result) (c .before .before .before .before .sizes-at .result) (c .before .before .before .before .before .before .before .before .before .before .body-word .ensures) (c .before .before .before .before .before .before .before .before .before .body-word2 .ensures) (c .before .before .before .before .sizes-at .ensures ∙ ap (λ (p : Part). windowIn (c .before .before .before .before .before .before .before .before .before .before .before .before .args .file .now) p .sizes) (c .before .before .before .before .before .window-part .ensures)) (c .before .before .before .before .before .before .before .before .if1 .taken) (c .before .before .before .before .before .before .before .if2 .taken) (c .before .before .before .before .before .before .if3 .taken) (sym (c .before .before .before .sizes-fit .ensures) ∙ c .before .before .if4 .taken)
+returns c = counts-fit (c .before .before .before .before .before .before .before .before .before .before .before .before .before .args .file .now) (c .before .before .before .before .before .before .before .before .before .before .before .body-word .result) (c .before .before .before .before .before .before .before .before .before .before .body-word2 .result) (c .before .before .before .before .before .sizes-at .result) (c .before .before .before .before .before .before .before .before .before .before .before .body-word .ensures) (c .before .before .before .before .before .before .before .before .before .before .body-word2 .ensures) (c .before .before .before .before .before .sizes-at .ensures ∙ ap (λ (p : Part). windowIn (c .before .before .before .before .before .before .before .before .before .before .before .before .before .args .file .now) p .sizes) (c .before .before .before .before .before .before .window-part .ensures)) (c .before .before .before .before .before .before .before .before .before .if1 .taken) (c .before .before .before .before .before .before .before .before .if2 .taken) (c .before .before .before .before .before .before .before .if3 .taken) (sym (c .before .before .before .before .sizes-fit .ensures) ∙ c .before .before .before .if4 .taken)
 
 returns-2 : tie.Need-returns-2
 returns-2 c = counts-unfit (c .before .before .before .before .before .before .before .before .before .before .args .file .now) (c .before .before .before .before .before .before .before .before .body-word .result) (c .before .before .before .before .before .before .before .body-word2 .result) (c .before .before .sizes-at .result) (c .before .before .before .before .before .before .before .before .body-word .ensures) (c .before .before .before .before .before .before .before .body-word2 .ensures) (c .before .before .sizes-at .ensures ∙ ap (λ (p : Part). windowIn (c .before .before .before .before .before .before .before .before .before .before .args .file .now) p .sizes) (c .before .before .before .window-part .ensures)) (c .before .before .before .before .before .before .if1 .taken) (c .before .before .before .before .before .if2 .taken) (c .before .before .before .before .if3 .taken) (sym (c .before .sizes-fit .ensures) ∙ c .if4 .left)
@@ -81,6 +90,8 @@ counts-within-spec =
     cast-t13
     mul-t14
     mul-t15
+    mul-t16
+    add-t17
     returns
     returns-2
     returns-3

@@ -6,15 +6,15 @@ use borrow.Author.Needs.{needs}
 use Rattle.moves.proofs.move_aabb.Statement.{statement}
 use Rattle.moves.proofs.move_aabb.Tie as tie
 
-check-lent-requires : tie.Need-check-lent-requires
-check-lent-requires c κs = search needs
+check-direct-requires : tie.Need-check-direct-requires
+check-direct-requires c κs = search needs
 
 refused-move-requires : tie.Need-refused-move-requires
 refused-move-requires c κs = search needs
 
 returns : tie.Need-returns
 unfolding moveEntry choose
-returns c = rw (← c .before .before .check-lent .ensures, ne-eqb _ _ (c .before .if1 .taken), ← c .refused-move .ensures)
+returns c = rw (← c .before .before .check-direct .ensures, ne-eqb _ _ (c .before .if1 .taken), ← c .refused-move .ensures)
 
 is-step-requires : tie.Need-is-step-requires
 is-step-requires c κs = search needs
@@ -44,8 +44,8 @@ returns-2 c =
     let at-if2 = at-is-fit .before in
     let at-is-step = at-if2 .before in
     let at-if1 = at-is-step .before in
-    let at-check-lent = at-if1 .before in
-    rw (← at-check-lent .check-lent .ensures, eq-eqb _ _ (at-if1 .if1 .left), ← at-is-step .is-step .ensures, at-if2 .if2 .taken, ← at-is-fit .is-fit .ensures, at-if3 .if3 .taken, ← at-move-through .move-through .ensures, at-told .told .given .1, ← c .refused-move2 .ensures)
+    let at-check-direct = at-if1 .before in
+    rw (← at-check-direct .check-direct .ensures, eq-eqb _ _ (at-if1 .if1 .left), ← at-is-step .is-step .ensures, at-if2 .if2 .taken, ← at-is-fit .is-fit .ensures, at-if3 .if3 .taken, ← at-move-through .move-through .ensures, at-told .told .given .1, ← c .refused-move2 .ensures)
 
 returns-3 : tie.Need-returns-3
 unfolding moveEntry choose
@@ -56,8 +56,8 @@ returns-3 c =
     let at-if2 = at-is-fit .before in
     let at-is-step = at-if2 .before in
     let at-if1 = at-is-step .before in
-    let at-check-lent = at-if1 .before in
-    rw (← at-check-lent .check-lent .ensures, eq-eqb _ _ (at-if1 .if1 .left), ← at-is-step .is-step .ensures, at-if2 .if2 .taken, ← at-is-fit .is-fit .ensures, at-if3 .if3 .taken, ← at-move-through .move-through .ensures, c .before .told2 .given .1)
+    let at-check-direct = at-if1 .before in
+    rw (← at-check-direct .check-direct .ensures, eq-eqb _ _ (at-if1 .if1 .left), ← at-is-step .is-step .ensures, at-if2 .if2 .taken, ← at-is-fit .is-fit .ensures, at-if3 .if3 .taken, ← at-move-through .move-through .ensures, c .before .told2 .given .1)
 
 refused-move-requires-3 : tie.Need-refused-move-requires-3
 refused-move-requires-3 c κs = search needs
@@ -69,8 +69,8 @@ returns-4 c =
     let at-if2 = at-is-fit .before in
     let at-is-step = at-if2 .before in
     let at-if1 = at-is-step .before in
-    let at-check-lent = at-if1 .before in
-    rw (← at-check-lent .check-lent .ensures, eq-eqb _ _ (at-if1 .if1 .left), ← at-is-step .is-step .ensures, at-if2 .if2 .taken, ← at-is-fit .is-fit .ensures, c .before .if3 .left, ← c .refused-move3 .ensures)
+    let at-check-direct = at-if1 .before in
+    rw (← at-check-direct .check-direct .ensures, eq-eqb _ _ (at-if1 .if1 .left), ← at-is-step .is-step .ensures, at-if2 .if2 .taken, ← at-is-fit .is-fit .ensures, c .before .if3 .left, ← c .refused-move3 .ensures)
 
 refused-move-requires-4 : tie.Need-refused-move-requires-4
 refused-move-requires-4 c κs = search needs
@@ -80,14 +80,14 @@ unfolding moveEntry choose
 returns-5 c =
     let at-is-step = c .before .before in
     let at-if1 = at-is-step .before in
-    let at-check-lent = at-if1 .before in
-    rw (← at-check-lent .check-lent .ensures, eq-eqb _ _ (at-if1 .if1 .left), ← at-is-step .is-step .ensures, c .before .if2 .left, ← c .refused-move4 .ensures)
+    let at-check-direct = at-if1 .before in
+    rw (← at-check-direct .check-direct .ensures, eq-eqb _ _ (at-if1 .if1 .left), ← at-is-step .is-step .ensures, c .before .if2 .left, ← c .refused-move4 .ensures)
 
 pub move-aabb-spec : {M : Type 1} → statement M
 move-aabb-spec =
     tie.close
     (tie.spec
-    check-lent-requires
+    check-direct-requires
     refused-move-requires
     returns
     is-step-requires

@@ -20,7 +20,7 @@ unfolding boxWritten choose
 returns c =
     let made = c .before .before in
     let s = made .before .before .before .before .before .before .before in
-    let held = rw (made .before .window-of .ensures, toZ-ofZ w32 (s .args .ox) (s .fits .ox), toZ-ofZ w32 (s .args .oy) (s .fits .oy), toZ-ofZ w32 (s .args .oz) (s .fits .oz)) at (made .collected .ensures) in
+    let held = rw (made .before .window-of .ensures, toZ-ofZ w32 (s .args .ox) (s .fits .ox), toZ-ofZ w32 (s .args .oy) (s .fits .oy), toZ-ofZ w32 (s .args .oz) (s .fits .oz), toZ-ofZ w32 (s .args .lowest) (s .fits .lowest), toZ-ofZ w32 (s .args .highest) (s .fits .highest)) at (made .collected .ensures) in
     rw (← held, ne-eqb _ _ (c .if1 .taken)) (refl, refl)
 
 put-nth-requires : tie.Need-put-nth-requires
@@ -34,7 +34,7 @@ unfolding boxWritten choose
 returns-2 c =
     let made = c .before .before .before .before .before .before in
     let s = made .before .before .before .before .before .before .before in
-    let held = rw (made .before .window-of .ensures, toZ-ofZ w32 (s .args .ox) (s .fits .ox), toZ-ofZ w32 (s .args .oy) (s .fits .oy), toZ-ofZ w32 (s .args .oz) (s .fits .oz)) at (made .collected .ensures) in
+    let held = rw (made .before .window-of .ensures, toZ-ofZ w32 (s .args .ox) (s .fits .ox), toZ-ofZ w32 (s .args .oy) (s .fits .oy), toZ-ofZ w32 (s .args .oz) (s .fits .oz), toZ-ofZ w32 (s .args .lowest) (s .fits .lowest), toZ-ofZ w32 (s .args .highest) (s .fits .highest)) at (made .collected .ensures) in
     let fine = c .before .before .before .before .if1 .left in
     rw (← held, eq-eqb _ _ fine) (sym fine, c .before .before .put-nth .ensures)
 

@@ -6,15 +6,15 @@ use borrow.Author.Needs.{needs}
 use Rattle.shown.proofs.collected.Statement.{statement}
 use Rattle.shown.proofs.collected.Tie as tie
 
-check-lent-requires : tie.Need-check-lent-requires
-check-lent-requires c κs = search needs
+check-direct-requires : tie.Need-check-direct-requires
+check-direct-requires c κs = search needs
 
 refused-requires : tie.Need-refused-requires
 refused-requires c κs = search needs
 
 returns : tie.Need-returns
 unfolding collectedAt choose
-returns c = rw (← c .before .before .check-lent .ensures, ne-eqb _ _ (c .before .if1 .taken), ← c .refused .ensures)
+returns c = rw (← c .before .before .check-direct .ensures, ne-eqb _ _ (c .before .if1 .taken), ← c .refused .ensures)
 
 mover-refusal-requires : tie.Need-mover-refusal-requires
 mover-refusal-requires c κs = search needs
@@ -27,8 +27,8 @@ unfolding collectedAt choose
 returns-2 c =
     let at-mover-refusal = c .before .before in
     let at-if1 = at-mover-refusal .before in
-    let at-check-lent = at-if1 .before in
-    rw (← at-check-lent .check-lent .ensures, eq-eqb _ _ (at-if1 .if1 .left), ← at-mover-refusal .mover-refusal .ensures, ne-eqb _ _ (c .before .if2 .taken), ← c .refused2 .ensures)
+    let at-check-direct = at-if1 .before in
+    rw (← at-check-direct .check-direct .ensures, eq-eqb _ _ (at-if1 .if1 .left), ← at-mover-refusal .mover-refusal .ensures, ne-eqb _ _ (c .before .if2 .taken), ← c .refused2 .ensures)
 
 refused-requires-3 : tie.Need-refused-requires-3
 refused-requires-3 c κs = search needs
@@ -39,8 +39,8 @@ returns-3 c =
     let at-if2 = c .before .before in
     let at-mover-refusal = at-if2 .before in
     let at-if1 = at-mover-refusal .before in
-    let at-check-lent = at-if1 .before in
-    rw (← at-check-lent .check-lent .ensures, eq-eqb _ _ (at-if1 .if1 .left), ← at-mover-refusal .mover-refusal .ensures, eq-eqb _ _ (at-if2 .if2 .left), lt-ltb _ _ (c .before .if3 .taken), ← c .refused3 .ensures)
+    let at-check-direct = at-if1 .before in
+    rw (← at-check-direct .check-direct .ensures, eq-eqb _ _ (at-if1 .if1 .left), ← at-mover-refusal .mover-refusal .ensures, eq-eqb _ _ (at-if2 .if2 .left), lt-ltb _ _ (c .before .if3 .taken), ← c .refused3 .ensures)
 
 swept-by-requires : tie.Need-swept-by-requires
 swept-by-requires c κs = search needs
@@ -55,14 +55,14 @@ returns-4 c =
     let at-if2 = at-if3 .before in
     let at-mover-refusal = at-if2 .before in
     let at-if1 = at-mover-refusal .before in
-    let at-check-lent = at-if1 .before in
-    rw (← at-check-lent .check-lent .ensures, eq-eqb _ _ (at-if1 .if1 .left), ← at-mover-refusal .mover-refusal .ensures, eq-eqb _ _ (at-if2 .if2 .left), le-ltb _ _ (at-if3 .if3 .left), ← c .before .swept-by .ensures, ← c .collect .ensures)
+    let at-check-direct = at-if1 .before in
+    rw (← at-check-direct .check-direct .ensures, eq-eqb _ _ (at-if1 .if1 .left), ← at-mover-refusal .mover-refusal .ensures, eq-eqb _ _ (at-if2 .if2 .left), le-ltb _ _ (at-if3 .if3 .left), ← c .before .swept-by .ensures, ← c .collect .ensures)
 
 pub collected-spec : {M : Type 1} → statement M
 collected-spec =
     tie.close
     (tie.spec
-    check-lent-requires
+    check-direct-requires
     refused-requires
     returns
     mover-refusal-requires

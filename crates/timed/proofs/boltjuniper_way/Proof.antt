@@ -24,13 +24,13 @@ along-requires c κs = search needs
 returns : tie.Need-returns
 returns c =
     let s = c .before .before .before .before .before .before .before in
-    let told = rw (c .before .before .before .window-of .ensures, toZ-ofZ w32 (s .args .ox) (s .fits .ox), toZ-ofZ w32 (s .args .oy) (s .fits .oy), toZ-ofZ w32 (s .args .oz) (s .fits .oz)) at (c .before .before .move-through .ensures) in
+    let told = rw (c .before .before .before .window-of .ensures, toZ-ofZ w32 (s .args .ox) (s .fits .ox), toZ-ofZ w32 (s .args .oy) (s .fits .oy), toZ-ofZ w32 (s .args .oz) (s .fits .oz), toZ-ofZ w32 (s .args .lowest) (s .fits .lowest), toZ-ofZ w32 (s .args .highest) (s .fits .highest)) at (c .before .before .move-through .ensures) in
     rw (← told, c .enum-told .given .1)
 
 returns-2 : tie.Need-returns-2
 returns-2 c =
     let s = c .before .before .before .before .before .before .before .before .before .before in
-    let told = rw (c .before .before .before .before .before .before .window-of .ensures, toZ-ofZ w32 (s .args .ox) (s .fits .ox), toZ-ofZ w32 (s .args .oy) (s .fits .oy), toZ-ofZ w32 (s .args .oz) (s .fits .oz)) at (c .before .before .before .before .before .move-through .ensures) in
+    let told = rw (c .before .before .before .before .before .before .window-of .ensures, toZ-ofZ w32 (s .args .ox) (s .fits .ox), toZ-ofZ w32 (s .args .oy) (s .fits .oy), toZ-ofZ w32 (s .args .oz) (s .fits .oz), toZ-ofZ w32 (s .args .lowest) (s .fits .lowest), toZ-ofZ w32 (s .args .highest) (s .fits .highest)) at (c .before .before .before .before .before .move-through .ensures) in
     c .along .ensures ∙ (rw (← told, c .before .before .before .told .given .1))
 
 pub boltjuniper-way-spec : {M : Type 1} → statement M

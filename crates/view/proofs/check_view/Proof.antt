@@ -94,7 +94,7 @@ module _ {M : Type 1} (𝓤 : URA M) (H : Heap 𝓤) (A : Atoms 𝓤) (W : Given
   rest-at = tt
 
   abbrev told : ℕ
-  told = windowRefusal (length (now (v .cells))) (v .window)
+  told = windowRefusal (now (v .cells)) (v .window)
 
   abbrev Post : Val → SProp 𝓤
   Post = walkOf 𝓤 H A here.ended stayed (here.clauses 𝓤 H A mem run) .post ((κs, qs, tt, given, at), tt)

@@ -1,7 +1,7 @@
 -- `window::check_window` meets its contract. Assumes nothing.
 use mathlib.Core.Path.{sym, _∙_}
 use native.Mathlib.Omega.{arith}
-use Rattle.window.proofs.Check.{sizes-small, layer-count, cell-count}
+use Rattle.window.proofs.Check.{AllSmall, sizes-small, layer-count, cell-count, column-count}
 use Rattle.window.specs.Window.{windowRefusal, windowFits}
 use Rattle.base.specs.Choose.{choose}
 use borrow.Author.Tests.{eq-eqb, ne-eqb}
@@ -15,43 +15,49 @@ sizes-fit-requires c κs = search needs
 origin-fits-requires : tie.Need-origin-fits-requires
 origin-fits-requires c κs = search needs
 
-mul-product : tie.Need-mul-product
-mul-product c = let s = c .before .before .before .before .before .before .args .w .sizes in omega (arith, layer-count s (sizes-small s (sym (c .before .before .before .before .sizes-fit .ensures) ∙ c .before .before .before .if1 .taken)))
+heights-fit-requires : tie.Need-heights-fit-requires
+heights-fit-requires c κs = search needs
 
-mul-product-2 : tie.Need-mul-product-2
-mul-product-2 c = let s = c .before .before .before .before .before .before .before .args .w .sizes in omega (arith, cell-count s (sizes-small s (sym (c .before .before .before .before .before .sizes-fit .ensures) ∙ c .before .before .before .before .if1 .taken)))
+small : (c : tie.Then1) → AllSmall (c .before .before .before .args .w .sizes)
+small c = sizes-small (c .before .before .before .args .w .sizes) (sym (c .before .sizes-fit .ensures) ∙ c .if1 .taken)
 
-cast-if3 : tie.Need-cast-if3
-cast-if3 c = let s = c .before .before .before .before .before .before .before .args .w .sizes in omega (arith, cell-count s (sizes-small s (sym (c .before .before .before .before .before .sizes-fit .ensures) ∙ c .before .before .before .before .if1 .taken)))
+mul-count : tie.Need-mul-count
+mul-count c = omega (arith, layer-count _ (small (c .before .before .before .before)))
+
+mul-count-2 : tie.Need-mul-count-2
+mul-count-2 c = omega (arith, cell-count _ (small (c .before .before .before .before .before)))
+
+mul-columns : tie.Need-mul-columns
+mul-columns c = omega (arith, column-count _ (small (c .before .before .before .before .before .before)))
+
+add-wide : tie.Need-add-wide
+add-wide c = let k = small (c .before .before .before .before .before .before) in omega (arith, cell-count _ k, column-count _ k)
+
+wide-requires : tie.Need-wide-requires
+wide-requires c κs = search needs
+
+columns-fit-requires : tie.Need-columns-fit-requires
+columns-fit-requires c κs = search needs
 
 returns : tie.Need-returns
 unfolding windowRefusal windowFits choose
-returns c =
-    let at-if2 = c .before .before .before in
-    let at-origin-fits = at-if2 .before in
-    let at-if1 = at-origin-fits .before in
-    let at-sizes-fit = at-if1 .before in
-    rw (← at-sizes-fit .sizes-fit .ensures, at-if1 .if1 .taken, ← at-origin-fits .origin-fits .ensures, at-if2 .if2 .taken, eq-eqb _ _ (c .if3 .taken))
+returns c = rw (← c .before .before .before .before .before .before .before .before .before .before .before .sizes-fit .ensures, c .before .before .before .before .before .before .before .before .before .before .if1 .taken, ← c .before .before .before .before .before .before .before .before .before .origin-fits .ensures, ← c .before .before .before .before .before .before .before .before .heights-fit .ensures, c .before .before .before .before .before .before .before .if2 .taken, ← c .before .before .before .wide .ensures, eq-eqb _ _ (c .before .before .if3 .taken), ← c .before .columns-fit .ensures, c .if4 .taken)
 
 returns-2 : tie.Need-returns-2
 unfolding windowRefusal windowFits choose
-returns-2 c =
-    let at-if2 = c .before .before .before in
-    let at-origin-fits = at-if2 .before in
-    let at-if1 = at-origin-fits .before in
-    let at-sizes-fit = at-if1 .before in
-    rw (← at-sizes-fit .sizes-fit .ensures, at-if1 .if1 .taken, ← at-origin-fits .origin-fits .ensures, at-if2 .if2 .taken, ne-eqb _ _ (c .if3 .left))
+returns-2 c = rw (← c .before .before .before .before .before .before .before .before .before .before .before .sizes-fit .ensures, c .before .before .before .before .before .before .before .before .before .before .if1 .taken, ← c .before .before .before .before .before .before .before .before .before .origin-fits .ensures, ← c .before .before .before .before .before .before .before .before .heights-fit .ensures, c .before .before .before .before .before .before .before .if2 .taken, ← c .before .before .before .wide .ensures, eq-eqb _ _ (c .before .before .if3 .taken), ← c .before .columns-fit .ensures, c .if4 .left)
 
 returns-3 : tie.Need-returns-3
 unfolding windowRefusal windowFits choose
-returns-3 c =
-    let at-if1 = c .before .before in
-    let at-sizes-fit = at-if1 .before in
-    rw (← at-sizes-fit .sizes-fit .ensures, at-if1 .if1 .taken, ← c .before .origin-fits .ensures, c .if2 .left)
+returns-3 c = rw (← c .before .before .before .before .before .before .before .before .before .sizes-fit .ensures, c .before .before .before .before .before .before .before .before .if1 .taken, ← c .before .before .before .before .before .before .before .origin-fits .ensures, ← c .before .before .before .before .before .before .heights-fit .ensures, c .before .before .before .before .before .if2 .taken, ← c .before .wide .ensures, ne-eqb _ _ (c .if3 .left))
 
 returns-4 : tie.Need-returns-4
 unfolding windowRefusal windowFits choose
-returns-4 c = rw (← c .before .sizes-fit .ensures, c .if1 .left)
+returns-4 c = rw (← c .before .before .before .before .sizes-fit .ensures, c .before .before .before .if1 .taken, ← c .before .before .origin-fits .ensures, ← c .before .heights-fit .ensures, c .if2 .left)
+
+returns-5 : tie.Need-returns-5
+unfolding windowRefusal windowFits choose
+returns-5 c = rw (← c .before .sizes-fit .ensures, c .if1 .left)
 
 pub check-window-spec : {M : Type 1} → statement M
 check-window-spec =
@@ -59,10 +65,15 @@ check-window-spec =
     (tie.spec
     sizes-fit-requires
     origin-fits-requires
-    mul-product
-    mul-product-2
-    cast-if3
+    heights-fit-requires
+    mul-count
+    mul-count-2
+    mul-columns
+    add-wide
+    wide-requires
+    columns-fit-requires
     returns
     returns-2
     returns-3
-    returns-4)
+    returns-4
+    returns-5)

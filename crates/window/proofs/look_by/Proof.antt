@@ -1,6 +1,7 @@
 -- `window::look_by` meets its contract: what a signed field holds is itself, and the offsets come to the look-up. Assumes nothing.
 use mir.Syntax.{w8, w32}
 use mir.ValLaws.{toZ-ofZ}
+use Rattle.window.specs.Window.{isVoid}
 use Rattle.window.proofs.Offsets.{looked}
 use borrow.Author.Needs.{needs}
 use Rattle.window.proofs.look_by.Statement.{statement}
@@ -15,21 +16,31 @@ offset-requires-2 c κs = search needs
 offset-requires-3 : tie.Need-offset-requires-3
 offset-requires-3 c κs = search needs
 
-cell-in-requires : tie.Need-cell-in-requires
-cell-in-requires c κs = search needs
+is-void-requires : tie.Need-is-void-requires
+is-void-requires c κs = search needs
+
+look-in-requires : tie.Need-look-in-requires
+look-in-requires c κs = search needs
 
 returns : tie.Need-returns
+unfolding isVoid
 returns c =
-    let a = c .before .before .before .before .before .before .before .before .before .before .before .before .before .before .args in
-    let g = c .before .before .before .before .before .before .before .before .before .before .before .before .struct-told .given in
-    let h = c .before .before .before .before .before .before .before .before .before .before .before .struct-told2 .given in
-    let o = c .before .before .before .before .before .before .before .before .before .before .struct-told3 .given .0 .1 .1 in
-    let s = c .before .before .before .before .before .before .before .before .before .before .struct-told3 .given .1 .0 .1 .1 in
+    let z = c .before .before .before .before .before .before in
+    let y = z .before .before .before .before in
+    let x = y .before .before .before .before in
+    let told = x .before in
+    let a = told .before .before .before .before .args in
+    let g = told .before .before .struct-told .given in
+    let h = told .before .struct-told2 .given in
+    let w = told .struct-told3 .given in
+    let o = w .0 .1 .1 in
+    let s = w .1 .0 .1 .1 in
     rw (
-      c .cell-in .ensures,
-      c .before .before .before .before .before .before .before .before .before .offset .ensures,
-      c .before .before .before .before .before .offset2 .ensures,
-      c .before .offset3 .ensures,
+      c .look-in .ensures,
+      x .offset .ensures,
+      y .offset2 .ensures,
+      z .offset3 .ensures,
+      c .before .is-void .ensures,
       toZ-ofZ w32 (a .p .x) record { sfits = g .0 .1 },
       toZ-ofZ w32 (a .p .y) record { sfits = g .1 .0 .1 },
       toZ-ofZ w32 (a .p .z) record { sfits = g .1 .1 .0 .1 },
@@ -39,10 +50,18 @@ returns c =
       toZ-ofZ w32 (a .w .origin .x) record { sfits = o .0 .1 },
       toZ-ofZ w32 (a .w .origin .y) record { sfits = o .1 .0 .1 },
       toZ-ofZ w32 (a .w .origin .z) record { sfits = o .1 .1 .0 .1 },
+      toZ-ofZ w32 (a .w .lowest) record { sfits = w .1 .1 .0 .1 },
+      toZ-ofZ w32 (a .w .highest) record { sfits = w .1 .1 .1 .0 .1 },
     )
     (looked _ (a .w) _ record { x = s .0 .1; y = s .1 .0 .1; z = s .1 .1 .0 .1 })
 
 pub look-by-spec : {M : Type 1} → statement M
 look-by-spec =
     tie.close
-    (tie.spec offset-requires offset-requires-2 offset-requires-3 cell-in-requires returns)
+    (tie.spec
+    offset-requires
+    offset-requires-2
+    offset-requires-3
+    is-void-requires
+    look-in-requires
+    returns)

@@ -19,7 +19,7 @@ returns c =
     let at-current-into = c .before .before in
     let at-window-of = at-current-into .before .before in
     let start = at-window-of .before .before .before .before in
-    rw (at-window-of .window-of .ensures, toZ-ofZ w32 (start .args .ox) (start .fits .ox), toZ-ofZ w32 (start .args .oy) (start .fits .oy), toZ-ofZ w32 (start .args .oz) (start .fits .oz)) at (at-current-into .current-into .ensures)
+    rw (at-window-of .window-of .ensures, toZ-ofZ w32 (start .args .ox) (start .fits .ox), toZ-ofZ w32 (start .args .oy) (start .fits .oy), toZ-ofZ w32 (start .args .oz) (start .fits .oz), toZ-ofZ w32 (start .args .lowest) (start .fits .lowest), toZ-ofZ w32 (start .args .highest) (start .fits .highest)) at (at-current-into .current-into .ensures)
 
 pub boltjuniper-item-current-spec : {M : Type 1} → statement M
 boltjuniper-item-current-spec =

@@ -35,10 +35,10 @@ returns c =
     let s = c .before .before .before .before .before .before .before .before .before .before .before .before .before .before .before in
     let a = s .args in
     let whole = sym (c .before .before .before .before .before .before .before .before .whole-move .ensures) ∙ c .before .before .before .before .before .before .before .if1 .taken in
-    rw (c .before .before .before .before .move-window .ensures, c .before .before .before .before .before .before .before .before .before .window-of .ensures, c .before .before .before .before .before .before .first-box .ensures, c .before .before .before .before .before .vec-from .ensures, toZ-ofZ w32 (s .args .ox) (s .fits .ox), toZ-ofZ w32 (s .args .oy) (s .fits .oy), toZ-ofZ w32 (s .args .oz) (s .fits .oz), move-whole (a .records .now) (a .shapes .now) (a .cells .now) (windowOf (a .ox) (a .oy) (a .oz) (a .sx) (a .sy) (a .sz)) (a .mover .now) (a .step) (a .ground) (length (a .out .now)) whole) at (c .before .before .move-into .ensures)
+    rw (c .before .before .before .before .move-window .ensures, c .before .before .before .before .before .before .before .before .before .window-of .ensures, c .before .before .before .before .before .before .first-box .ensures, c .before .before .before .before .before .vec-from .ensures, toZ-ofZ w32 (s .args .ox) (s .fits .ox), toZ-ofZ w32 (s .args .oy) (s .fits .oy), toZ-ofZ w32 (s .args .oz) (s .fits .oz), toZ-ofZ w32 (s .args .lowest) (s .fits .lowest), toZ-ofZ w32 (s .args .highest) (s .fits .highest), move-whole (a .records .now) (a .shapes .now) (a .cells .now) (windowOf (a .ox) (a .oy) (a .oz) (a .sx) (a .sy) (a .sz) (a .lowest) (a .highest) (a .air)) (a .mover .now) (a .step) (a .ground) (length (a .out .now)) whole) at (c .before .before .move-into .ensures)
 
-check-lent-requires : tie.Need-check-lent-requires
-check-lent-requires c κs = search needs
+check-direct-requires : tie.Need-check-direct-requires
+check-direct-requires c κs = search needs
 
 mover-refusal-requires : tie.Need-mover-refusal-requires
 mover-refusal-requires c κs = search needs
@@ -50,8 +50,8 @@ returns-2 : tie.Need-returns-2
 returns-2 c =
     let s = c .before .before .before .before .before .before .before .before .before .before .before in
     let a = s .args in
-    let first = rw (c .before .before .before .before .before .window-of .ensures, toZ-ofZ w32 (s .args .ox) (s .fits .ox), toZ-ofZ w32 (s .args .oy) (s .fits .oy), toZ-ofZ w32 (s .args .oz) (s .fits .oz)) at (c .before .before .check-lent .ensures) in
-    short-move (a .records .now) (a .shapes .now) (a .cells .now) (windowOf (a .ox) (a .oy) (a .oz) (a .sx) (a .sy) (a .sz)) (a .mover .now) (a .step) (a .ground) (a .out .now) _ (sym (c .before .before .before .before .whole-move .ensures) ∙ c .before .before .before .if1 .left) (rw (c .before .mover-refusal .ensures, first) at (c .short-of .ensures))
+    let first = rw (c .before .before .before .before .before .window-of .ensures, toZ-ofZ w32 (s .args .ox) (s .fits .ox), toZ-ofZ w32 (s .args .oy) (s .fits .oy), toZ-ofZ w32 (s .args .oz) (s .fits .oz), toZ-ofZ w32 (s .args .lowest) (s .fits .lowest), toZ-ofZ w32 (s .args .highest) (s .fits .highest)) at (c .before .before .check-direct .ensures) in
+    short-move (a .records .now) (a .shapes .now) (a .cells .now) (windowOf (a .ox) (a .oy) (a .oz) (a .sx) (a .sy) (a .sz) (a .lowest) (a .highest) (a .air)) (a .mover .now) (a .step) (a .ground) (a .out .now) _ (sym (c .before .before .before .before .whole-move .ensures) ∙ c .before .before .before .if1 .left) (rw (c .before .mover-refusal .ensures, first) at (c .short-of .ensures))
 
 pub boltjuniper-move-spec : {M : Type 1} → statement M
 boltjuniper-move-spec =
@@ -65,7 +65,7 @@ boltjuniper-move-spec =
     move-into-requires
     same-length
     returns
-    check-lent-requires
+    check-direct-requires
     mover-refusal-requires
     short-of-requires
     returns-2)

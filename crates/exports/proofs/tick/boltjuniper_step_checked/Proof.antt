@@ -38,7 +38,7 @@ returns c =
     let s = c .before .before .before .before .before .before .before .before .before .before .before .before .before .before .before .before .before in
     let a = s .args in
     let whole = sym (c .before .before .before .before .before .before .before .before .before .whole-body .ensures) ∙ c .before .before .before .before .before .before .before .before .if1 .taken in
-    rw (c .before .before .before .before .checked-window .ensures, c .before .before .before .before .before .before .before .before .before .before .window-of .ensures, c .before .before .before .before .before .before .before .rules-from .ensures, c .before .before .before .before .before .before .body-from .ensures, c .before .before .before .before .before .motion-from .ensures, toZ-ofZ w32 (s .args .ox) (s .fits .ox), toZ-ofZ w32 (s .args .oy) (s .fits .oy), toZ-ofZ w32 (s .args .oz) (s .fits .oz), checked-whole (a .records .now) (a .shapes .now) (a .cells .now) (windowOf (a .ox) (a .oy) (a .oz) (a .sx) (a .sy) (a .sz)) (a .numbers .now) (a .words .now) (a .age) (length (a .out .now)) whole) at (c .before .before .answer-into .ensures)
+    rw (c .before .before .before .before .checked-window .ensures, c .before .before .before .before .before .before .before .before .before .before .window-of .ensures, c .before .before .before .before .before .before .before .rules-from .ensures, c .before .before .before .before .before .before .body-from .ensures, c .before .before .before .before .before .motion-from .ensures, toZ-ofZ w32 (s .args .ox) (s .fits .ox), toZ-ofZ w32 (s .args .oy) (s .fits .oy), toZ-ofZ w32 (s .args .oz) (s .fits .oz), toZ-ofZ w32 (s .args .lowest) (s .fits .lowest), toZ-ofZ w32 (s .args .highest) (s .fits .highest), checked-whole (a .records .now) (a .shapes .now) (a .cells .now) (windowOf (a .ox) (a .oy) (a .oz) (a .sx) (a .sy) (a .sz) (a .lowest) (a .highest) 0) (a .numbers .now) (a .words .now) (a .age) (length (a .out .now)) whole) at (c .before .before .answer-into .ensures)
 
 body-refusal-requires : tie.Need-body-refusal-requires
 body-refusal-requires c κs = search needs
@@ -50,7 +50,7 @@ returns-2 : tie.Need-returns-2
 returns-2 c =
     let s = c .before .before .before .before .before .before .before .before .before .before .before in
     let a = s .args in
-    short-body (a .records .now) (a .shapes .now) (a .cells .now) (windowOf (a .ox) (a .oy) (a .oz) (a .sx) (a .sy) (a .sz)) (a .numbers .now) (a .words .now) (a .age) 0 (a .out .now) _ (sym (c .before .before .before .whole-body .ensures) ∙ c .before .before .if1 .left) (rw (c .before .body-refusal .ensures) at (c .short-of .ensures))
+    short-body (a .records .now) (a .shapes .now) (a .cells .now) (windowOf (a .ox) (a .oy) (a .oz) (a .sx) (a .sy) (a .sz) (a .lowest) (a .highest) 0) (a .numbers .now) (a .words .now) (a .age) 0 (a .out .now) _ (sym (c .before .before .before .whole-body .ensures) ∙ c .before .before .if1 .left) (rw (c .before .body-refusal .ensures) at (c .short-of .ensures))
 
 pub boltjuniper-step-checked-spec : {M : Type 1} → statement M
 boltjuniper-step-checked-spec =
