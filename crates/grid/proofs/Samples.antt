@@ -12,7 +12,7 @@ use Rattle.base.specs.Loop as O
 use Rattle.base.specs.Ask as A
 use Rattle.base.specs.Every as Y
 use Rattle.floats.specs.Numbers as N
-use Rattle.floats.specs.Whole as H
+use Rattle.wholes.specs.Whole as H
 use Rattle.sweeps.specs.declared.MoveAnswer.{MoveAnswer}
 use Rattle.sweeps.specs.Move as M
 use Rattle.boxes.specs.Limits as L

@@ -11,8 +11,8 @@ use mir.Syntax.{w32, w64}
 use mir.Val.{SFits, Fits, toZ, ofZ}
 use mir.ValLaws.{toZ-ofZ}
 use borrow.Author.Tests.{eq-eqb, ne-eqb, eqb-true, eqb-false, ltb-true}
-use Rattle.floats.specs.Whole.{cellOf}
-use Rattle.floats.proofs.Cells.{cell-reach}
+use Rattle.wholes.specs.Whole.{cellOf}
+use Rattle.wholes.proofs.Cells.{cell-reach}
 use Rattle.window.proofs.Signs.{mag-add, mag-neg, widens32, wide, wide-is}
 use Rattle.ranges.specs.Ranges.{orZero}
 use Rattle.liquids.specs.Current.{sameNumber}

@@ -8,7 +8,7 @@ use lib.Ieee.{Float, fin, neg, le}
 use Rattle.base.specs.Choose.{choose}
 use Rattle.base.specs.Ask.{Ask, refused}
 use Rattle.floats.specs.Numbers.{sizeOf}
-use Rattle.floats.specs.Whole.{floorSize, floorInt, cellOf}
+use Rattle.wholes.specs.Whole.{floorSize, floorInt, cellOf}
 use Rattle.boxes.specs.declared.Vec3.{Vec3}
 use Rattle.boxes.specs.declared.Aabb.{Aabb}
 use Rattle.boxes.specs.Boxes.{vec, box}

@@ -7,7 +7,7 @@ use lib.IntN.{ℤ, pos, negsuc, _-ℤ_}
 use lib.Ieee.{Float, binary64, ofBits, neg}
 use Rattle.base.specs.Choose.{choose}
 use Rattle.base.specs.Ask.{Ask, found, _>>=_, Turn, next, resume}
-use Rattle.floats.specs.Whole.{cellOf, ceilingOf}
+use Rattle.wholes.specs.Whole.{cellOf, ceilingOf}
 use Rattle.boxes.specs.declared.Vec3.{Vec3}
 use Rattle.boxes.specs.declared.Aabb.{Aabb}
 use Rattle.boxes.specs.Boxes.{plus}

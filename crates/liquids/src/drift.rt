@@ -41,8 +41,8 @@ fn is_beyond(aabb: Aabb) -> bool
 fn cells_up_to(lo: f64, hi: f64) -> Axis
     ensures { λ r. ⌜ r ≡ cellsUpTo lo hi ⌝ }
 {
-    let first = floats::cell(lo);
-    let turned = floats::cell(-hi);
+    let first = wholes::cell(lo);
+    let turned = wholes::cell(-hi);
     let n = 0 - (turned as i64) - (first as i64);
     if n < 0 {
         return Axis { first, count: 0 };
