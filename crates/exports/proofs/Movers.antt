@@ -13,8 +13,8 @@ use Rattle.sweeps.specs.declared.MoveResult.{MoveResult}
 use Rattle.boxes.specs.Limits.{isBox, isDelta, isStep}
 use Rattle.table_check.specs.Check.{tablesFit}
 use Rattle.lent.specs.Lent.{lentRefusal, directRefusal, direct, unless}
-use Rattle.lent_boxes.specs.Boxes.{vecAt, aabbAt, writtenBy}
-use Rattle.lent_boxes.specs.Moves.{moverRefusal}
+use Rattle.movers.specs.Movers.{vecAt, aabbAt, moverRefusal}
+use Rattle.lent_numbers.specs.Written.{writtenBy}
 use Rattle.window.specs.declared.Window.{Window}
 use Rattle.window.specs.Window.{windowFits, windowRefusal}
 use Rattle.window.specs.Look.{lookAt}

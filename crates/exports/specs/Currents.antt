@@ -12,7 +12,7 @@ use Rattle.liquids.specs.declared.Current.{Current}
 use Rattle.flow.specs.Liquid.{liquidHeld}
 use Rattle.liquids.specs.Current.{itemCurrent}
 use Rattle.ranges.specs.Cells.{cellHolding}
-use Rattle.lent_boxes.specs.Boxes.{flagOf}
+use Rattle.lent_numbers.specs.Written.{flagOf}
 
 -- what the flows do to an item at these feet, of this width and height: the cell of its feet is asked for first, as the step does
 unfoldable pub currentAt : (Pos → Ask Block) → List ℕ → Vec3 → Float → Float → Ask Current

@@ -8,8 +8,7 @@ use lib.ListN.{length}
 use lib.Ieee.{Float}
 use Rattle.sweeps.specs.declared.MoveAnswer.{MoveAnswer}
 use Rattle.lent.specs.Lent.{directRefusal}
-use Rattle.lent_boxes.specs.Boxes.{vecAt, aabbAt}
-use Rattle.lent_boxes.specs.Moves.{moverRefusal}
+use Rattle.movers.specs.Movers.{vecAt, aabbAt, moverRefusal}
 use Rattle.window.specs.declared.Window.{Window}
 use Rattle.window.specs.Look.{lookAt}
 use Rattle.moves.specs.Answers.{moveAabb, moveAnswer}

@@ -1,9 +1,9 @@
 // Currents, in lent numbers.
 use boxes::Aabb;
 use boxes::Vec3;
-use lent_boxes::flag_of;
-use lent_boxes::put;
-use lent_boxes::put_vec;
+use lent_numbers::flag_of;
+use lent_numbers::put;
+use lent_numbers::put_vec;
 use liquids::Current;
 use liquids::AskedCurrent;
 use flow::AskedLiquid;

@@ -3,7 +3,7 @@ use crate::room::short_of;
 ghost use mathlib.Core.Path.{_≡_};
 ghost use lib.ListN.{length};
 ghost use Rattle.window.specs.Numbers.{windowOf};
-ghost use Rattle.lent_boxes.specs.Boxes.{writtenBy};
+ghost use Rattle.lent_numbers.specs.Written.{writtenBy};
 ghost use Rattle.exports.specs.Windows.{moveAt, wholeMove};
 
 fn whole_move(mover: &[f64], ground: u32, places: usize) -> bool
@@ -39,12 +39,12 @@ pub extern "C" fn boltjuniper_move(
 {
     let w = window::window_of(ox, oy, oz, sx, sy, sz, lowest, highest, air);
     if whole_move(mover, ground, out.len()) {
-        let aabb = lent_boxes::first_box(mover);
+        let aabb = movers::first_box(mover);
         let delta = bodies::vec_from(mover, 6);
         let a = view::move_window(records, shapes, cells, w, aabb, delta, step, ground == 1);
-        return lent_boxes::move_into(out, a);
+        return lent_numbers::move_into(out, a);
     }
     let first = lent::check_direct(records, shapes, cells, w);
-    let early = lent_boxes::mover_refusal(mover, step, ground, true);
+    let early = movers::mover_refusal(mover, step, ground, true);
     short_of(first, early)
 }

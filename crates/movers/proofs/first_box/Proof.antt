@@ -1,7 +1,7 @@
--- `lent_boxes::first_box` meets its contract. Assumes nothing.
+-- `movers::first_box` meets its contract. Assumes nothing.
 use borrow.Author.Needs.{needs}
-use Rattle.lent_boxes.proofs.first_box.Statement.{statement}
-use Rattle.lent_boxes.proofs.first_box.Tie as tie
+use Rattle.movers.proofs.first_box.Statement.{statement}
+use Rattle.movers.proofs.first_box.Tie as tie
 
 vec-from-requires : tie.Need-vec-from-requires
 vec-from-requires c κs = search needs

@@ -1,8 +1,8 @@
--- `lent_boxes::moved::mover_fits` meets its contract. Assumes nothing.
+-- `movers::mover_fits` meets its contract. Assumes nothing.
 use borrow.Author.Tests.{eq-eqb, ne-eqb}
 use borrow.Author.Needs.{needs}
-use Rattle.lent_boxes.proofs.moved.mover_fits.Statement.{statement}
-use Rattle.lent_boxes.proofs.moved.mover_fits.Tie as tie
+use Rattle.movers.proofs.mover_fits.Statement.{statement}
+use Rattle.movers.proofs.mover_fits.Tie as tie
 
 first-box-requires : tie.Need-first-box-requires
 first-box-requires c κs = search needs

@@ -1,10 +1,10 @@
--- `lent_boxes::written::flag_of` meets its contract. Assumes nothing.
+-- `lent_numbers::flag_of` meets its contract. Assumes nothing.
 use lib.Ieee.{ofBits}
 use borrow.Author.Needs.{needs}
 use Rattle.base.specs.Choose.{choose}
 use Rattle.base.proofs.Cases.{cases}
-use Rattle.lent_boxes.proofs.written.flag_of.Statement.{statement}
-use Rattle.lent_boxes.proofs.written.flag_of.Tie as tie
+use Rattle.lent_numbers.proofs.flag_of.Statement.{statement}
+use Rattle.lent_numbers.proofs.flag_of.Tie as tie
 
 returns : tie.Need-returns
 unfolding ofBits choose

@@ -1,10 +1,10 @@
--- `lent_boxes::moved::mover_refusal` meets its contract. Assumes nothing.
+-- `movers::mover_refusal` meets its contract. Assumes nothing.
 use borrow.Author.Tests.{lt-ltb, le-ltb}
 use Rattle.base.specs.Choose.{choose}
-use Rattle.lent_boxes.specs.Moves.{moverRefusal}
+use Rattle.movers.specs.Movers.{moverRefusal}
 use borrow.Author.Needs.{needs}
-use Rattle.lent_boxes.proofs.moved.mover_refusal.Statement.{statement}
-use Rattle.lent_boxes.proofs.moved.mover_refusal.Tie as tie
+use Rattle.movers.proofs.mover_refusal.Statement.{statement}
+use Rattle.movers.proofs.mover_refusal.Tie as tie
 
 is-step-requires : tie.Need-is-step-requires
 is-step-requires c κs = search needs

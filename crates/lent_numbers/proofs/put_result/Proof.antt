@@ -1,9 +1,9 @@
--- `lent_boxes::written::put_result` meets its contract. Assumes nothing.
+-- `lent_numbers::put_result` meets its contract. Assumes nothing.
 use Rattle.base.specs.Loop.{stored}
-use Rattle.lent_boxes.specs.Boxes.{numbersOf}
+use Rattle.lent_numbers.specs.Written.{numbersOf}
 use borrow.Author.Needs.{needs}
-use Rattle.lent_boxes.proofs.written.put_result.Statement.{statement}
-use Rattle.lent_boxes.proofs.written.put_result.Tie as tie
+use Rattle.lent_numbers.proofs.put_result.Statement.{statement}
+use Rattle.lent_numbers.proofs.put_result.Tie as tie
 
 put-vec-requires : tie.Need-put-vec-requires
 put-vec-requires c κs = search needs

@@ -1,4 +1,4 @@
-// What a move comes to, written into lent numbers. A number whose place is not there is dropped.
+// Numbers written into lent places, and what a move comes to among them. A number whose place is not there is dropped.
 use sweeps::MoveAnswer;
 use sweeps::MoveResult;
 use boxes::Vec3;
@@ -6,7 +6,7 @@ ghost use mathlib.Core.Path.{_≡_};
 ghost use mathlib.Core.List.{[], _∷_};
 ghost use lib.ListN.{set};
 ghost use Rattle.base.specs.Loop.{stored};
-ghost use Rattle.lent_boxes.specs.Boxes.{flagOf, numbersOf, writtenBy};
+ghost use Rattle.lent_numbers.specs.Written.{flagOf, numbersOf, writtenBy};
 
 pub fn put(out: &mut [f64], i: usize, x: f64)
     ensures { λ _. ⌜ now (out .exit) ≡ set (now (out .entry)) i x ⌝ }
@@ -32,7 +32,7 @@ pub fn put_vec(out: &mut [f64], i: u8, v: Vec3)
 }
 
 // Ten numbers, as `numbersOf` has them.
-pub(crate) fn put_result(out: &mut [f64], m: MoveResult)
+pub fn put_result(out: &mut [f64], m: MoveResult)
     ensures { λ _. ⌜ now (out .exit) ≡ stored (now (out .entry)) 0 (numbersOf m) ⌝ }
 {
     put_vec(out, 0, m.aabb.min);

@@ -1,11 +1,11 @@
--- `lent_boxes::written::move_into` meets its contract. Assumes nothing.
+-- `lent_numbers::move_into` meets its contract. Assumes nothing.
 use mathlib.Core.Path.{refl, sym}
 use borrow.Author.Tests.{eq-eqb, ne-eqb}
 use Rattle.base.specs.Choose.{choose}
-use Rattle.lent_boxes.specs.Boxes.{writtenBy}
+use Rattle.lent_numbers.specs.Written.{writtenBy}
 use borrow.Author.Needs.{needs}
-use Rattle.lent_boxes.proofs.written.move_into.Statement.{statement}
-use Rattle.lent_boxes.proofs.written.move_into.Tie as tie
+use Rattle.lent_numbers.proofs.move_into.Statement.{statement}
+use Rattle.lent_numbers.proofs.move_into.Tie as tie
 
 returns : tie.Need-returns
 unfolding writtenBy choose

@@ -1,9 +1,9 @@
--- `lent_boxes::written::put` meets its contract. Assumes nothing.
+-- `lent_numbers::put` meets its contract. Assumes nothing.
 use mathlib.Core.Path.{sym}
 use lib.Seq.{set-out}
 use borrow.Author.Needs.{needs}
-use Rattle.lent_boxes.proofs.written.put.Statement.{statement}
-use Rattle.lent_boxes.proofs.written.put.Tie as tie
+use Rattle.lent_numbers.proofs.put.Statement.{statement}
+use Rattle.lent_numbers.proofs.put.Tie as tie
 
 mul-out : tie.Need-mul-out
 mul-out c = search needs

@@ -1,8 +1,8 @@
--- `lent_boxes::written::put_vec` meets its contract. Assumes nothing.
+-- `lent_numbers::put_vec` meets its contract. Assumes nothing.
 use Rattle.base.specs.Loop.{stored}
 use borrow.Author.Needs.{needs}
-use Rattle.lent_boxes.proofs.written.put_vec.Statement.{statement}
-use Rattle.lent_boxes.proofs.written.put_vec.Tie as tie
+use Rattle.lent_numbers.proofs.put_vec.Statement.{statement}
+use Rattle.lent_numbers.proofs.put_vec.Tie as tie
 
 put-requires : tie.Need-put-requires
 put-requires c κs = search needs

@@ -1,7 +1,7 @@
--- `lent_boxes::moved::request_of` meets its contract. Assumes nothing.
+-- `movers::request_of` meets its contract. Assumes nothing.
 use borrow.Author.Needs.{needs}
-use Rattle.lent_boxes.proofs.moved.request_of.Statement.{statement}
-use Rattle.lent_boxes.proofs.moved.request_of.Tie as tie
+use Rattle.movers.proofs.request_of.Statement.{statement}
+use Rattle.movers.proofs.request_of.Tie as tie
 
 first-box-requires : tie.Need-first-box-requires
 first-box-requires c κs = search needs
