@@ -29,8 +29,8 @@ use Rattle.window.specs.Window.{within, inside, sizeFits, sizesFit, coordinateF
 use Rattle.window.specs.Look.{Block, lookAt}
 use Rattle.window.proofs.Offsets.{within-by}
 use Rattle.window.proofs.Cells.{is-inside, found-inside}
-use Rattle.moves.specs.Collect.{CellShape, cube, boxes, originOf, cubeAt, toAabb, aabbsOf, shapeAabbs, shapeOf, cellShape}
-use Rattle.moves.specs.Settled.{settled, settledBoxes}
+use Rattle.collection.specs.Collect.{CellShape, cube, boxes, originOf, cubeAt, toAabb, aabbsOf, shapeAabbs, shapeOf, cellShape}
+use Rattle.collection.specs.Settled.{settled, settledBoxes}
 use Rattle.grid.specs.Grid.{onGrid, isProper}
 use Rattle.grid.specs.Demand.{cellAndHalf, isInCell, shapeOnGrid, settledOnGrid, cellFrom, everyCell, shapesOnGrid}
 use Rattle.grid.proofs.Units.{At, add-at, at-same, le-at, lt-at}

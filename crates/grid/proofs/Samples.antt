@@ -24,8 +24,8 @@ use Rattle.lent.specs.Lent.{unless, directRefusal}
 use Rattle.ranges.specs.Ranges as R
 use Rattle.ranges.specs.Walk as Q
 use Rattle.connect.specs.Connect as J
-use Rattle.moves.specs.Collect as P
-use Rattle.moves.specs.Settled as Z
+use Rattle.collection.specs.Collect as P
+use Rattle.collection.specs.Settled as Z
 use Rattle.moves.specs.Answers as X
 use Rattle.grid.specs.Grid as G
 use Rattle.grid.specs.Demand as D

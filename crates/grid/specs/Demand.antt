@@ -30,9 +30,9 @@ use Rattle.tables.specs.Tables.{boxesAt, boxAt}
 use Rattle.window.specs.declared.Pos.{Pos}
 use Rattle.window.specs.declared.Window.{Window}
 use Rattle.window.specs.Look.{lookAt}
-use Rattle.moves.specs.Collect.{CellShape, cube, boxes as ofState, toAabb, cellShape, collectBlockBoxes}
-use Rattle.moves.specs.Settled.{settledBoxes}
-use Rattle.moves.specs.Answers.{sweptArea, moveEntry}
+use Rattle.collection.specs.Collect.{CellShape, cube, boxes as ofState, toAabb, cellShape, collectBlockBoxes, sweptArea}
+use Rattle.collection.specs.Settled.{settledBoxes}
+use Rattle.moves.specs.Answers.{moveEntry}
 use Rattle.grid.specs.Grid.{onGrid, vecOnGrid, isProper, areProper, isFree}
 
 -- ---- what is demanded

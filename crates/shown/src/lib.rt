@@ -20,7 +20,7 @@ fn swept_by(mover: &[f64], step: f64) -> Aabb
 {
     let aabb = movers::first_box(mover);
     let delta = bodies::vec_from(mover, 6);
-    aabb.expand_towards(delta).expand_towards(Vec3::new(0.0, step, 0.0))
+    collection::swept_area(aabb, delta, step)
 }
 
 // What the move collects, or its refusal: 1 to 4 and 11 before any cell is asked for.
@@ -38,7 +38,7 @@ fn collected(records: &[u32], shapes: &[f32], cells: &[u32], w: Window, mover: &
     if places < 7 {
         return Collected::refused(11);
     }
-    moves::collect(records, shapes, cells, w, swept_by(mover, step))
+    collection::collect(records, shapes, cells, w, swept_by(mover, step))
 }
 
 // How many boxes a list has: a count above its room is the room.

@@ -17,7 +17,7 @@ use Rattle.tables.specs.declared.LiquidKind.the-variants.{None}
 use Rattle.tables.specs.declared.LiquidState.{LiquidState}
 use Rattle.window.specs.declared.Pos.{Pos}
 use Rattle.window.specs.Look.{Block}
-use Rattle.moves.specs.Answers.{moveAabb}
+use Rattle.through.specs.Through.{moveAabb}
 use Rattle.liquids.specs.declared.Current.{Current}
 use Rattle.boxes.specs.Vectors.{zeroVec}
 use Rattle.flow.specs.Liquid.{liquidHeld}
