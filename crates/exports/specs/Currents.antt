@@ -8,9 +8,9 @@ use Rattle.boxes.specs.declared.Vec3.{Vec3}
 use Rattle.boxes.specs.Boxes.{fromFeet}
 use Rattle.window.specs.declared.Pos.{Pos}
 use Rattle.window.specs.Look.{Block}
-use Rattle.liquids.specs.declared.Current.{Current}
+use Rattle.currents.specs.declared.Current.{Current}
 use Rattle.flow.specs.Liquid.{liquidHeld}
-use Rattle.liquids.specs.Current.{itemCurrent}
+use Rattle.currents.specs.Current.{itemCurrent}
 use Rattle.ranges.specs.Cells.{cellHolding}
 use Rattle.lent_numbers.specs.Written.{flagOf}
 

@@ -4,8 +4,8 @@ use boxes::Vec3;
 use lent_numbers::flag_of;
 use lent_numbers::put;
 use lent_numbers::put_vec;
-use liquids::Current;
-use liquids::AskedCurrent;
+use currents::Current;
+use currents::AskedCurrent;
 use flow::AskedLiquid;
 use window::Window;
 ghost use mathlib.Core.Path.{_≡_};
@@ -40,7 +40,7 @@ fn current_into(
         AskedLiquid::Is(s) => s,
     };
     let aabb = Aabb::from_feet(feet, width, height);
-    match liquids::item_current(records, cells, w, aabb, foot, state) {
+    match currents::item_current(records, cells, w, aabb, foot, state) {
         AskedCurrent::Refused(n) => n,
         AskedCurrent::Is(c) => {
             put_current(out, c);

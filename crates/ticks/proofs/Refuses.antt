@@ -20,7 +20,7 @@ use Rattle.collection.proofs.Refuses.{Refuses, FiveOrSix, wider, finds, names, 
 use Rattle.through.proofs.Moved.{move-refuses}
 use Rattle.flow.specs.Liquid.{liquidHeld, stopsFlow, blocksLiquidFlow}
 use Rattle.flow.specs.Flow.{FlowSoFar, difference, walledBy, sideFlow, liquidFlow}
-use Rattle.liquids.specs.Current.{liquidKnown, currentTurn, itemCurrent}
+use Rattle.currents.specs.Current.{liquidKnown, currentTurn, itemCurrent}
 use Rattle.liquids.specs.Flotation.{waterState, itemFlotation}
 use Rattle.liquids.specs.Living.{livingTurn, livingLiquid}
 use Rattle.bodies.specs.declared.Ground.{Ground}

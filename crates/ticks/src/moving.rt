@@ -12,7 +12,7 @@ use crate::Begun;
 use crate::tick_after;
 use crate::tick_to;
 use drags::Support;
-use liquids::AskedCurrent;
+use currents::AskedCurrent;
 use flow::AskedLiquid;
 use liquids::AskedKind;
 use ranges::cell_holding;
@@ -106,7 +106,7 @@ fn item_begins(
         AskedLiquid::Refused(n) => return AskedBegun::Refused(n),
         AskedLiquid::Is(s) => s,
     };
-    let current = match liquids::item_current(records, cells, w, aabb, foot, state) {
+    let current = match currents::item_current(records, cells, w, aabb, foot, state) {
         AskedCurrent::Refused(n) => return AskedBegun::Refused(n),
         AskedCurrent::Is(c) => c,
     };
