@@ -6,6 +6,7 @@ use lib.Ieee.{Float}
 use Rattle.base.specs.Choose.{choose}
 use Rattle.base.specs.Loop.{stored}
 use Rattle.floats.specs.Numbers.{zero64}
+use Rattle.boxes.specs.declared.Vec3.{Vec3}
 use Rattle.boxes.specs.Limits.{twoTo}
 use Rattle.sweeps.specs.declared.MoveResult.{MoveResult}
 use Rattle.sweeps.specs.declared.MoveAnswer.{MoveAnswer}
@@ -13,6 +14,10 @@ use Rattle.sweeps.specs.declared.MoveAnswer.{MoveAnswer}
 -- 1.0 or 0.0
 abbrev pub flagOf : Bool → Float
 flagOf holds = choose holds (twoTo 0) zero64
+
+-- a vector and a flag: four numbers
+abbrev pub flagged : Vec3 → Bool → List Float
+flagged v holds = v .x ∷ v .y ∷ v .z ∷ flagOf holds ∷ []
 
 -- the box after the move, the way that it went, and the ground flag: ten numbers
 unfoldable pub numbersOf : MoveResult → List Float

@@ -6,7 +6,7 @@ ghost use mathlib.Core.Path.{_≡_};
 ghost use mathlib.Core.List.{[], _∷_};
 ghost use lib.ListN.{set};
 ghost use Rattle.base.specs.Loop.{stored};
-ghost use Rattle.lent_numbers.specs.Written.{flagOf, numbersOf, writtenBy};
+ghost use Rattle.lent_numbers.specs.Written.{flagOf, flagged, numbersOf, writtenBy};
 
 pub fn put(out: &mut [f64], i: usize, x: f64)
     ensures { λ _. ⌜ now (out .exit) ≡ set (now (out .entry)) i x ⌝ }
@@ -29,6 +29,14 @@ pub fn put_vec(out: &mut [f64], i: u8, v: Vec3)
     put(out, k, v.x);
     put(out, k + 1, v.y);
     put(out, k + 1 + 1, v.z);
+}
+
+// Four numbers, as `flagged` has them.
+pub fn put_flagged(out: &mut [f64], v: Vec3, holds: bool)
+    ensures { λ _. ⌜ now (out .exit) ≡ stored (now (out .entry)) 0 (flagged v holds) ⌝ }
+{
+    put_vec(out, 0, v);
+    put(out, 3, flag_of(holds));
 }
 
 // Ten numbers, as `numbersOf` has them.

@@ -3,7 +3,7 @@ use mathlib.Core.Bool.{Bool, _&&_}
 use mathlib.Core.List.{List}
 use Prim.Native.Nat.{ℕ, _+_}
 use lib.ListN.{length}
-use lib.Dec.{ltb, eqb}
+use lib.Dec.{ltb, leb, eqb}
 use lib.Ieee.{Float}
 use Rattle.base.specs.Choose.{choose}
 use Rattle.boxes.specs.declared.Vec3.{Vec3}
@@ -30,3 +30,7 @@ moverFits mover sound = eqb (length mover) 9 && (sound && (isBox (aabbAt mover 0
 -- 3 for the step height and for a ground that is neither 0 nor 1; 4 for the mover, or where what is moved over is not `sound`; else 0
 unfoldable pub moverRefusal : List Float → Float → ℕ → Bool → ℕ
 moverRefusal mover step ground sound = choose (ltb ground 2 && isStep step) (choose (moverFits mover sound) 0 4) 3
+
+-- lengths that fit, a ground that is 0 or 1, and room for ten numbers; `places` are how many numbers there is room for
+abbrev pub wholeMove : List Float → ℕ → ℕ → Bool
+wholeMove mover ground places = ltb ground 2 && (eqb (length mover) 9 && leb 10 places)

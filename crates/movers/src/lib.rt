@@ -2,7 +2,7 @@
 use boxes::Aabb;
 use sweeps::Request;
 ghost use mathlib.Core.Path.{_≡_};
-ghost use Rattle.movers.specs.Movers.{aabbAt, requestOf, moverFits, moverRefusal};
+ghost use Rattle.movers.specs.Movers.{aabbAt, requestOf, moverFits, moverRefusal, wholeMove};
 
 // The box that the first six numbers are.
 pub fn first_box(numbers: &[f64]) -> Aabb
@@ -58,4 +58,11 @@ pub fn mover_refusal(mover: &[f64], step: f64, ground: u32, sound: bool) -> u32
         return 3;
     }
     3
+}
+
+// Whether a move through a window has its lengths, and room for its ten numbers: then the move itself finds what it refuses.
+pub fn whole_move(mover: &[f64], ground: u32, places: usize) -> bool
+    ensures { λ r. ⌜ r ≡ wholeMove (now (mover .entry)) ground places ⌝ }
+{
+    (ground < 2) & ((mover.len() == 9) & (places >= 10))
 }

@@ -1,8 +1,8 @@
--- `exports::drift::put_current` meets its contract. Assumes nothing.
+-- `lent_numbers::put_flagged` meets its contract. Assumes nothing.
 use Rattle.base.specs.Loop.{stored}
 use borrow.Author.Needs.{needs}
-use Rattle.exports.proofs.drift.put_current.Statement.{statement}
-use Rattle.exports.proofs.drift.put_current.Tie as tie
+use Rattle.lent_numbers.proofs.put_flagged.Statement.{statement}
+use Rattle.lent_numbers.proofs.put_flagged.Tie as tie
 
 put-vec-requires : tie.Need-put-vec-requires
 put-vec-requires c κs = search needs
@@ -24,6 +24,6 @@ returns c =
     let at-put-vec = at-flag-of .before .before .before .before in
     rw (at-put .put .ensures, at-flag-of .flag-of .ensures, at-put-vec .put-vec .ensures)
 
-pub put-current-spec : {M : Type 1} → statement M
-put-current-spec =
+pub put-flagged-spec : {M : Type 1} → statement M
+put-flagged-spec =
     tie.close (tie.spec put-vec-requires flag-of-requires put-requires same-length returns)
