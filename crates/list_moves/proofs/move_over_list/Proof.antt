@@ -1,10 +1,10 @@
--- `sweeps::entry::move_over_list` meets its contract. Assumes nothing.
+-- `list_moves::move_over_list` meets its contract. Assumes nothing.
 use Rattle.sweeps.specs.Entry.{moveOverList}
 use Rattle.base.specs.Choose.{choose}
 use borrow.Author.Tests.{eq-eqb, ne-eqb}
 use borrow.Author.Needs.{needs}
-use Rattle.sweeps.proofs.entry.move_over_list.Statement.{statement}
-use Rattle.sweeps.proofs.entry.move_over_list.Tie as tie
+use Rattle.list_moves.proofs.move_over_list.Statement.{statement}
+use Rattle.list_moves.proofs.move_over_list.Tie as tie
 
 are-boxes-requires : tie.Need-are-boxes-requires
 are-boxes-requires c κs = search needs

@@ -1,10 +1,10 @@
--- `sweeps::passes::move_over` meets its contract. Assumes nothing.
+-- `list_moves::move_over` meets its contract. Assumes nothing.
 use mathlib.Core.Path.{_∙_}
 use Rattle.sweeps.proofs.Shape.{moves}
 use Rattle.sweeps.specs.Lists.{listOf}
 use borrow.Author.Needs.{needs}
-use Rattle.sweeps.proofs.passes.move_over.Statement.{statement}
-use Rattle.sweeps.proofs.passes.move_over.Tie as tie
+use Rattle.list_moves.proofs.move_over.Statement.{statement}
+use Rattle.list_moves.proofs.move_over.Tie as tie
 
 swept-over-requires : tie.Need-swept-over-requires
 swept-over-requires c κs = search needs

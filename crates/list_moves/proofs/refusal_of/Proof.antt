@@ -1,9 +1,9 @@
--- `sweeps::entry::refusal_of` meets its contract. Assumes nothing.
+-- `list_moves::refusal_of` meets its contract. Assumes nothing.
 use Rattle.base.specs.Choose.{choose}
 use borrow.Author.Tests.{le-ltb, lt-ltb}
 use borrow.Author.Needs.{needs}
-use Rattle.sweeps.proofs.entry.refusal_of.Statement.{statement}
-use Rattle.sweeps.proofs.entry.refusal_of.Tie as tie
+use Rattle.list_moves.proofs.refusal_of.Statement.{statement}
+use Rattle.list_moves.proofs.refusal_of.Tie as tie
 
 is-step-requires : tie.Need-is-step-requires
 is-step-requires c κs = search needs

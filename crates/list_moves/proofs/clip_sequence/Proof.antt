@@ -1,9 +1,9 @@
--- `sweeps::passes::clip_sequence` meets its contract. Assumes nothing.
+-- `list_moves::clip_sequence` meets its contract. Assumes nothing.
 use Rattle.sweeps.proofs.Shape.{one-attempt}
 use Rattle.sweeps.specs.Lists.{listOf}
 use borrow.Author.Needs.{needs}
-use Rattle.sweeps.proofs.passes.clip_sequence.Statement.{statement}
-use Rattle.sweeps.proofs.passes.clip_sequence.Tie as tie
+use Rattle.list_moves.proofs.clip_sequence.Statement.{statement}
+use Rattle.list_moves.proofs.clip_sequence.Tie as tie
 
 swept-over-requires : tie.Need-swept-over-requires
 swept-over-requires c κs = search needs

@@ -1,15 +1,15 @@
--- `sweeps::passes::swept_over` meets its contract. Assumes nothing.
+-- `list_moves::swept_over` meets its contract. Assumes nothing.
 use mathlib.Core.Path.{_≡_, refl, sym, ap, _∙_}
 use Prim.Native.Nat.{_-_}
 use native.Mathlib.Omega.{arith}
 use lib.ListN.{length, drop, length-map}
 use borrow.Author.Needs.{needs}
 use Rattle.sweeps.specs.Lists.{room, listOf}
 use Rattle.sweeps.specs.Move.{clipAll}
 use Rattle.sweeps.specs.Passes.{clipAlong, passesFrom, sweepOf}
 use Rattle.sweeps.proofs.Turns.{clip-turn, made, pass-on, pass-over, passes-end}
-use Rattle.sweeps.proofs.passes.swept_over.Statement.{statement}
-use Rattle.sweeps.proofs.passes.swept_over.Tie as tie
+use Rattle.list_moves.proofs.swept_over.Statement.{statement}
+use Rattle.list_moves.proofs.swept_over.Tie as tie
 
 abbrev Inv-loop2 : tie.InvT-loop2
 Inv-loop2 q list n s pass axis now mover d₀ i₀ d i = clipAll (clipAlong axis) (drop i (listOf list)) mover d ≡ clipAll (clipAlong axis) (listOf list) mover d₀

@@ -1,14 +1,14 @@
--- `sweeps::entry::are_boxes` meets its contract. Assumes nothing.
+-- `list_moves::are_boxes` meets its contract. Assumes nothing.
 use mathlib.Core.Path.{_≡_, refl, sym, _∙_}
 use Prim.Native.Nat.{_-_}
 use native.Mathlib.Omega.{arith}
 use lib.ListN.{length, drop, length-map}
 use borrow.Author.Needs.{needs}
 use Rattle.sweeps.specs.Lists.{room, listOf}
 use Rattle.boxes.specs.Limits.{areBoxes}
-use Rattle.sweeps.proofs.Limits.{sound-turn, sound-stop, sound-end}
-use Rattle.sweeps.proofs.entry.are_boxes.Statement.{statement}
-use Rattle.sweeps.proofs.entry.are_boxes.Tie as tie
+use Rattle.list_moves.proofs.Limits.{sound-turn, sound-stop, sound-end}
+use Rattle.list_moves.proofs.are_boxes.Statement.{statement}
+use Rattle.list_moves.proofs.are_boxes.Tie as tie
 
 abbrev Inv-loop : tie.InvT-loop
 Inv-loop list n i₀ i = areBoxes (drop i (listOf list)) ≡ areBoxes (listOf list)
