@@ -18,7 +18,7 @@ use Rattle.window.specs.declared.Window.{Window}
 use Rattle.window.specs.Look.{Block, none, some, lookAt}
 use Rattle.ranges.specs.declared.Range.{Range}
 use Rattle.ranges.specs.Walk.{line, layer, walk}
-use Rattle.connect.specs.declared.Joined.{Joined}
+use Rattle.joining.specs.declared.Joined.{Joined}
 use Rattle.connect.specs.Connect.{connectKind, joins, post, besideNeighbours, connectedState}
 use Rattle.collection.specs.Collect.{connectedShape, shapeOf, cellShape, offer, offerAll, visit, push, hit, collectUpTo, collectBlockBoxes, collidesWithBlocks}
 
