@@ -2,12 +2,12 @@
 // step with a record. From a fresh record, any list of such steps leaves the drops since the last reset (proofs/Steps.antt, `steps-fallen`).
 mod rule;
 
-pub use rule::fall_after;
-pub use rule::fall_fits;
 use bodies::BodyNumbers;
 use bodies::MotionNumbers;
 use bodies::Rules;
 use lent::check_lent;
+pub use rule::fall_after;
+pub use rule::fall_fits;
 use step::StepAnswer;
 use tables::LiquidKind;
 use window::Window;
@@ -46,7 +46,13 @@ fn with_fall(fall: Fall, given: MotionNumbers, a: StepAnswer) -> FallingAnswer
 {
     if a.refusal == 0 {
         let liquid = a.liquid;
-        let after = fall_after(fall, given.feet.y, a.motion.feet.y, a.motion.ground == 1, liquid);
+        let after = fall_after(
+            fall,
+            given.feet.y,
+            a.motion.feet.y,
+            a.motion.ground == 1,
+            liquid,
+        );
         return FallingAnswer {
             step: a,
             fall: after,
