@@ -1,5 +1,5 @@
-// Fall records: the rule alone, `fall SUM LANDED OLD-Y NEW-Y GROUND LIQUID`, where a record that is a 3 comes back as given; and, of the original's
-// scenes, the record after a tick that is not refused, from a fresh one.
+// Fall records: the rule alone, `fall SUM LANDED OLD-Y NEW-Y GROUND LIQUID`, where a record that is a 3 comes back as given; and, for each of the
+// original's scenes whose tick is not refused, `after NUMBER fall SUM LANDED`: the record after that tick, from a fresh one.
 use falls::Fall;
 use tables::LiquidKind;
 
@@ -53,6 +53,7 @@ fn put_after(n: u32, file: &[u8]) {
         let liquid = a.liquid;
         let old = feet_y(file);
         let fall = falls::fall_after(fresh, old, a.motion.feet.y, a.motion.ground == 1, liquid);
+        crate::text::put(b"after ");
         crate::scenes::put_label(n);
         put_fall(fall);
         crate::text::put(b"\n");
