@@ -1,6 +1,6 @@
 -- Windows, bodies and answers are lent in rows, one row after the other. How wide a row is, and what stands where in it, is said here alone.
 use mathlib.Core.Bool.{Bool, _&&_}
-use mathlib.Core.List.{List, [], _∷_, _++_}
+use mathlib.Core.List.{List, _∷_}
 use Prim.Native.Nat.{ℕ, _+_, _*_}
 use lib.Dec.{eqb}
 use lib.IntN.{pos}
@@ -12,7 +12,7 @@ use Rattle.bodies.specs.declared.Rules.{Rules}
 use Rattle.bodies.specs.declared.MotionNumbers.{MotionNumbers}
 use Rattle.bodies.specs.Numbers.{numberAt, motionFrom, bodyFrom, rulesFrom}
 use Rattle.lent_words.specs.Words.{wideOf, windowFrom}
-use Rattle.lent_steps.specs.Steps.{stepNumbers}
+use Rattle.lent_steps.specs.Falling.{fallingNumbers}
 use Rattle.falls.specs.declared.Fall.{Fall}
 use Rattle.falls.specs.declared.FallingAnswer.{FallingAnswer}
 use Rattle.falls.specs.Rule.{fallOf}
@@ -87,5 +87,4 @@ abbrev pub answerWidth : ℕ
 answerWidth = 11
 
 abbrev pub answerNumbers : FallingAnswer → List Float
-answerNumbers a =
-    (ofInt binary64 (pos (a .step .refusal)) ∷ stepNumbers (a .step)) ++ (a .fall .sum ∷ a .fall .landed ∷ [])
+answerNumbers a = ofInt binary64 (pos (a .step .refusal)) ∷ fallingNumbers a

@@ -9,7 +9,7 @@ use falls::Fall;
 use falls::FallingAnswer;
 use lent_boxes::put;
 use lent_steps::float_of;
-use lent_steps::put_step;
+use lent_steps::put_falling;
 ghost use mathlib.Core.Path.{_≡_};
 ghost use Prim.Native.Nat.{_*_, _≤_};
 ghost use lib.ListN.{getD, length};
@@ -120,9 +120,7 @@ fn put_answer(row: &mut [f64], a: FallingAnswer)
     ensures { λ _. ⌜ now (row .exit) ≡ stored (now (row .entry)) 0 (answerNumbers a) ⌝ }
 {
     put(row, 0, float_of(a.step.refusal));
-    put_step(&mut row[1..], a.step);
-    put(row, 9, a.fall.sum);
-    put(row, 10, a.fall.landed);
+    put_falling(&mut row[1..], a);
 }
 
 // The answer of body i, in row i of a buffer that has it.

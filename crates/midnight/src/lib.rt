@@ -7,6 +7,7 @@ mod windows;
 
 use window::Window;
 ghost use mathlib.Core.Path.{_≡_};
+ghost use Prim.Native.Nat.{_≤_};
 ghost use lib.Dec.{eqb};
 ghost use lib.ListN.{length};
 ghost use Rattle.base.specs.Choose.{choose};
@@ -60,6 +61,7 @@ fn answer_all(
     bodies: u32,
     out: &mut [f64],
 )
+    requires { ⌜ count ≤ 16 ⌝ }
     ensures { λ _. ⌜ now (out .exit) ≡ stored (now (out .entry)) 0 (rowsOf (lentWith (now (records .entry)) (now (shapes .entry)) (now (windows .entry)) count (now (cells .entry))) (bodiesOf (now (numbers .entry)) (now (words .entry)) bodies)) ⌝ }
 {
     let checked = windows::check_all(windows, count, cells);

@@ -1,33 +1,32 @@
+-- `midnight::count_refusal` meets its contract. Assumes nothing.
+use borrow.Author.Tests.{lt-ltb, le-ltb}
+use Rattle.base.specs.Choose.{choose}
+use Rattle.midnight.specs.Run.{countRefusal}
 use borrow.Author.Needs.{needs}
 use Rattle.midnight.proofs.count_refusal.Statement.{statement}
 use Rattle.midnight.proofs.count_refusal.Tie as tie
-use Rattle.midnight.proofs.count_refusal.Reads as reads
-use Rattle.midnight.proofs.count_refusal.Lts as lts
-use Rattle.midnight.proofs.rows.wide.Reads as wide-reads
 
--- src/lib.rt:30:9
 returns : tie.Need-returns
-returns c = ?
+unfolding countRefusal choose
+returns c = rw (lt-ltb _ _ (c .if1 .taken))
 
--- src/lib.rt:33:9
 returns-2 : tie.Need-returns-2
-returns-2 c = ?
+unfolding countRefusal choose
+returns-2 c = rw (le-ltb _ _ (c .before .if1 .left), lt-ltb _ _ (c .if2 .taken))
 
--- src/lib.rt:35:15
 wide-requires : tie.Need-wide-requires
 wide-requires c κs = search needs
 
--- src/lib.rt:35:15
 mul-if3 : tie.Need-mul-if3
 mul-if3 c = search needs
 
--- src/lib.rt:36:9
 returns-3 : tie.Need-returns-3
-returns-3 c = ?
+unfolding countRefusal choose
+returns-3 c = rw (le-ltb _ _ (c .before .before .before .if1 .left), le-ltb _ _ (c .before .before .if2 .left), lt-ltb _ _ (rw (c .before .wide .ensures) at (c .if3 .taken)))
 
--- src/lib.rt:26:1
 returns-4 : tie.Need-returns-4
-returns-4 c = ?
+unfolding countRefusal choose
+returns-4 c = rw (le-ltb _ _ (c .before .before .before .if1 .left), le-ltb _ _ (c .before .before .if2 .left), le-ltb _ _ (rw (c .before .wide .ensures) at (c .if3 .left)))
 
 pub count-refusal-spec : {M : Type 1} → statement M
 count-refusal-spec =

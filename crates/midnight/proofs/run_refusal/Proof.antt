@@ -1,26 +1,23 @@
+-- `midnight::run_refusal` meets its contract. Assumes nothing.
+use borrow.Author.Tests.{eq-eqb, ne-eqb}
+use Rattle.base.specs.Choose.{choose}
 use borrow.Author.Needs.{needs}
 use Rattle.midnight.proofs.run_refusal.Statement.{statement}
 use Rattle.midnight.proofs.run_refusal.Tie as tie
-use Rattle.midnight.proofs.run_refusal.Reads as reads
-use Rattle.midnight.proofs.run_refusal.Lts as lts
-use Rattle.midnight.proofs.count_refusal.Reads as count-refusal-reads
-use Rattle.table_check.proofs.check_tables.Reads as check-tables-reads
 
--- src/lib.rt:45:8
 check-tables-requires : tie.Need-check-tables-requires
 check-tables-requires c κs = search needs
 
--- src/lib.rt:46:9
 returns : tie.Need-returns
-returns c = ?
+unfolding choose
+returns c = rw (← c .before .check-tables .ensures, ne-eqb _ _ (c .if1 .taken))
 
--- src/lib.rt:48:5
 count-refusal-requires : tie.Need-count-refusal-requires
 count-refusal-requires c κs = search needs
 
--- src/lib.rt:42:1
 returns-2 : tie.Need-returns-2
-returns-2 c = ?
+unfolding choose
+returns-2 c = rw (← c .before .before .check-tables .ensures, eq-eqb _ _ (c .before .if1 .left)) (c .count-refusal .ensures)
 
 pub run-refusal-spec : {M : Type 1} → statement M
 run-refusal-spec =

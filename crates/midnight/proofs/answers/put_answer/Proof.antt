@@ -1,51 +1,43 @@
+-- `midnight::answers::put_answer` meets its contract. Assumes nothing.
+use mathlib.Core.List.{List}
+use mathlib.Core.Path.{ap, _∙_}
+use lib.Ieee.{Float}
+use lib.ListN.{set}
+use Rattle.base.specs.Loop.{stored}
+use Rattle.lent_steps.specs.Falling.{fallingNumbers}
+use Rattle.midnight.proofs.Parts.{put-behind}
 use borrow.Author.Needs.{needs}
 use Rattle.midnight.proofs.answers.put_answer.Statement.{statement}
 use Rattle.midnight.proofs.answers.put_answer.Tie as tie
-use Rattle.midnight.proofs.answers.put_answer.Reads as reads
-use Rattle.midnight.proofs.answers.put_answer.Lts as lts
-use Rattle.lent_boxes.proofs.put.Reads as put-reads
-use Rattle.lent_steps.proofs.float_of.Reads as float-of-reads
-use Rattle.lent_steps.proofs.put_step.Reads as put-step-reads
 
--- src/answers.rt:122:17
 float-of-requires : tie.Need-float-of-requires
 float-of-requires c κs = search needs
 
--- src/answers.rt:122:5
 put-requires : tie.Need-put-requires
 put-requires c κs = search needs
 
--- src/answers.rt:123:14
-sub-put-step : tie.Need-sub-put-step
-sub-put-step c = search needs
+sub-put-falling : tie.Need-sub-put-falling
+sub-put-falling c = search needs
 
--- src/answers.rt:123:14
-part-put-step-start : tie.Need-part-put-step-start
-part-put-step-start c = search needs
+part-put-falling-start : tie.Need-part-put-falling-start
+part-put-falling-start c = search needs
 
--- src/answers.rt:123:14
-part-put-step-end : tie.Need-part-put-step-end
-part-put-step-end c = search needs
+part-put-falling-end : tie.Need-part-put-falling-end
+part-put-falling-end c = search needs
 
--- src/answers.rt:123:5
-put-step-requires : tie.Need-put-step-requires
-put-step-requires c κs = search needs
+put-falling-requires : tie.Need-put-falling-requires
+put-falling-requires c κs = search needs
 
--- src/answers.rt:124:5
-put-requires-2 : tie.Need-put-requires-2
-put-requires-2 c κs = search needs
-
--- src/answers.rt:125:5
-put-requires-3 : tie.Need-put-requires-3
-put-requires-3 c κs = search needs
-
--- src/answers.rt:118:1
 same-length : tie.Need-same-length
 same-length c = search needs
 
--- src/answers.rt:118:1
 returns : tie.Need-returns
-returns c = ?
+unfolding stored
+returns c = 
+    let a = c .before .before .before .before .before .before .before .before .before .before .args in
+    let numbers : List Float = fallingNumbers (a .a) in
+    put-behind (c .before .before .before .before .before .before .put .last .0) (c .before .before .put-falling .last .0) 1 numbers (c .before .before .put-falling .ensures)
+    ∙ ap (λ (l : List Float). stored l 1 numbers) (c .before .before .before .before .before .before .put .ensures ∙ ap (λ (x : Float). set (a .row .now) 0 x) (c .before .before .before .before .before .before .before .float-of .ensures))
 
 pub put-answer-spec : {M : Type 1} → statement M
 put-answer-spec =
@@ -53,11 +45,9 @@ put-answer-spec =
     (tie.spec
     float-of-requires
     put-requires
-    sub-put-step
-    part-put-step-start
-    part-put-step-end
-    put-step-requires
-    put-requires-2
-    put-requires-3
+    sub-put-falling
+    part-put-falling-start
+    part-put-falling-end
+    put-falling-requires
     same-length
     returns)

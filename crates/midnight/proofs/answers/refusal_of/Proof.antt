@@ -1,29 +1,25 @@
+-- `midnight::answers::refusal_of` meets its contract. Assumes nothing.
+use mathlib.Core.Path.{sym}
+use lib.ListN.{List·getD-eq-default}
+use Rattle.tables.proofs.Lists.{getD-any}
 use borrow.Author.Needs.{needs}
 use Rattle.midnight.proofs.answers.refusal_of.Statement.{statement}
 use Rattle.midnight.proofs.answers.refusal_of.Tie as tie
-use Rattle.midnight.proofs.answers.refusal_of.Reads as reads
-use Rattle.midnight.proofs.answers.refusal_of.Lts as lts
-use Rattle.midnight.proofs.rows.wide.Reads as wide-reads
 
--- src/answers.rt:86:9
 wide-requires : tie.Need-wide-requires
 wide-requires c κs = search needs
 
--- src/answers.rt:87:28
 mul-result : tie.Need-mul-result
 mul-result c = search needs
 
--- src/answers.rt:87:28
 shared-slice-read-result : tie.Need-shared-slice-read-result
 shared-slice-read-result c = search needs
 
--- src/answers.rt:83:1
 returns : tie.Need-returns
-returns c = ?
+returns c = rw (← c .before .before .wide .ensures) (getD-any (c .before .before .before .before .args .checked .now) (c .before .before .wide .result) _ _ (c .before .if1 .taken))
 
--- src/answers.rt:83:1
 returns-2 : tie.Need-returns-2
-returns-2 c = ?
+returns-2 c = rw (← c .before .wide .ensures) (sym (List·getD-eq-default (c .before .before .before .args .checked .now) 2 (c .if1 .left)))
 
 pub refusal-of-spec : {M : Type 1} → statement M
 refusal-of-spec =

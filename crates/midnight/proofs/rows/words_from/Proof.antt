@@ -1,77 +1,59 @@
+-- `midnight::rows::words_from` meets its contract. Assumes nothing.
+use Rattle.midnight.proofs.Parts.{whole-part, short-part, no-part}
 use borrow.Author.Needs.{needs}
 use Rattle.midnight.proofs.rows.words_from.Statement.{statement}
 use Rattle.midnight.proofs.rows.words_from.Tie as tie
-use Rattle.midnight.proofs.rows.words_from.Reads as reads
-use Rattle.midnight.proofs.rows.words_from.Lts as lts
-use Rattle.midnight.proofs.rows.wide.Reads as wide-reads
 
--- src/rows.rt:32:20
 sub-left : tie.Need-sub-left
 sub-left c = search needs
 
--- src/rows.rt:33:13
 wide-requires : tie.Need-wide-requires
 wide-requires c κs = search needs
 
--- src/rows.rt:35:31
 add-result : tie.Need-add-result
 add-result c = search needs
 
--- src/rows.rt:35:20
 mul-result : tie.Need-mul-result
 mul-result c = search needs
 
--- src/rows.rt:35:20
 sub-result : tie.Need-sub-result
 sub-result c = search needs
 
--- src/rows.rt:35:20
 part-result-start : tie.Need-part-result-start
 part-result-start c = search needs
 
--- src/rows.rt:35:20
 part-result-end : tie.Need-part-result-end
 part-result-end c = search needs
 
--- src/rows.rt:35:13
 returns : tie.Need-returns
-returns c = ?
+returns c = whole-part (c .before .before .before .before .before .args .words .now) (c .before .before .before .before .before .args .at) (c .before .before .before .before .before .args .count) (c .before .before .wide .result) (c .before .before .wide .ensures)
 
--- src/rows.rt:37:16
 mul-result-2 : tie.Need-mul-result-2
 mul-result-2 c = search needs
 
--- src/rows.rt:37:16
 sub-result-2 : tie.Need-sub-result-2
 sub-result-2 c = search needs
 
--- src/rows.rt:37:16
 part-result-start-2 : tie.Need-part-result-start-2
 part-result-start-2 c = search needs
 
--- src/rows.rt:37:16
 part-result-end-2 : tie.Need-part-result-end-2
 part-result-end-2 c = search needs
 
--- src/rows.rt:37:9
 returns-2 : tie.Need-returns-2
-returns-2 c = ?
+returns-2 c = short-part (c .before .before .before .before .before .args .words .now) (c .before .before .before .before .before .args .at) (c .before .before .before .before .before .args .count) (c .before .before .wide .result) (c .before .before .wide .ensures) (c .before .if2 .left)
 
--- src/rows.rt:39:5
 sub-result-3 : tie.Need-sub-result-3
 sub-result-3 c = search needs
 
--- src/rows.rt:39:5
 part-result-start-3 : tie.Need-part-result-start-3
 part-result-start-3 c = search needs
 
--- src/rows.rt:39:5
 part-result-end-3 : tie.Need-part-result-end-3
 part-result-end-3 c = search needs
 
--- src/rows.rt:28:1
 returns-3 : tie.Need-returns-3
-returns-3 c = ?
+returns-3 c = no-part (c .before .before .before .args .words .now) (c .before .before .before .args .at) (c .before .before .before .args .count) (c .before .if1 .left)
 
 pub words-from-spec : {M : Type 1} → statement M
 words-from-spec =

@@ -1,21 +1,21 @@
+-- `midnight::windows::checked_at` meets its contract. Assumes nothing.
+use borrow.Author.Tests.{lt-ltb, le-ltb}
+use Rattle.base.specs.Choose.{choose}
+use Rattle.midnight.specs.Answers.{checkedAt}
 use borrow.Author.Needs.{needs}
 use Rattle.midnight.proofs.windows.checked_at.Statement.{statement}
 use Rattle.midnight.proofs.windows.checked_at.Tie as tie
-use Rattle.midnight.proofs.windows.checked_at.Reads as reads
-use Rattle.midnight.proofs.windows.checked_at.Lts as lts
-use Rattle.midnight.proofs.windows.refusal_at.Reads as refusal-at-reads
 
--- src/windows.rt:67:9
 refusal-at-requires : tie.Need-refusal-at-requires
 refusal-at-requires c κs = search needs
 
--- src/windows.rt:67:9
 returns : tie.Need-returns
-returns c = ?
+unfolding checkedAt choose
+returns c = rw (lt-ltb _ _ (c .before .if1 .taken)) (c .refusal-at .ensures)
 
--- src/windows.rt:63:1
 returns-2 : tie.Need-returns-2
-returns-2 c = ?
+unfolding checkedAt choose
+returns-2 c = rw (le-ltb _ _ (c .if1 .left))
 
 pub checked-at-spec : {M : Type 1} → statement M
 checked-at-spec = tie.close (tie.spec refusal-at-requires returns returns-2)

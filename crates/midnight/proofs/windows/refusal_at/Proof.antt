@@ -1,53 +1,38 @@
+-- `midnight::windows::refusal_at` meets its contract. Assumes nothing.
+use Rattle.midnight.proofs.Checks.{no-row, no-words, all-there}
 use borrow.Author.Needs.{needs}
 use Rattle.midnight.proofs.windows.refusal_at.Statement.{statement}
 use Rattle.midnight.proofs.windows.refusal_at.Tie as tie
-use Rattle.midnight.proofs.windows.refusal_at.Reads as reads
-use Rattle.midnight.proofs.windows.refusal_at.Lts as lts
-use Rattle.midnight.proofs.rows.wide.Reads as wide-reads
-use Rattle.midnight.proofs.rows.window_row.Reads as window-row-reads
-use Rattle.midnight.proofs.windows.cells_in.Reads as cells-in-reads
-use Rattle.midnight.proofs.windows.window_at.Reads as window-at-reads
-use Rattle.window.proofs.check_window.Reads as check-window-reads
 
--- src/windows.rt:50:9
 window-row-requires : tie.Need-window-row-requires
 window-row-requires c κs = search needs
 
--- src/windows.rt:52:13
 window-at-requires : tie.Need-window-at-requires
 window-at-requires c κs = search needs
 
--- src/windows.rt:53:19
 wide-requires : tie.Need-wide-requires
 wide-requires c κs = search needs
 
--- src/windows.rt:53:37
 wide-requires-2 : tie.Need-wide-requires-2
 wide-requires-2 c κs = search needs
 
--- src/windows.rt:53:19
 add-end : tie.Need-add-end
 add-end c = search needs
 
--- src/windows.rt:55:41
 cells-in-requires : tie.Need-cells-in-requires
 cells-in-requires c κs = search needs
 
--- src/windows.rt:55:13
 check-window-requires : tie.Need-check-window-requires
 check-window-requires c κs = search needs
 
--- src/windows.rt:55:13
 returns : tie.Need-returns
-returns c = ?
+returns c = all-there (c .before .before .before .before .before .before .before .before .before .before .args .windows .now) (c .before .before .before .before .before .before .before .before .before .before .args .cells .now) (c .before .before .before .before .before .before .before .before .before .before .args .j) (c .before .before .before .before .before .before .before .window-row .result .now) (c .before .before .before .before .before .before .before .window-row .ensures) (c .before .before .before .before .before .before .if1 .taken) (c .before .before .before .before .before .window-at .result) (c .before .before .before .before .before .window-at .ensures) (rw (c .before .before .before .before .wide .ensures, c .before .before .before .wide2 .ensures) at (c .before .before .if2 .taken)) (c .before .cells-in .result .now) _ (c .before .cells-in .ensures) (c .check-window .ensures)
 
--- src/windows.rt:57:9
 returns-2 : tie.Need-returns-2
-returns-2 c = ?
+returns-2 c = no-words (c .before .before .before .before .before .before .before .before .args .windows .now) (c .before .before .before .before .before .before .before .before .args .cells .now) (c .before .before .before .before .before .before .before .before .args .j) (c .before .before .before .before .before .window-row .result .now) (c .before .before .before .before .before .window-row .ensures) (c .before .before .before .before .if1 .taken) (c .before .before .before .window-at .result) (c .before .before .before .window-at .ensures) (rw (c .before .before .wide .ensures, c .before .wide2 .ensures) at (c .if2 .left))
 
--- src/windows.rt:47:1
 returns-3 : tie.Need-returns-3
-returns-3 c = ?
+returns-3 c = no-row (c .before .before .before .before .args .windows .now) (c .before .before .before .before .args .cells .now) (c .before .before .before .before .args .j) (c .before .window-row .result .now) (c .before .window-row .ensures) (c .if1 .left)
 
 pub refusal-at-spec : {M : Type 1} → statement M
 refusal-at-spec =
