@@ -134,6 +134,22 @@ module _ (lent : Lent) (numbers : List Float) (words : List ℕ) (bodies : ℕ) 
     pub answers : answersIn after bodies ≡ map (answerRow lent) (bodiesOf numbers words bodies)
     answers = map-listed (answerRow lent) (rowAt numbers words) (rowOf answerWidth after) bodies 0 (λ k l m. answer k (omega arith))
 
+-- ---- by what the program returns
+
+module _ (lent : Lent) (numbers : List Float) (words : List ℕ) (bodies : ℕ) (out : List Float) (r : ℕ) (told : r ≡ runRefusal lent bodies (length out)) where
+  pub refused-run : (r ≡ 0 → ⊥) → out ≡ runWritten lent (bodiesOf numbers words bodies) out
+  refused-run not = sym (unwritten lent numbers words bodies out (λ z. not (told ∙ z)))
+
+  module _ (none : r ≡ 0) where
+    pub few-windows : lent .count ≤ 16
+    few-windows = passed lent bodies (length out) (sym told ∙ none) .windows
+
+    pub zero-told : 0 ≡ runRefusal lent bodies (length out)
+    zero-told = sym none ∙ told
+
+    pub accepted-run : (l : List Float) → l ≡ stored out 0 (rowsOf lent (bodiesOf numbers words bodies)) → l ≡ runWritten lent (bodiesOf numbers words bodies) out
+    accepted-run l e = e ∙ stored-all lent numbers words bodies out (sym told ∙ none)
+
 -- ---- any order
 
 -- rows in the order of a list of places; a place beyond them takes d

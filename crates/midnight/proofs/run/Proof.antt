@@ -1,8 +1,7 @@
 -- `midnight::run` meets its contract. Assumes nothing.
-use mathlib.Core.Path.{sym, _∙_}
 use Rattle.midnight.specs.Answers.{Lent, lentWith}
 use Rattle.midnight.specs.Run.{runRefusal}
-use Rattle.midnight.proofs.Orders.{passed, unwritten, stored-all}
+use Rattle.midnight.proofs.Orders.{refused-run, few-windows, zero-told, accepted-run}
 use borrow.Author.Needs.{needs}
 use Rattle.midnight.proofs.run.Statement.{statement}
 use Rattle.midnight.proofs.run.Tie as tie
@@ -16,14 +15,14 @@ returns c =
     let a = c .before .before .before .before .before .before .before .before .before .args in
     let lent : Lent = lentWith (a .records .now) (a .shapes .now) (a .windows .now) (a .count) (a .cells .now) in
     let told = c .before .run-refusal .ensures in
-    (told, sym (unwritten lent (a .numbers .now) (a .words .now) (a .bodies) (a .out .now) (λ z. c .if1 .taken (told ∙ z))))
+    (told, refused-run lent (a .numbers .now) (a .words .now) (a .bodies) (a .out .now) _ told (c .if1 .taken))
 
 answer-all-requires : tie.Need-answer-all-requires
 unfolding runRefusal
 answer-all-requires c κs =
     let a = c .before .before .before .before .before .before .before .before .before .before .args in
     let lent : Lent = lentWith (a .records .now) (a .shapes .now) (a .windows .now) (a .count) (a .cells .now) in
-    passed lent (a .bodies) _ (sym (c .before .before .run-refusal .ensures) ∙ c .before .if1 .left) .windows
+    few-windows lent (a .numbers .now) (a .words .now) (a .bodies) (a .out .now) _ (c .before .before .run-refusal .ensures) (c .before .if1 .left)
 
 same-length : tie.Need-same-length
 same-length c = search needs
@@ -33,8 +32,10 @@ unfolding runRefusal
 returns-2 c =
     let a = c .before .before .before .before .before .before .before .before .before .before .before .before .before .args in
     let lent : Lent = lentWith (a .records .now) (a .shapes .now) (a .windows .now) (a .count) (a .cells .now) in
-    let none = sym (c .before .before .before .before .before .run-refusal .ensures) ∙ c .before .before .before .before .if1 .left in
-    (sym none, c .before .before .answer-all .ensures ∙ stored-all lent (a .numbers .now) (a .words .now) (a .bodies) (a .out .now) none)
+    let told = c .before .before .before .before .before .run-refusal .ensures in
+    let none = c .before .before .before .before .if1 .left in
+    (zero-told lent (a .numbers .now) (a .words .now) (a .bodies) (a .out .now) _ told none,
+    accepted-run lent (a .numbers .now) (a .words .now) (a .bodies) (a .out .now) _ told none _ (c .before .before .answer-all .ensures))
 
 pub run-spec : {M : Type 1} → statement M
 run-spec =
