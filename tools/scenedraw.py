@@ -279,8 +279,8 @@ def layers(world, low, high, boxes, scale):
     feet = math.floor(boxes[0][1])
     for y in range(low[1], high[1] + 1):
         met = any(b[1] < y + 1 and b[4] > y for b in boxes)
-        where = "feet" if y == feet else "body" if met else "below" if y < feet else "above"
-        where += "" if not world.is_beyond(y) else ", above the world" if y > world.highest else ", below the world"
+        end = "above the world" if y > world.highest else "below the world" if y < world.lowest else ""
+        where = ", ".join(filter(None, ("feet" if y == feet else "body" if met else "", end))) or ("below" if y < feet else "above")
         yield Panel("y = %d, %s" % (y, where), 0, 2, [low[0], y, low[2]], [high[0], y, high[2]], scale)
 
 
