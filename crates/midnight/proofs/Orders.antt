@@ -4,13 +4,12 @@ use mathlib.Core.Path.{_≡_, refl, sym, ap, _∙_, subst}
 use mathlib.Core.Bool.{Bool, true, false, not, _||_}
 use mathlib.Core.List.{List, [], _∷_, _++_, map, append-assoc}
 use Prim.Native.Nat.{ℕ, zero, suc, _+_, _*_, _≤_, _<_}
-use native.Mathlib.Numerals.{add-one}
 use native.Mathlib.Nat.{zero-add, not-suc-le-zero}
 use native.Mathlib.Omega.{arith}
 use lib.Dec.{T, ltb, eqb, eqb→eq, nltb→le}
-use lib.ListN.{length, take, drop, getD, set, length-append, List·getD-map}
+use lib.ListN.{length, take, drop, getD, length-append, List·getD-map}
 use lib.Ieee.{Float}
-use lib.Seq.{sets, sets-eq, take-at, drop-at, drop-append-add}
+use lib.Seq.{take-at, drop-at, drop-append-add}
 use borrow.Author.Tests.{ne-eqb}
 use Rattle.base.specs.Choose.{choose}
 use Rattle.base.specs.Loop.{listed, stored}
@@ -18,7 +17,7 @@ use Rattle.table_check.specs.Check.{tableRefusal}
 use Rattle.midnight.specs.Rows.{Row, rowOf, rowAt, windowAt, namedIn, answerWidth, answerNumbers}
 use Rattle.midnight.specs.Answers.{Lent, singleStep, answerOf}
 use Rattle.midnight.specs.Run.{countRefusal, runRefusal, bodiesOf, answerRow, rowsOf, runWritten, answersIn}
-use Rattle.midnight.proofs.Parts.{listed-length, listed-at, map-listed}
+use Rattle.midnight.proofs.Parts.{stored-front, listed-length, listed-at, map-listed}
 use Rattle.midnight.proofs.Bodies.{Named, single}
 
 -- ---- what a call that is not refused passed
@@ -49,17 +48,6 @@ passed lent bodies room e =
     }
 
 -- ---- rows one behind the other
-
-stored-sets : {A : Type 0} (l : List A) (i : ℕ) (xs : List A) → stored l i xs ≡ sets l i xs
-unfolding stored
-stored-sets l i [] = refl
-stored-sets l i (x ∷ xs) = ap (λ (k : ℕ). stored (set l i x) k xs) (add-one i) ∙ stored-sets (set l i x) (suc i) xs
-
--- stored from the start on: they stand there, and what lies beyond is as it was
-stored-front : {A : Type 0} (l xs : List A) (n : ℕ) → length xs ≡ n → n ≤ length l → stored l 0 xs ≡ xs ++ drop n l
-stored-front {A} l xs n e h =
-    let z : 0 + length xs ≡ n = omega arith in
-    stored-sets l 0 xs ∙ sets-eq xs l 0 (rw z h) ∙ ap (λ (k : ℕ). xs ++ drop k l) z
 
 rows-length : (lent : Lent) (rows : List Row) → length (rowsOf lent rows) ≡ length rows * answerWidth
 unfolding rowsOf

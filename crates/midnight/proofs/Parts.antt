@@ -3,19 +3,20 @@ use mathlib.Core.Path.{_≡_, refl, sym, ap, _∙_}
 use mathlib.Core.List.{List, [], _∷_, _++_, map, append-nil}
 use Prim.Native.Nat.{ℕ, zero, suc, _+_, _-_, _≤_, _<_}
 use native.Mathlib.Nat.{not-suc-le-zero}
+use native.Mathlib.Numerals.{add-one}
 use native.Mathlib.Omega.{arith}
 use lib.ListN.{length, take, drop, getD, set, length-drop, length-set, take-append-drop, drop-of-length-le}
-use lib.Seq.{take-all, take-nil, set-out, drop-set-add, take-set-le}
+use lib.Seq.{sets, sets-eq, take-all, take-nil, set-out, drop-set-add, take-set-le}
 use Rattle.base.specs.Loop.{listed, stored}
 
 -- ---- so many from a place on, or what there is of them
 
 module _ {A : Type 0} (l : List A) (at count : ℕ) where
-  pub whole-part : (many : ℕ) → many ≡ count → take (at + many - at) (drop at l) ≡ take count (drop at l)
-  whole-part many e = let q : at + many - at ≡ count = omega arith in ap (λ (k : ℕ). take k (drop at l)) q
+  pub whole-part : take (at + count - at) (drop at l) ≡ take count (drop at l)
+  whole-part = let q : at + count - at ≡ count = omega arith in ap (λ (k : ℕ). take k (drop at l)) q
 
-  pub short-part : (many : ℕ) → many ≡ count → length l - at < many → take (length l - at) (drop at l) ≡ take count (drop at l)
-  short-part many e h =
+  pub short-part : length l - at < count → take (length l - at) (drop at l) ≡ take count (drop at l)
+  short-part h =
       let n = length-drop at l in
       let few : length (drop at l) ≤ length l - at = omega (arith, n) in
       let all : length (drop at l) ≤ count = omega (arith, n) in
@@ -73,6 +74,17 @@ stored-beyond l i [] h = refl
 stored-beyond {A} l i (x ∷ xs) h =
     let later : length l ≤ i + 1 = omega arith in
     ap (λ (r : List A). stored r (i + 1) xs) (set-out l i x h) ∙ stored-beyond l (i + 1) xs later
+
+stored-sets : {A : Type 0} (l : List A) (i : ℕ) (xs : List A) → stored l i xs ≡ sets l i xs
+unfolding stored
+stored-sets l i [] = refl
+stored-sets l i (x ∷ xs) = ap (λ (k : ℕ). stored (set l i x) k xs) (add-one i) ∙ stored-sets (set l i x) (suc i) xs
+
+-- stored from the start on: they stand there, and what lies beyond is as it was
+pub stored-front : {A : Type 0} (l xs : List A) (n : ℕ) → length xs ≡ n → n ≤ length l → stored l 0 xs ≡ xs ++ drop n l
+stored-front {A} l xs n e h =
+    let z : 0 + length xs ≡ n = omega arith in
+    stored-sets l 0 xs ∙ sets-eq xs l 0 (rw z h) ∙ ap (λ (k : ℕ). xs ++ drop k l) z
 
 -- ---- listed
 

@@ -8,6 +8,7 @@ use lib.Ieee.{Float}
 use Rattle.base.specs.Choose.{choose}
 use Rattle.base.specs.Loop.{listed, stored}
 use Rattle.table_check.specs.Check.{tableRefusal}
+use Rattle.falls.specs.declared.FallingAnswer.{FallingAnswer}
 use Rattle.midnight.specs.Rows.{Row, rowOf, rowAt, answerWidth, answerNumbers}
 use Rattle.midnight.specs.Answers.{Lent, answerOf}
 
@@ -31,6 +32,10 @@ bodiesOf numbers words bodies = listed (rowAt numbers words) bodies 0
 
 abbrev pub answerRow : Lent → Row → List Float
 answerRow lent row = answerNumbers (answerOf lent row)
+
+-- a body's answer goes to its own row, refused or not
+abbrev pub rowWritten : List Float → ℕ → FallingAnswer → List Float
+rowWritten out i a = stored out (i * answerWidth) (answerNumbers a)
 
 -- one body's numbers behind the other's
 unfoldable pub rowsOf : Lent → List Row → List Float

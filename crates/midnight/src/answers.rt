@@ -1,9 +1,12 @@
 // One body's answer, and its row in the buffer.
+use crate::WindowRow;
+use crate::rows::ANSWER_WIDTH;
+use crate::rows::NUMBER_WIDTH;
+use crate::rows::WORD_WIDTH;
 use crate::rows::scene_words;
 use crate::rows::wide;
 use crate::windows::cells_in;
 use crate::windows::window_at;
-use crate::WindowRow;
 use bodies::MotionNumbers;
 use falls::Fall;
 use falls::FallingAnswer;
@@ -11,20 +14,21 @@ use lent_numbers::put;
 use lent_steps::float_of;
 use lent_steps::put_falling;
 ghost use mathlib.Core.Path.{_≡_};
-ghost use Prim.Native.Nat.{_*_, _≤_};
+ghost use Prim.Native.Nat.{_≤_};
 ghost use lib.ListN.{getD, length};
 ghost use Rattle.base.specs.Loop.{stored};
 ghost use Rattle.tables.specs.Tables.{wordAt};
 ghost use Rattle.bodies.specs.Numbers.{numberAt};
 ghost use Rattle.lent_words.specs.Words.{wideOf};
 ghost use Rattle.falls.specs.Rule.{fallOf};
-ghost use Rattle.midnight.specs.Rows.{rowWith, isWhole, givenIn, answerWidth, answerNumbers};
+ghost use Rattle.midnight.specs.Rows.{rowWith, isWhole, givenIn, answerNumbers};
 ghost use Rattle.midnight.specs.Answers.{lentWith, refusedBody, checkedStep, answerBy};
+ghost use Rattle.midnight.specs.Run.{rowWritten};
 
 fn is_whole(numbers: &[f64], words: &[u32]) -> bool
     ensures { λ r. ⌜ r ≡ isWhole (rowWith (now (numbers .entry)) (now (words .entry))) ⌝ }
 {
-    (numbers.len() == 21) & (words.len() == 9)
+    (numbers.len() == NUMBER_WIDTH) & (words.len() == WORD_WIDTH)
 }
 
 fn given_in(numbers: &[f64], words: &[u32]) -> MotionNumbers
@@ -76,7 +80,17 @@ fn checked_step(
     let given = bodies::motion_from(numbers, last);
     let age = age_in(words);
     let fall = fall_in(numbers);
-    falls::step_falling_checked(records, shapes, own, w.window, rules, body, given, age, fall)
+    falls::step_falling_checked(
+        records,
+        shapes,
+        own,
+        w.window,
+        rules,
+        body,
+        given,
+        age,
+        fall,
+    )
 }
 
 // What the check of a window said; 2 for one that is none.
@@ -114,7 +128,7 @@ pub(crate) fn answer_of(
     refused_body(3, numbers, words)
 }
 
-// A row of the buffer, as `answerNumbers` has it.
+// The numbers of an answer, as `answerNumbers` has them.
 fn put_answer(row: &mut [f64], a: FallingAnswer)
     requires { ⌜ 1 ≤ length (now row) ⌝ }
     ensures { λ _. ⌜ now (row .exit) ≡ stored (now (row .entry)) 0 (answerNumbers a) ⌝ }
@@ -125,9 +139,9 @@ fn put_answer(row: &mut [f64], a: FallingAnswer)
 
 // The answer of body i, in row i of a buffer that has it.
 pub(crate) fn put_row(out: &mut [f64], i: u32, a: FallingAnswer)
-    ensures { λ _. ⌜ now (out .exit) ≡ stored (now (out .entry)) (i * answerWidth) (answerNumbers a) ⌝ }
+    ensures { λ _. ⌜ now (out .exit) ≡ rowWritten (now (out .entry)) i a ⌝ }
 {
-    let at = wide(i) * 11;
+    let at = wide(i) * ANSWER_WIDTH;
     if at < out.len() {
         put_answer(&mut out[at..], a);
     }

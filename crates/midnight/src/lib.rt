@@ -5,6 +5,8 @@ mod answers;
 mod rows;
 mod windows;
 
+use rows::ANSWER_WIDTH;
+use rows::wide;
 use window::Window;
 ghost use mathlib.Core.Path.{_≡_};
 ghost use Prim.Native.Nat.{_≤_};
@@ -33,7 +35,7 @@ fn count_refusal(windows: u32, bodies: u32, room: usize) -> u32
     if bodies > 4096 {
         return 14;
     }
-    if room < rows::wide(bodies) * 11 {
+    if room < wide(bodies) * ANSWER_WIDTH {
         return 11;
     }
     0
@@ -67,9 +69,18 @@ fn answer_all(
     let checked = windows::check_all(windows, count, cells);
     let mut i = 0u32;
     while i < bodies {
-        let body = rows::numbers_at(numbers, i);
-        let named = rows::words_at(words, i);
-        let a = answers::answer_of(records, shapes, windows, count, cells, &checked, body, named);
+        let own_numbers = rows::numbers_at(numbers, i);
+        let own_words = rows::words_at(words, i);
+        let a = answers::answer_of(
+            records,
+            shapes,
+            windows,
+            count,
+            cells,
+            &checked,
+            own_numbers,
+            own_words,
+        );
         answers::put_row(out, i, a);
         i += 1;
     }
@@ -96,6 +107,16 @@ pub fn run(
     if refusal != 0 {
         return refusal;
     }
-    answer_all(records, shapes, windows, count, cells, numbers, words, bodies, out);
+    answer_all(
+        records,
+        shapes,
+        windows,
+        count,
+        cells,
+        numbers,
+        words,
+        bodies,
+        out,
+    );
     0
 }

@@ -3,6 +3,15 @@ ghost use mathlib.Core.Path.{_≡_};
 ghost use lib.ListN.{take, drop};
 ghost use Rattle.midnight.specs.Rows.{rowOf, windowWidth, numberWidth, wordWidth};
 
+// How many words a window has, numbers and words a body, and numbers an answer.
+pub(crate) const WINDOW_WIDTH: usize = 10;
+
+pub(crate) const NUMBER_WIDTH: usize = 21;
+
+pub(crate) const WORD_WIDTH: usize = 9;
+
+pub(crate) const ANSWER_WIDTH: usize = 11;
+
 pub(crate) fn wide(x: u32) -> usize
     ensures { λ r. ⌜ r ≡ x ⌝ }
 {
@@ -10,14 +19,12 @@ pub(crate) fn wide(x: u32) -> usize
 }
 
 // So many numbers from a place on.
-fn numbers_from(numbers: &[f64], at: usize, count: u32) -> &[f64]
+fn numbers_from(numbers: &[f64], at: usize, count: usize) -> &[f64]
     ensures { λ r. ⌜ now r ≡ take count (drop at (now (numbers .entry))) ⌝ }
 {
     if at < numbers.len() {
-        let left = numbers.len() - at;
-        let many = wide(count);
-        if many <= left {
-            return &numbers[at..at + many];
+        if count <= numbers.len() - at {
+            return &numbers[at..at + count];
         }
         return &numbers[at..];
     }
@@ -25,14 +32,12 @@ fn numbers_from(numbers: &[f64], at: usize, count: u32) -> &[f64]
 }
 
 // So many words from a place on.
-pub(crate) fn words_from(words: &[u32], at: usize, count: u32) -> &[u32]
+pub(crate) fn words_from(words: &[u32], at: usize, count: usize) -> &[u32]
     ensures { λ r. ⌜ now r ≡ take count (drop at (now (words .entry))) ⌝ }
 {
     if at < words.len() {
-        let left = words.len() - at;
-        let many = wide(count);
-        if many <= left {
-            return &words[at..at + many];
+        if count <= words.len() - at {
+            return &words[at..at + count];
         }
         return &words[at..];
     }
@@ -42,19 +47,19 @@ pub(crate) fn words_from(words: &[u32], at: usize, count: u32) -> &[u32]
 pub(crate) fn window_row(windows: &[u32], j: u32) -> &[u32]
     ensures { λ r. ⌜ now r ≡ rowOf windowWidth (now (windows .entry)) j ⌝ }
 {
-    words_from(windows, wide(j) * 10, 10)
+    words_from(windows, wide(j) * WINDOW_WIDTH, WINDOW_WIDTH)
 }
 
 pub(crate) fn numbers_at(numbers: &[f64], i: u32) -> &[f64]
     ensures { λ r. ⌜ now r ≡ rowOf numberWidth (now (numbers .entry)) i ⌝ }
 {
-    numbers_from(numbers, wide(i) * 21, 21)
+    numbers_from(numbers, wide(i) * NUMBER_WIDTH, NUMBER_WIDTH)
 }
 
 pub(crate) fn words_at(words: &[u32], i: u32) -> &[u32]
     ensures { λ r. ⌜ now r ≡ rowOf wordWidth (now (words .entry)) i ⌝ }
 {
-    words_from(words, wide(i) * 9, 9)
+    words_from(words, wide(i) * WORD_WIDTH, WORD_WIDTH)
 }
 
 // The words of a row behind the number of its window and its age.

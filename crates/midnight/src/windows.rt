@@ -1,5 +1,6 @@
 // Windows in rows, and their check.
 use crate::WindowRow;
+use crate::rows::WINDOW_WIDTH;
 use crate::rows::wide;
 use crate::rows::window_row;
 use crate::rows::words_from;
@@ -40,7 +41,7 @@ pub(crate) fn window_at(windows: &[u32], j: u32) -> WindowRow
 pub(crate) fn cells_in(cells: &[u32], row: WindowRow) -> &[u32]
     ensures { λ r. ⌜ now r ≡ cellsIn (now (cells .entry)) row ⌝ }
 {
-    words_from(cells, wide(row.first), row.count)
+    words_from(cells, wide(row.first), wide(row.count))
 }
 
 // 0, or 2.
@@ -48,7 +49,7 @@ fn refusal_at(windows: &[u32], cells: &[u32], j: u32) -> u32
     ensures { λ r. ⌜ r ≡ refusalAt (now (windows .entry)) (now (cells .entry)) j ⌝ }
 {
     let words = window_row(windows, j);
-    if words.len() == 10 {
+    if words.len() == WINDOW_WIDTH {
         let row = window_at(windows, j);
         let end = wide(row.first) + wide(row.count);
         if end <= cells.len() {

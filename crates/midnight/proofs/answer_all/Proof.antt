@@ -55,10 +55,11 @@ loop-again c =
     let a = c .before .before .before .before .before .before .before .before .before .before .before .before .before .before .before .before .before .before .args in
     let lent : Lent = lentWith (a .records .now) (a .shapes .now) (a .windows .now) (a .count) (a .cells .now) in
     let rows : ℕ → Row = rowAt (a .numbers .now) (a .words .now) in
-    let said = rw (c .before .before .before .before .before .before .words-at .ensures, c .before .before .before .before .before .before .before .numbers-at .ensures) at (c .before .before .before .before .answer-of .ensures) in
-    (search needs,
-    rw (c .before .before .put-row .ensures) (stored-length (at-loop .out) _ _ ∙ at-loop .inv .1),
-    rows-turn lent rows (a .bodies) (at-loop .i) (at-loop .out) _ (c .before .before .before .before .before .before .before .before .before .before .check-all .result) (c .before .before .before .before .before .before .before .before .before .before .before .before .before .before .before .before .before .before .pre) (c .before .before .before .before .before .before .before .before .before .before .check-all .ensures) _ (c .before .before .before .before .answer-of .result) said (c .before .before .put-row .ensures) (c .before .before .before .before .before .before .before .before .loop-test .taken) (at-loop .inv .2))
+    let said = rw (c .before .before .before .before .before .before .words-at .ensures, c .before .before .before .before .before .before .before .numbers-at .ensures) at (c .before .before .before .before .answer-of .ensures) in (
+      search needs,
+      rw (c .before .before .put-row .ensures) (stored-length (at-loop .out) _ _ ∙ at-loop .inv .1),
+      rows-turn lent rows (a .bodies) (at-loop .i) (at-loop .out) _ (c .before .before .before .before .before .before .before .before .before .before .check-all .result) (c .before .before .before .before .before .before .before .before .before .before .before .before .before .before .before .before .before .before .pre) (c .before .before .before .before .before .before .before .before .before .before .check-all .ensures) _ (c .before .before .before .before .answer-of .result) said (c .before .before .put-row .ensures) (c .before .before .before .before .before .before .before .before .loop-test .taken) (at-loop .inv .2),
+    )
 
 same-length : tie.Need-same-length Inv-loop μ-loop
 same-length c = c .before .loop .inv .1

@@ -33,9 +33,10 @@ returns-2 c =
     let a = c .before .before .before .before .before .before .before .before .before .before .before .before .before .args in
     let lent : Lent = lentWith (a .records .now) (a .shapes .now) (a .windows .now) (a .count) (a .cells .now) in
     let told = c .before .before .before .before .before .run-refusal .ensures in
-    let none = c .before .before .before .before .if1 .left in
-    (zero-told lent (a .numbers .now) (a .words .now) (a .bodies) (a .out .now) _ told none,
-    accepted-run lent (a .numbers .now) (a .words .now) (a .bodies) (a .out .now) _ told none _ (c .before .before .answer-all .ensures))
+    let none = c .before .before .before .before .if1 .left in (
+      zero-told lent (a .numbers .now) (a .words .now) (a .bodies) (a .out .now) _ told none,
+      accepted-run lent (a .numbers .now) (a .words .now) (a .bodies) (a .out .now) _ told none _ (c .before .before .answer-all .ensures),
+    )
 
 pub run-spec : {M : Type 1} → statement M
 run-spec =

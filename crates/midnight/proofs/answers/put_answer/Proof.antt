@@ -33,7 +33,7 @@ same-length c = search needs
 
 returns : tie.Need-returns
 unfolding stored
-returns c = 
+returns c =
     let a = c .before .before .before .before .before .before .before .before .before .before .args in
     let numbers : List Float = fallingNumbers (a .a) in
     put-behind (c .before .before .before .before .before .before .put .last .0) (c .before .before .put-falling .last .0) 1 numbers (c .before .before .put-falling .ensures)

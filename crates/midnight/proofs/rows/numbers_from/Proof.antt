@@ -4,11 +4,8 @@ use borrow.Author.Needs.{needs}
 use Rattle.midnight.proofs.rows.numbers_from.Statement.{statement}
 use Rattle.midnight.proofs.rows.numbers_from.Tie as tie
 
-sub-left : tie.Need-sub-left
-sub-left c = search needs
-
-wide-requires : tie.Need-wide-requires
-wide-requires c κs = search needs
+sub-if2 : tie.Need-sub-if2
+sub-if2 c = search needs
 
 add-result : tie.Need-add-result
 add-result c = search needs
@@ -26,7 +23,7 @@ part-result-end : tie.Need-part-result-end
 part-result-end c = search needs
 
 returns : tie.Need-returns
-returns c = whole-part (c .before .before .before .before .before .args .numbers .now) (c .before .before .before .before .before .args .at) (c .before .before .before .before .before .args .count) (c .before .before .wide .result) (c .before .before .wide .ensures)
+returns c = whole-part (c .before .before .before .args .numbers .now) (c .before .before .before .args .at) (c .before .before .before .args .count)
 
 mul-result-2 : tie.Need-mul-result-2
 mul-result-2 c = search needs
@@ -41,7 +38,7 @@ part-result-end-2 : tie.Need-part-result-end-2
 part-result-end-2 c = search needs
 
 returns-2 : tie.Need-returns-2
-returns-2 c = short-part (c .before .before .before .before .before .args .numbers .now) (c .before .before .before .before .before .args .at) (c .before .before .before .before .before .args .count) (c .before .before .wide .result) (c .before .before .wide .ensures) (c .before .if2 .left)
+returns-2 c = short-part (c .before .before .before .args .numbers .now) (c .before .before .before .args .at) (c .before .before .before .args .count) (c .before .if2 .left)
 
 sub-result-3 : tie.Need-sub-result-3
 sub-result-3 c = search needs
@@ -53,14 +50,13 @@ part-result-end-3 : tie.Need-part-result-end-3
 part-result-end-3 c = search needs
 
 returns-3 : tie.Need-returns-3
-returns-3 c = no-part (c .before .before .before .args .numbers .now) (c .before .before .before .args .at) (c .before .before .before .args .count) (c .before .if1 .left)
+returns-3 c = no-part (c .before .before .args .numbers .now) (c .before .before .args .at) (c .before .before .args .count) (c .before .if1 .left)
 
 pub numbers-from-spec : {M : Type 1} → statement M
 numbers-from-spec =
     tie.close
     (tie.spec
-    sub-left
-    wide-requires
+    sub-if2
     add-result
     mul-result
     sub-result
