@@ -252,6 +252,13 @@ fn look_unchecked(words: &[u32]) {
     look(b"no height, above the world", &one, flat, pos(0, 1, 0));
 }
 
+// From 2^32 columns on none has a word, lent or not.
+fn look_crowded() {
+    let one = [1u32];
+    look(b"2^32 - 65536 columns, the first", &one, window_in(pos(0, 0, 0), 65536, 0, 65535, 0, 0), pos(0, 1, 0));
+    look(b"2^32 columns, the first", &one, window_in(pos(0, 0, 0), 65536, 0, 65536, 0, 0), pos(0, 1, 0));
+}
+
 fn look_all(words: &[u32]) {
     look_inside(words);
     look_past_rim(words);
@@ -263,6 +270,7 @@ fn look_all(words: &[u32]) {
     look_rows();
     look_far_out(words);
     look_unchecked(words);
+    look_crowded();
 }
 
 fn run(words: &[u32]) {
