@@ -8,7 +8,7 @@ use native.Mathlib.Omega.{arith}
 use lib.IntN.{ℤ, pos, negsuc, subℕ, _+ℤ_, _-ℤ_}
 use lib.Signed.{ltZ}
 use lib.Dec.{T, ltb, eqb, nltb→le}
-use lib.ListN.{length, getD}
+use lib.ListN.{getD}
 use borrow.Author.Tests.{ltb-true, lt-ltb}
 use Rattle.base.specs.Choose.{choose}
 use Rattle.base.specs.Ask.{Ask, refused, found, _>>=_}
@@ -18,7 +18,7 @@ use Rattle.cover.specs.declared.Side.the-variants.{North, East, South, West}
 use Rattle.tables.specs.Tables.{wordAt, isRegistered}
 use Rattle.window.specs.declared.Pos.{Pos}
 use Rattle.window.specs.declared.Window.{Window}
-use Rattle.window.specs.Window.{columnInside, heightInside, isVoid, indexOf, columnIndexOf}
+use Rattle.window.specs.Window.{columnInside, heightInside, isVoid, indexOf, columnIndexOf, columnLent}
 use Rattle.window.specs.Look.{Block, none, some, lookAt, stepped}
 use Rattle.joining.specs.declared.Joined.{Joined}
 use Rattle.connect.specs.Connect.{wayTo, upwards, connects, straight, raisedBy, connectKind, joins, post, transitions, postTransition, besideNeighbours, connectedState}
@@ -167,7 +167,7 @@ void-shape words w records p y a b =
 pub state-inside : (words : List ℕ) (w : Window) (p : Pos) (s : ℕ) → isVoid w p ≡ false → lookAt words w p ≡ found (some s) → heightInside w p ≡ true
 unfolding lookAt choose
 state-inside words w p s v e =
-    go (columnInside w p && ltb (columnIndexOf w p) (length words)) (eqb (getD words (columnIndexOf w p) 0) 0) (isVoid w p) (heightInside w p) (getD words (indexOf w p) 0) v e
+    go (columnInside w p && columnLent words w p) (eqb (getD words (columnIndexOf w p) 0) 0) (isVoid w p) (heightInside w p) (getD words (indexOf w p) 0) v e
   where
     no : {A : Type 0} → _≡_ {A = ℕ} 0 1 → A
     no e = absurd (omega arith)

@@ -19,6 +19,7 @@ use Rattle.window.specs.declared.Sizes.{Sizes}
 use Rattle.window.specs.declared.Window.{Window}
 use Rattle.window.specs.Window.{within, columnInside, heightInside, isVoid, indexAt, cellCount, columnCount, indexOf, columnIndexOf, sizesFit, originFits, heightsFit, columnsFit, windowFits, windowRefusal}
 use Rattle.window.specs.Look.{Block, none, some, lookAt}
+use Rattle.window.proofs.Check.{sizes-small, column-count}
 use Rattle.window.proofs.Offsets.{ahead, below-size, place-below}
 
 same-coordinate : (o : ℤ) (n : ℕ) (c d : ℤ) → within o n c ≡ true → within o n d ≡ true → natAbs (c -ℤ o) ≡ natAbs (d -ℤ o) → c ≡ d
@@ -131,29 +132,32 @@ column-lent words w p f c =
     behind k h = omega arith
 
 module _ (words : List ℕ) (w : Window) (p : Pos) (f : windowFits words w ≡ true) (c : columnInside w p ≡ true) where
+  few : ltb (columnCount (w .sizes)) 4294967296 ≡ true
+  few = let k = column-count (w .sizes) (sizes-small (w .sizes) (fits words w f .sizes)) in lt-ltb (columnCount (w .sizes)) 4294967296 (omega arith)
+
   lent : ltb (columnIndexOf w p) (length words) ≡ true
   lent = lt-ltb (columnIndexOf w p) (length words) (column-lent words w p f c)
 
   -- a column that is not loaded reads so at every height, in the window's or not
   pub column-unloaded : eqb (getD words (columnIndexOf w p) 0) 0 ≡ true → lookAt words w p ≡ found none
   unfolding lookAt choose
-  column-unloaded u = rw (c, lent, u)
+  column-unloaded u = rw (c, few, lent, u)
 
   module _ (loaded : eqb (getD words (columnIndexOf w p) 0) 0 ≡ false) where
     -- above and below the world a loaded column reads air, whatever the window holds there
     pub void-is-air : isVoid w p ≡ true → lookAt words w p ≡ found (some (w .air))
     unfolding lookAt choose
-    void-is-air v = rw (c, lent, loaded, v)
+    void-is-air v = rw (c, few, lent, loaded, v)
 
     -- within the world a cell beyond the window's height is refused with 5
     pub beyond-refused : isVoid w p ≡ false → heightInside w p ≡ false → lookAt words w p ≡ refused 5
     unfolding lookAt choose
-    beyond-refused v h = rw (c, lent, loaded, v, h)
+    beyond-refused v h = rw (c, few, lent, loaded, v, h)
 
     -- and inside it is found: what stands at its place
     pub inside-found : isVoid w p ≡ false → heightInside w p ≡ true → lookAt words w p ≡ found (some (getD words (indexOf w p) 0))
     unfolding lookAt choose
-    inside-found v h = rw (c, lent, loaded, v, h)
+    inside-found v h = rw (c, few, lent, loaded, v, h)
 
 -- the check's answer
 pub accepted : (words : List ℕ) (w : Window) → windowRefusal words w ≡ 0 → windowFits words w ≡ true

@@ -2,6 +2,5 @@
 pub mod Signs
 pub mod Order
 pub mod Offsets
-pub mod Places
 pub mod Check
 pub mod Cells

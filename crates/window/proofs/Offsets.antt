@@ -2,8 +2,8 @@
 use mathlib.Core.Path.{_≡_, refl, sym, _∙_, subst}
 use mathlib.Core.Bool.{Bool, true, false, not, _&&_, false≢true}
 use mathlib.Core.List.{List}
-use Prim.Native.Nat.{ℕ, _+_, _*_, _<_, _^_}
-use native.Mathlib.Nat.{mul-comm, mul-assoc}
+use Prim.Native.Nat.{ℕ, _+_, _*_, _≤_, _<_, _^_}
+use native.Mathlib.Nat.{mul-comm, mul-assoc, mul-le-mul}
 use native.Mathlib.Omega.{arith}
 use lib.Arith.{digits-lt}
 use lib.Dec.{T, leb, ltb, eqb}
@@ -63,6 +63,10 @@ pub place-below : (s : Sizes) (x y z : ℕ) → x < s .x → y < s .y → z < s 
 place-below s x y z hx hy hz =
     subst (λ (n : ℕ). indexAt s x y z < n) (mul-comm (s .y * s .z) (s .x) ∙ sym (mul-assoc (s .x) (s .y) (s .z))) (digits-lt (digits-lt hy hz) hx)
 
+-- the words of lower layers stand before those of higher ones
+pub place-under : (layer up at y : ℕ) → y < up → y * layer + at ≤ up * layer + at
+place-under layer up at y h = let q : y * layer ≤ up * layer = mul-le-mul (omega arith) (omega arith) in omega arith
+
 -- the same places by layers; the words of the columns stand where a layer above the highest would
 pub cell-place : (s : Sizes) (x y z : ℕ) → y * columnCount s + (z * s .x + x) ≡ indexAt s x y z
 cell-place s x y z = omega arith
@@ -70,15 +74,17 @@ cell-place s x y z = omega arith
 pub column-place : (s : Sizes) (x z : ℕ) → s .y * columnCount s + (z * s .x + x) ≡ cellCount s + (z * s .x + x)
 column-place s x z = omega arith
 
--- ---- the look-up, where a, b and c say whether a cell is within on each axis; the column's word stands at k, and the cell's at j
-looked-in : (words : List ℕ) (a b c void : Bool) (air i k m j : ℕ) → i ≡ k → m ≡ j
-    → asked (choose a (choose c (choose (ltb i (length words)) (inColumn (getD words i 0) air void (choose b (State (getD words m 0)) Outside)) Outside) Outside) Outside)
-    ≡ choose (not ((a && c) && ltb k (length words))) (refused 5)
+-- ---- the look-up, where a, b and c say whether a cell is within on each axis, and t whether its column may have a word; that stands at k, and the
+-- cell's at j
+looked-in : (words : List ℕ) (a b c t void : Bool) (air i k m j : ℕ) → i ≡ k → m ≡ j
+    → asked (choose a (choose c (choose t (choose (ltb i (length words)) (inColumn (getD words i 0) air void (choose b (State (getD words m 0)) Outside)) Outside) Outside) Outside) Outside)
+    ≡ choose (not ((a && c) && (t && ltb k (length words)))) (refused 5)
     (choose (eqb (getD words k 0) 0) (found none) (choose void (found (some air)) (choose (not b) (refused 5) (found (some (getD words j 0))))))
 unfolding choose
-looked-in words false b c void air i k m j e f = refl
-looked-in words true b false void air i k m j e f = refl
-looked-in words true b true void air i k m j e f = rw (e, f) (column (ltb k (length words)) (eqb (getD words k 0) 0) void b)
+looked-in words false b c t void air i k m j e f = refl
+looked-in words true b false t void air i k m j e f = refl
+looked-in words true b true false void air i k m j e f = refl
+looked-in words true b true true void air i k m j e f = rw (e, f) (column (ltb k (length words)) (eqb (getD words k 0) 0) void b)
   where
     column : (t u v b : Bool)
         → asked (choose t (choose u Unloaded (choose v (State air) (choose b (State (getD words j 0)) Outside))) Outside)
@@ -97,4 +103,4 @@ looked words w p =
     let o = w .origin in
     let s = w .sizes in
     rw (within-by (o .x) (s .x) (p .x), within-by (o .y) (s .y) (p .y), within-by (o .z) (s .z) (p .z))
-    (looked-in words _ _ _ (isVoid w p) (w .air) _ _ _ _ (column-place s _ _) (cell-place s _ _ _))
+    (looked-in words _ _ _ _ (isVoid w p) (w .air) _ _ _ _ (column-place s _ _) (cell-place s _ _ _))

@@ -3,9 +3,9 @@
 use mathlib.Core.Bool.{not, _&&_}
 use mathlib.Core.List.{List}
 use Prim.Native.Nat.{ℕ}
-use lib.Dec.{ltb, eqb}
+use lib.Dec.{eqb}
 use lib.IntN.{_+ℤ_}
-use lib.ListN.{length, getD}
+use lib.ListN.{getD}
 use Rattle.base.specs.Choose.{choose}
 use Rattle.base.specs.Ask.{Ask, refused, found}
 use Rattle.window.specs.declared.Pos.{Pos}
@@ -13,7 +13,7 @@ use Rattle.window.specs.declared.CellStep.{CellStep}
 use Rattle.window.specs.declared.Window.{Window}
 use Rattle.window.specs.declared.Cell.{Cell}
 use Rattle.window.specs.declared.Cell.the-variants.{Outside, Unloaded, State}
-use Rattle.window.specs.Window.{columnInside, heightInside, isVoid, indexOf, columnIndexOf}
+use Rattle.window.specs.Window.{columnInside, heightInside, isVoid, indexOf, columnIndexOf, columnLent}
 
 -- what the Rust's `block_at` answers: None where the chunk is not loaded
 pub data Block : Type 0 where
@@ -23,7 +23,7 @@ pub data Block : Type 0 where
 -- a column for which the host lent no word is refused as one outside is; no window that passes its check has one
 unfoldable pub lookAt : List ℕ → Window → Pos → Ask Block
 lookAt words w p =
-    choose (not (columnInside w p && ltb (columnIndexOf w p) (length words))) (refused 5)
+    choose (not (columnInside w p && columnLent words w p)) (refused 5)
     (choose (eqb (getD words (columnIndexOf w p) 0) 0) (found none)
     (choose (isVoid w p) (found (some (w .air)))
     (choose (not (heightInside w p)) (refused 5)

@@ -17,10 +17,6 @@ use Rattle.window.specs.Window.{columnCount}
 abbrev pub isAhead : ℤ → ℕ → Bool
 isAhead n size = leZ (pos 0) n && ltZ n (pos size)
 
--- where the word `at` of its layer stands, so many layers up; for large layers no further than n, beyond which no word was lent
-unfoldable pub placeIn : ℕ → ℕ → ℕ → ℕ → ℕ
-placeIn layer up at n = choose (ltb layer 4294967296) (up * layer + at) (choose (ltb (up * layer + at) n) (up * layer + at) n)
-
 -- by what the column's word says: `void` says whether the cell lies above or below the world
 abbrev pub inColumn : ℕ → ℕ → Bool → Cell → Cell
 inColumn v air void cell = choose (eqb v 0) Unloaded (choose void (State air) cell)
@@ -28,8 +24,10 @@ inColumn v air void cell = choose (eqb v 0) Unloaded (choose void (State air) ce
 -- The words of the columns stand where a layer above the window's highest would. Each layer has so many words, and the column's is `at`.
 unfoldable pub lookDown : List ℕ → ℕ → ℕ → ℕ → ℕ → Bool → ℤ → Cell
 lookDown words layer at height air void y =
-    choose (ltb (height * layer + at) (length words))
+    choose (ltb layer 4294967296)
+    (choose (ltb (height * layer + at) (length words))
     (inColumn (getD words (height * layer + at) 0) air void (choose (isAhead y height) (State (getD words (natAbs y * layer + at) 0)) Outside))
+    Outside)
     Outside
 
 unfoldable pub lookIn : List ℕ → Sizes → ℕ → Bool → ℤ → ℤ → ℤ → Cell

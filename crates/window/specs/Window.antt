@@ -2,7 +2,7 @@
 use mathlib.Core.Bool.{Bool, _&&_, _||_}
 use mathlib.Core.List.{List}
 use Prim.Native.Nat.{ℕ, _+_, _*_}
-use lib.Dec.{leb, eqb}
+use lib.Dec.{leb, ltb, eqb}
 use lib.IntN.{ℤ, pos, natAbs, _+ℤ_, _-ℤ_}
 use lib.ListN.{length, getD}
 use lib.Signed.{leZ, ltZ}
@@ -49,6 +49,11 @@ indexOf w p =
 unfoldable pub columnIndexOf : Window → Pos → ℕ
 columnIndexOf w p =
     cellCount (w .sizes) + (natAbs (p .z -ℤ w .origin .z) * w .sizes .x + natAbs (p .x -ℤ w .origin .x))
+
+-- whether it was lent. A look-up asks for no check before it, and sizes may be any u32: of 2^32 columns and more none has a word, so that every
+-- place is a number of 64 bits. No window that passes its check has so many.
+abbrev pub columnLent : List ℕ → Window → Pos → Bool
+columnLent words w p = ltb (columnCount (w .sizes)) 4294967296 && ltb (columnIndexOf w p) (length words)
 
 -- ---- the check
 

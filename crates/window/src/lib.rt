@@ -10,7 +10,7 @@ ghost use lib.IntN.{_+ℤ_, _-ℤ_};
 ghost use lib.Signed.{ltZ};
 ghost use Rattle.window.specs.Window.{sizeFits, sizesFit, coordinateFits, originFits, heightsFit, columnFits, columnsFit, windowRefusal};
 ghost use Rattle.window.specs.Look.{lookAt, asked, stepped};
-ghost use Rattle.window.specs.Offsets.{isAhead, placeIn, lookDown, lookIn};
+ghost use Rattle.window.specs.Offsets.{isAhead, lookDown, lookIn};
 
 pub struct Pos {
     pub x: i32,
@@ -61,25 +61,6 @@ fn is_ahead(n: i64, size: u32) -> bool
     (0 <= n) & (n < size as i64)
 }
 
-// Where a word stands that is the word `at` of its layer, so many layers up: any number from n on where it is not one of n words. Only where a
-// layer has 2^32 words and more might the place not fit in a u64.
-fn place(layer: u64, up: u32, at: u64, n: u64) -> u64
-    requires { ⌜ at < layer ⌝ }
-    ensures { λ r. ⌜ r ≡ placeIn layer up at n ⌝ }
-{
-    let up = up as u64;
-    if layer < 4294967296 {
-        return up * layer + at;
-    }
-    if at < n {
-        if up <= (n - 1 - at) / layer {
-            return up * layer + at;
-        }
-        return n;
-    }
-    n
-}
-
 // Whether y and d together lie above or below the world.
 fn is_void(y: i32, d: i8, lowest: i32, highest: i32) -> bool
     ensures { λ r. ⌜ r ≡ ltZ (y +ℤ d) lowest || ltZ highest (y +ℤ d) ⌝ }
@@ -89,26 +70,29 @@ fn is_void(y: i32, d: i8, lowest: i32, highest: i32) -> bool
 }
 
 // The column decides, then the world's ends, then the window's height. The column's word stands where that of a cell above the highest would, so
-// that where it was lent the cells below it were.
+// that where it was lent the cells below it were. Below 2^32 columns no place wraps.
 fn look_down(words: &[u32], layer: u64, at: u64, height: u32, air: u32, void: bool, y: i64) -> Cell
     requires { ⌜ at < layer ⌝ }
     ensures { λ r. ⌜ r ≡ lookDown (now (words .entry)) layer at height air void y ⌝ }
 {
-    let i = place(layer, height, at, words.len() as u64) as usize;
-    if i < words.len() {
-        if words[i] == 0 {
-            return Cell::Unloaded;
+    if layer < 4294967296 {
+        let i = ((height as u64) * layer + at) as usize;
+        if i < words.len() {
+            if words[i] == 0 {
+                return Cell::Unloaded;
+            }
+            if void {
+                return Cell::State(air);
+            }
+            if is_ahead(y, height) {
+                let k = ((y as u64) * layer + at) as usize;
+                return Cell::State(words[k]);
+            }
+            return Cell::Outside; // beyond on y
         }
-        if void {
-            return Cell::State(air);
-        }
-        if is_ahead(y, height) {
-            let k = ((y as u64) * layer + at) as usize;
-            return Cell::State(words[k]);
-        }
-        return Cell::Outside; // beyond on y
+        return Cell::Outside; // no word was lent
     }
-    Cell::Outside
+    Cell::Outside // too many columns
 }
 
 // The cell at three offsets.

@@ -1,4 +1,4 @@
--- `view::check_view` meets its contract: a walk of its MIR, by hand. The view is taken apart, and `check_window` is called on cells and numbers.
+-- `window_view::check_view` meets its contract: a walk of its MIR, by hand. The view is taken apart, and `check_window` is called on cells and numbers.
 -- All that the proof knows of `check_window` is that it meets its contract.
 use mathlib.Core.Path.{_≡_, refl}
 use Prim.Native.Nat.{ℕ}
@@ -41,18 +41,18 @@ use denote.Triple.Clauses.{ensured, lasts}
 use Rattle.window.specs.Window.{windowRefusal}
 use Rattle.window.proofs.Window as N
 use Rattle.window.proofs.Window.Laws as N′
-use Rattle.view.specs.declared.View.{View}
-use Rattle.view.proofs.Apart.{Whole, Parts, apart}
-use Rattle.view.proofs.View as T
-use Rattle.view.proofs.View.Laws as T′
+use Rattle.window_view.specs.declared.View.{View}
+use Rattle.window_view.proofs.Apart.{Whole, Parts, apart}
+use Rattle.window_view.proofs.View as T
+use Rattle.window_view.proofs.View.Laws as T′
 use Rattle.window.proofs.check_window as callee
 use Rattle.window.proofs.check_window.Symbol as callee-def
 use Rattle.window.proofs.check_window.Symbol.{name as #window·check-window}
 use Rattle.window.proofs.check_window.Met as callee-thm
-use Rattle.view.proofs.check_view.Key.{name as #view·check-view}
-use Rattle.view.proofs.check_view as here
-use Rattle.view.proofs.check_view.Statement as stated
-use Rattle.view.proofs.check_view.Code as code
+use Rattle.window_view.proofs.check_view.Key.{name as #window-view·check-view}
+use Rattle.window_view.proofs.check_view as here
+use Rattle.window_view.proofs.check_view.Statement as stated
+use Rattle.window_view.proofs.check_view.Code as code
 
 -- the view's type, over the signature's lifetimes
 abbrev B : Lfts 1 → RattleType
@@ -159,6 +159,6 @@ pub check-view-spec : {M : Type 1} → stated.statement M
 unfolding code.routine tablesOf
 check-view-spec 𝓤 H 𝓜 𝓖 𝓡 =
     entered 𝓤 H (tripleOf 𝓤 H (𝓖 .A) here.signature (here.spec 𝓤 H (𝓖 .A) (𝓜 .mem) (𝓡 .run)))
-    (tables 𝓤 H 𝓜 𝓡 code.env .C) (tables 𝓤 H 𝓜 𝓡 code.env .Λ) #view·check-view code.function (code.unfolded 𝓤 H 𝓜 𝓡)
+    (tables 𝓤 H 𝓜 𝓡 code.env .C) (tables 𝓤 H 𝓜 𝓡 code.env .Λ) #window-view·check-view code.function (code.unfolded 𝓤 H 𝓜 𝓡)
     (meets 𝓤 H (𝓖 .A) (givenOf 𝓤 H 𝓜 𝓖) (𝓜 .mem) (𝓡 .run) (tablesOf 𝓤 H 𝓜 (tables 𝓤 H 𝓜 𝓡 code.env))
     (cited 𝓤 H (Plain 𝓤 H (𝓖 .A) (𝓜 .mem) (𝓡 .run)) 𝓜 𝓡 code.env #window·check-window callee-def.routine code.calls-window·check-window (callee-thm.met 𝓤 H 𝓜 𝓖 𝓡)))

@@ -1,4 +1,4 @@
--- `view::look_view` meets its contract: a walk of its MIR, by hand. The view is taken apart, and `look` is called on cells, numbers and place.
+-- `window_view::look_view` meets its contract: a walk of its MIR, by hand. The view is taken apart, and `look` is called on cells, numbers and place.
 -- All that the proof knows of `look` is that it meets its contract.
 use mathlib.Core.Path.{_≡_, refl}
 use mathlib.Core.List.{List, [], _∷_}
@@ -47,18 +47,18 @@ use Rattle.window.proofs.Pos as P
 use Rattle.window.proofs.Pos.Laws as P′
 use Rattle.window.proofs.Cell as S
 use Rattle.window.proofs.Cell.Laws as S′
-use Rattle.view.specs.declared.View.{View}
-use Rattle.view.proofs.Apart.{Whole, Parts, apart}
-use Rattle.view.proofs.View as T
-use Rattle.view.proofs.View.Laws as T′
+use Rattle.window_view.specs.declared.View.{View}
+use Rattle.window_view.proofs.Apart.{Whole, Parts, apart}
+use Rattle.window_view.proofs.View as T
+use Rattle.window_view.proofs.View.Laws as T′
 use Rattle.window.proofs.look as callee
 use Rattle.window.proofs.look.Symbol as callee-def
 use Rattle.window.proofs.look.Symbol.{name as #window·look}
 use Rattle.window.proofs.look.Met as callee-thm
-use Rattle.view.proofs.look_view.Key.{name as #view·look-view}
-use Rattle.view.proofs.look_view as here
-use Rattle.view.proofs.look_view.Statement as stated
-use Rattle.view.proofs.look_view.Code as code
+use Rattle.window_view.proofs.look_view.Key.{name as #window-view·look-view}
+use Rattle.window_view.proofs.look_view as here
+use Rattle.window_view.proofs.look_view.Statement as stated
+use Rattle.window_view.proofs.look_view.Code as code
 
 -- the view's type, over the signature's lifetimes
 abbrev B : Lfts 1 → RattleType
@@ -166,6 +166,6 @@ pub look-view-spec : {M : Type 1} → stated.statement M
 unfolding code.routine tablesOf
 look-view-spec 𝓤 H 𝓜 𝓖 𝓡 =
     entered 𝓤 H (tripleOf 𝓤 H (𝓖 .A) here.signature (here.spec 𝓤 H (𝓖 .A) (𝓜 .mem) (𝓡 .run)))
-    (tables 𝓤 H 𝓜 𝓡 code.env .C) (tables 𝓤 H 𝓜 𝓡 code.env .Λ) #view·look-view code.function (code.unfolded 𝓤 H 𝓜 𝓡)
+    (tables 𝓤 H 𝓜 𝓡 code.env .C) (tables 𝓤 H 𝓜 𝓡 code.env .Λ) #window-view·look-view code.function (code.unfolded 𝓤 H 𝓜 𝓡)
     (meets 𝓤 H (𝓖 .A) (givenOf 𝓤 H 𝓜 𝓖) (𝓜 .mem) (𝓡 .run) (tablesOf 𝓤 H 𝓜 (tables 𝓤 H 𝓜 𝓡 code.env))
     (cited 𝓤 H (Plain 𝓤 H (𝓖 .A) (𝓜 .mem) (𝓡 .run)) 𝓜 𝓡 code.env #window·look callee-def.routine code.calls-window·look (callee-thm.met 𝓤 H 𝓜 𝓖 𝓡)))
