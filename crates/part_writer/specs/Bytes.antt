@@ -2,13 +2,13 @@
 -- are a function f of their places.
 use mathlib.Core.Bool.{Bool, _&&_}
 use mathlib.Core.List.{List, [], _∷_, _++_}
-use Prim.Native.Nat.{ℕ, zero, suc, _+_, _-_, _*_, _/_, _%_, _^_}
-use lib.Dec.{eqb, ltb, leb}
+use Prim.Native.Nat.{ℕ, zero, suc, _+_, _*_, _/_, _%_, _^_}
+use lib.Dec.{ltb, leb}
 use lib.ListN.{length, getD}
 use Rattle.base.specs.Choose.{choose}
 use Rattle.base.specs.Loop.{stored}
 use Rattle.blocks.specs.declared.Part.{Part}
-use Rattle.blocks.specs.Blocks.{fileWord, mark, checkOf, perBlock, blocksOf, endOf, usedIn}
+use Rattle.blocks.specs.Blocks.{mark, checkOf, perBlock, blocksOf, endOf, usedIn}
 
 -- lists one behind the other: g 0, g 1 and so on, as many as the number says
 unfoldable pub joined : (ℕ → List ℕ) → ℕ → List ℕ
@@ -29,17 +29,20 @@ bytesOf word n = joined (λ k. wordBytes (word k)) n
 
 -- ---- a block
 
--- words 0 to 126: the mark, "word 1 the kind; word 2 the block's number from 0; 3 to 125 payload; 126 zero", "unused words zero"
-unfoldable pub headWord : ℕ → ℕ → (ℕ → ℕ) → ℕ → ℕ → ℕ
-headWord number kind f used k =
-    choose (eqb k 0) (fileWord mark 0) (choose (eqb k 1) kind (choose (eqb k 2) number (choose (ltb (k - 3) used) (f (k - 3)) 0)))
+-- "Word 0 is the four bytes 53 43 4E 31; word 1 the kind; word 2 the block's number from 0"
+unfoldable pub headBytes : ℕ → ℕ → List ℕ
+headBytes number kind = mark ++ (wordBytes kind ++ wordBytes number)
+
+-- "3 to 125 payload; 126 zero", "unused words zero": word 3 + i
+unfoldable pub payloadWord : (ℕ → ℕ) → ℕ → ℕ → ℕ
+payloadWord f used i = choose (ltb i used) (f i) 0
 
 -- "127 the check" of what stands before it
 unfoldable pub withCheck : List ℕ → List ℕ
-withCheck head = head ++ wordBytes (checkOf head)
+withCheck before = before ++ wordBytes (checkOf before)
 
 unfoldable pub blockBytes : ℕ → ℕ → (ℕ → ℕ) → ℕ → List ℕ
-blockBytes number kind f used = withCheck (bytesOf (headWord number kind f used) 127)
+blockBytes number kind f used = withCheck (headBytes number kind ++ bytesOf (payloadWord f used) 124)
 
 -- ---- a part: its blocks, one after the other
 
@@ -50,13 +53,13 @@ partBlock p f j = blockBytes (p .first + j) (p .kind) (λ k. f (j * perBlock (p 
 unfoldable pub partBytes : Part → (ℕ → ℕ) → List ℕ
 partBytes p f = joined (partBlock p f) (blocksOf p)
 
--- the part ends within a scene's 128 blocks, and within the buffer
-unfoldable pub partRoom : List ℕ → Part → Bool
-partRoom out p = leb (endOf p) 128 && leb (endOf p * 512) (length out)
+-- the part ends within a scene's 128 blocks, and within a buffer of this size
+unfoldable pub partRoom : ℕ → Part → Bool
+partRoom size p = leb (endOf p) 128 && leb (endOf p * 512) size
 
 -- the buffer with the part's bytes at their place; as it was where there is no room for them
 unfoldable pub writtenPart : List ℕ → Part → (ℕ → ℕ) → List ℕ
-writtenPart out p f = choose (partRoom out p) (stored out (p .first * 512) (partBytes p f)) out
+writtenPart out p f = choose (partRoom (length out) p) (stored out (p .first * 512) (partBytes p f)) out
 
 -- word i of lent words; one that is not there is 0
 abbrev pub wordIn : List ℕ → ℕ → ℕ

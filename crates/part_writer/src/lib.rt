@@ -2,11 +2,11 @@
 // no room nothing is written.
 use blocks::Part;
 ghost use mathlib.Core.Path.{_≡_};
-ghost use Prim.Native.Nat.{_+_, _*_, _≤_, _%_};
+ghost use Prim.Native.Nat.{_+_, _*_, _≤_};
 ghost use lib.ListN.{length};
 ghost use lib.Ieee.{binary32, toBits};
 ghost use Rattle.base.specs.Loop.{stored};
-ghost use Rattle.part_writer.specs.Bytes.{wordBytes, headWord, blockBytes, partRoom, writtenPart, wordIn};
+ghost use Rattle.part_writer.specs.Bytes.{wordBytes, bytesOf, headBytes, payloadWord, blockBytes, partRoom, writtenPart, wordIn};
 
 // Word k of a block, its lowest byte first.
 fn put_word(block: &mut [u8], k: u32, w: u32)
@@ -27,44 +27,56 @@ fn word_in(words: &[u32], i: usize) -> u32
     if i < words.len() { words[i] } else { 0 }
 }
 
-// Words 0 to 126 of a block: the mark, the kind, the number, the payload from word `from` of the part on, and zeros.
-fn head_word(number: u32, kind: u32, words: &[u32], from: u32, used: u32, k: u32) -> u32
-    ensures { λ r. ⌜ r ≡ headWord number kind (λ i. wordIn (now (words .entry)) (from + i)) used k ⌝ }
+// Word 3 + i of a block: the payload from word `from` of the part on, and zeros.
+fn payload_word(words: &[u32], from: u32, used: u32, i: u32) -> u32
+    ensures { λ r. ⌜ r ≡ payloadWord (λ k. wordIn (now (words .entry)) (from + k)) used i ⌝ }
 {
-    if k == 0 {
-        return blocks::mark_word();
-    }
-    if k == 1 {
-        return kind;
-    }
-    if k == 2 {
-        return number;
-    }
-    let i = k - 3;
     if i < used {
         return word_in(words, from as usize + i as usize);
     }
     0
 }
 
+// Words 0 to 2: the mark, the kind and the number.
+fn put_head(block: &mut [u8], number: u32, kind: u32)
+    requires { ⌜ 12 ≤ length (now block) ⌝ }
+    ensures { λ _. ⌜ now (block .exit) ≡ stored (now (block .entry)) 0 (headBytes number kind) ⌝ }
+{
+    put_word(block, 0, blocks::mark_word());
+    put_word(block, 1, kind);
+    put_word(block, 2, number);
+}
+
+// Words 3 to 126.
+fn put_payload(block: &mut [u8], words: &[u32], from: u32, used: u32)
+    requires { ⌜ 508 ≤ length (now block) ⌝ }
+    ensures { λ _. ⌜ now (block .exit) ≡ stored (now (block .entry)) 12 (bytesOf (payloadWord (λ k. wordIn (now (words .entry)) (from + k)) used) 124) ⌝ }
+{
+    let mut i = 0u32;
+    while i < 124 {
+        put_word(block, 3 + i, payload_word(words, from, used, i));
+        i += 1;
+    }
+}
+
 // A block: its words, and behind them the check of what was written.
 fn fill_block(block: &mut [u8], number: u32, kind: u32, words: &[u32], from: u32, used: u32)
     requires { ⌜ length (now block) ≡ 512 ⌝ }
-    ensures { λ _. ⌜ now (block .exit) ≡ blockBytes number kind (λ i. wordIn (now (words .entry)) (from + i)) used ⌝ }
+    ensures { λ _. ⌜ now (block .exit) ≡ blockBytes number kind (λ k. wordIn (now (words .entry)) (from + k)) used ⌝ }
 {
-    let mut k = 0u32;
-    while k < 127 {
-        put_word(block, k, head_word(number, kind, words, from, used, k));
-        k += 1;
-    }
+    put_head(block, number, kind);
+    put_payload(block, words, from, used);
     let check = blocks::check_of(block);
     put_word(block, 127, check);
 }
 
-fn part_room(room: usize, p: Part) -> bool {
+// The part ends within 128 blocks, and within so many bytes.
+fn part_room(size: usize, p: Part) -> bool
+    ensures { λ r. ⌜ r ≡ partRoom size p ⌝ }
+{
     let end = blocks::end_of(p);
     if end <= 128 {
-        return end * 512 <= room;
+        return end * 512 <= size;
     }
     false
 }
