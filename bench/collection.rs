@@ -8,7 +8,7 @@ use std::time::Instant;
 unsafe extern "C" {
     fn boltjuniper_way(
         records: *const u32, records_len: usize, shapes: *const f32, shapes_len: usize, cells: *const u32, cells_len: usize,
-        ox: i32, oy: i32, oz: i32, sx: u32, sy: u32, sz: u32,
+        ox: i32, oy: i32, oz: i32, sx: u32, sy: u32, sz: u32, lowest: i32, highest: i32, air: u32,
         x0: f64, y0: f64, z0: f64, x1: f64, y1: f64, z1: f64, dx: f64, dy: f64, dz: f64, step: f64, ground: u32, k: u32,
     ) -> f64;
 }
@@ -105,21 +105,30 @@ mod original {
     pub fn block_collision_aabbs(state: u32) -> impl Iterator<Item = Aabb> {
         SHAPES.get().unwrap()[state as usize].iter().map(to_aabb)
     }
+    /// As bench/standins.rs has it.
     pub struct Window<'a> {
         pub registry: &'a BlockRegistry,
         pub cells: &'a [u32],
+        pub columns: &'a [u32],
         pub origin: IVec3,
         pub sizes: IVec3,
+        pub lowest: i32,
+        pub highest: i32,
+        pub air: u32,
     }
     impl BlockSource for Window<'_> {
         fn block_at(&self, p: IVec3) -> Option<u32> {
             let (x, y, z) = (p.x - self.origin.x, p.y - self.origin.y, p.z - self.origin.z);
             let s = self.sizes;
-            assert!(x >= 0 && y >= 0 && z >= 0 && x < s.x && y < s.y && z < s.z, "outside the window");
-            match self.cells[((y * s.z + z) * s.x + x) as usize] {
-                u32::MAX => None,
-                state => Some(state),
+            assert!(x >= 0 && z >= 0 && x < s.x && z < s.z, "outside the window");
+            if self.columns[(z * s.x + x) as usize] == 0 {
+                return None;
             }
+            if p.y < self.lowest || p.y > self.highest {
+                return Some(self.air);
+            }
+            assert!(y >= 0 && y < s.y, "outside the window");
+            Some(self.cells[((y * s.z + z) * s.x + x) as usize])
         }
         fn registry(&self) -> &BlockRegistry {
             self.registry
@@ -131,6 +140,9 @@ mod original {
 use original::{collect_block_boxes, move_aabb, plain_registry, Aabb, BlockRegistry, DVec3, IVec3, Window, SHAPES};
 
 const SIZE: i32 = 8;
+/// The world's lowest and highest cell: the window lies within.
+const LOWEST: i32 = -64;
+const HIGHEST: i32 = 319;
 
 struct Scene {
     cells: Vec<u32>,
@@ -139,7 +151,9 @@ struct Scene {
 }
 impl Scene {
     fn window<'a>(&'a self, registry: &'a BlockRegistry) -> Window<'a> {
-        Window { registry, cells: &self.cells, origin: IVec3::new(-4, -4, -4), sizes: IVec3::new(SIZE, SIZE, SIZE) }
+        let (cells, columns) = self.cells.split_at((SIZE * SIZE * SIZE) as usize);
+        let (origin, sizes) = (IVec3::new(-4, -4, -4), IVec3::new(SIZE, SIZE, SIZE));
+        Window { registry, cells, columns, origin, sizes, lowest: LOWEST, highest: HIGHEST, air: 0 }
     }
     fn aabb(&self) -> Aabb {
         let a = self.mover;
@@ -156,7 +170,7 @@ fn ours(records: &[u32], shapes: &[f32], s: &Scene, k: u32) -> f64 {
     unsafe {
         boltjuniper_way(
             records.as_ptr(), records.len(), shapes.as_ptr(), shapes.len(), s.cells.as_ptr(), s.cells.len(),
-            -4, -4, -4, SIZE as u32, SIZE as u32, SIZE as u32, a[0], a[1], a[2], a[3], a[4], a[5], d[0], d[1], d[2], 0.0, 0, k,
+            -4, -4, -4, SIZE as u32, SIZE as u32, SIZE as u32, LOWEST, HIGHEST, 0, a[0], a[1], a[2], a[3], a[4], a[5], d[0], d[1], d[2], 0.0, 0, k,
         )
     }
 }
@@ -228,6 +242,7 @@ fn main() {
                     let (i, j, k) = (n % 3, n / 9, n / 3 % 3);
                     cells[(((j + 4) * SIZE + (k + 3)) * SIZE + (i + 3)) as usize] = 1 + (next() % 3) as u32;
                 }
+                cells.resize((SIZE * SIZE * (SIZE + 1)) as usize, 1); // every column is loaded
                 Scene { cells, mover: [x, 1.2, z, x + 2.0, 2.4, z + 2.0], delta: [0.5, -1.15, 0.5] }
             })
             .collect();

@@ -12,11 +12,13 @@ use standins::{BlockRegistry, DVec3, IVec3, Window, current_at, registry_of};
 unsafe extern "C" {
     fn boltjuniper_item_current(
         records: *const u32, records_len: usize, cells: *const u32, cells_len: usize, ox: i32, oy: i32, oz: i32, sx: u32, sy: u32, sz: u32,
-        x: f64, y: f64, z: f64, width: f64, height: f64, out: *mut f64, out_len: usize,
+        lowest: i32, highest: i32, air: u32, x: f64, y: f64, z: f64, width: f64, height: f64, out: *mut f64, out_len: usize,
     ) -> u32;
 }
 
 const SIZE: i32 = 8;
+/// The world's lowest and highest cell: the window lies within.
+const WORLD: (i32, i32) = (-64, 319);
 
 struct Scene {
     cells: Vec<u32>,
@@ -29,14 +31,15 @@ fn ours(records: &[u32], s: &Scene, out: &mut [f64; 4]) -> u32 {
     let n = SIZE as u32;
     unsafe {
         boltjuniper_item_current(
-            records.as_ptr(), records.len(), s.cells.as_ptr(), s.cells.len(), -4, -4, -4, n, n, n, x, y, z, 1.5, 1.5, out.as_mut_ptr(), 4,
+            records.as_ptr(), records.len(), s.cells.as_ptr(), s.cells.len(), -4, -4, -4, n, n, n, WORLD.0, WORLD.1, 0, x, y, z, 1.5, 1.5,
+            out.as_mut_ptr(), 4,
         )
     }
 }
 
 #[inline(never)]
 fn rusts(registry: &BlockRegistry, s: &Scene, out: &mut [f64; 4]) -> u32 {
-    let w = Window { registry, cells: &s.cells, origin: IVec3::new(-4, -4, -4), sizes: IVec3::new(SIZE, SIZE, SIZE) };
+    let w = Window::new(registry, &s.cells, IVec3::new(-4, -4, -4), IVec3::new(SIZE, SIZE, SIZE), WORLD);
     let (v, water) = current_at(&w, DVec3::new(s.feet[0], s.feet[1], s.feet[2]), 1.5, 1.5);
     *out = [v.x, v.y, v.z, f64::from(u8::from(water))];
     0
@@ -96,6 +99,7 @@ fn main() {
                         },
                     };
                 }
+                cells.resize((SIZE * SIZE * (SIZE + 1)) as usize, 1); // every column is loaded
                 let part = |n: u32| f64::from(n) / 1000.0;
                 Scene { cells, feet: [-0.2 + part(next(400)), 0.1 + part(next(300)), -0.2 + part(next(400))] }
             })

@@ -171,22 +171,38 @@ pub fn registry_of(records: &[u32], shapes: &[f32]) -> BlockRegistry {
     r
 }
 
-/// A window of cells. A cell outside it ends the program: no scene of a bench asks for one.
+/// A window of cells and columns in a world of so many layers, and the state of its sky and its void. What lies outside it ends the program: no scene
+/// of a bench asks for that.
 pub struct Window<'a> {
     pub registry: &'a BlockRegistry,
     pub cells: &'a [u32],
+    pub columns: &'a [u32],
     pub origin: IVec3,
     pub sizes: IVec3,
+    pub lowest: i32,
+    pub highest: i32,
+    pub air: u32,
+}
+impl<'a> Window<'a> {
+    /// Over the words that ours is lent: the cells, then the columns. The air is state 0.
+    pub fn new(registry: &'a BlockRegistry, words: &'a [u32], origin: IVec3, sizes: IVec3, (lowest, highest): (i32, i32)) -> Self {
+        let (cells, columns) = words.split_at((sizes.x * sizes.y * sizes.z) as usize);
+        Self { registry, cells, columns, origin, sizes, lowest, highest, air: 0 }
+    }
 }
 impl BlockSource for Window<'_> {
     fn block_at(&self, p: IVec3) -> Option<u32> {
         let (x, y, z) = (p.x - self.origin.x, p.y - self.origin.y, p.z - self.origin.z);
         let s = self.sizes;
-        assert!(x >= 0 && y >= 0 && z >= 0 && x < s.x && y < s.y && z < s.z, "outside the window");
-        match self.cells[((y * s.z + z) * s.x + x) as usize] {
-            u32::MAX => None,
-            state => Some(state),
+        assert!(x >= 0 && z >= 0 && x < s.x && z < s.z, "outside the window");
+        if self.columns[(z * s.x + x) as usize] == 0 {
+            return None;
         }
+        if p.y < self.lowest || p.y > self.highest {
+            return Some(self.air);
+        }
+        assert!(y >= 0 && y < s.y, "outside the window");
+        Some(self.cells[((y * s.z + z) * s.x + x) as usize])
     }
     fn registry(&self) -> &BlockRegistry {
         self.registry

@@ -12,23 +12,26 @@ use standins::{
 };
 
 type Step = unsafe extern "C" fn(
-    *const u32, usize, *const f32, usize, *const u32, usize, i32, i32, i32, u32, u32, u32, *const f64, usize, *const u32, usize, u64, *mut f64, usize,
+    *const u32, usize, *const f32, usize, *const u32, usize, i32, i32, i32, u32, u32, u32, i32, i32, *const f64, usize, *const u32, usize, u64,
+    *mut f64, usize,
 ) -> u32;
 unsafe extern "C" {
     fn boltjuniper_step(
         records: *const u32, records_len: usize, shapes: *const f32, shapes_len: usize, cells: *const u32, cells_len: usize, ox: i32, oy: i32,
-        oz: i32, sx: u32, sy: u32, sz: u32, numbers: *const f64, numbers_len: usize, words: *const u32, words_len: usize, age: u64,
-        out: *mut f64, out_len: usize,
+        oz: i32, sx: u32, sy: u32, sz: u32, lowest: i32, highest: i32, numbers: *const f64, numbers_len: usize, words: *const u32,
+        words_len: usize, age: u64, out: *mut f64, out_len: usize,
     ) -> u32;
     fn boltjuniper_step_checked(
         records: *const u32, records_len: usize, shapes: *const f32, shapes_len: usize, cells: *const u32, cells_len: usize, ox: i32, oy: i32,
-        oz: i32, sx: u32, sy: u32, sz: u32, numbers: *const f64, numbers_len: usize, words: *const u32, words_len: usize, age: u64,
-        out: *mut f64, out_len: usize,
+        oz: i32, sx: u32, sy: u32, sz: u32, lowest: i32, highest: i32, numbers: *const f64, numbers_len: usize, words: *const u32,
+        words_len: usize, age: u64, out: *mut f64, out_len: usize,
     ) -> u32;
 }
 
 const SIZE: i32 = 16;
 const LOW: i32 = -8;
+/// The world's lowest and highest cell: the windows lie within.
+const WORLD: (i32, i32) = (-64, 319);
 const TICKS: usize = 8;
 const PASSES: usize = 200;
 
@@ -87,7 +90,7 @@ fn tables() -> (Vec<u32>, Vec<f32>) {
     (records, shapes)
 }
 
-/// One step to take: a window's cells, the body, and where it is.
+/// One step to take: a window's cells and columns, the body, and where it is.
 struct Call<'a> {
     cells: &'a [u32],
     body: PhysicsBody,
@@ -129,14 +132,14 @@ fn ours(f: Step, records: &[u32], shapes: &[f32], c: &Call, out: &mut [f64; 8]) 
     unsafe {
         f(
             records.as_ptr(), records.len(), shapes.as_ptr(), shapes.len(), c.cells.as_ptr(), c.cells.len(), LOW, LOW, LOW, n, n, n,
-            c.numbers.as_ptr(), 19, c.words.as_ptr(), 6, c.age, out.as_mut_ptr(), 8,
+            WORLD.0, WORLD.1, c.numbers.as_ptr(), 19, c.words.as_ptr(), 6, c.age, out.as_mut_ptr(), 8,
         )
     }
 }
 
 #[inline(never)]
 fn rusts(registry: &BlockRegistry, c: &Call, out: &mut [f64; 8]) -> u32 {
-    let w = Window { registry, cells: c.cells, origin: IVec3::new(LOW, LOW, LOW), sizes: IVec3::new(SIZE, SIZE, SIZE) };
+    let w = Window::new(registry, c.cells, IVec3::new(LOW, LOW, LOW), IVec3::new(SIZE, SIZE, SIZE), WORLD);
     let (mut v, mut ground) = (c.velocity, c.ground);
     let (p, liquid) = step_body_sensed(&w, &c.body, c.feet, &mut v, &mut ground, c.age);
     let liquid = match liquid {
@@ -200,6 +203,7 @@ fn main() {
                     _ => 0,
                 };
             }
+            cells.resize((SIZE * SIZE * (SIZE + 1)) as usize, 1); // every column is loaded
             (kind, cells)
         })
         .collect();

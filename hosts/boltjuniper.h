@@ -16,8 +16,20 @@
 extern "C" {
 #endif
 
-/* Tables: `records` has 20 words to a state, `shapes` six numbers to a box (x0 y0 z0 x1 y1 z1). A window: `cells` has the state of each cell,
-   at ((y * sz) + z) * sx + x counted from the origin ox oy oz, and 4294967295 for one that is not loaded; sx sy sz are its sizes.
+/* Tables: `records` has 20 words to a state, `shapes` six numbers to a box (x0 y0 z0 x1 y1 z1).
+
+   A window: ox oy oz is its origin, sx sy sz are its sizes, and `lowest` and `highest` are the y of the world's lowest and highest cell. `cells`
+   has the state of each cell, at ((y * sz) + z) * sx + x counted from the origin, and behind the cells one word for each column, at
+   sx * sy * sz + z * sx + x: 1 where the column is loaded, 0 where it is not. So `cells_len` is sx * sy * sz + sx * sz. A state without a record,
+   4294967295 too, is unregistered. What the rules ask for is looked up so, and the first line that fits decides:
+      a column outside the window in x or z                 refused with 5
+      a column whose word is 0                              unloaded, at every height, in the window or not
+      a y below `lowest` or above `highest`                 the air state, whatever the window holds there
+      a y outside the window                                refused with 5
+      else                                                  the cell's state
+   So neither the sky nor the void has to lie in the window. The air state of a step is that of its rules; a call without rules is given `air`.
+   Refused with 2: a size other than 1 to 64; an origin, `lowest` or `highest` beyond 2^25 in size; `lowest` over `highest`; another `cells_len`; a
+   column's word above 1.
 
    A body is handed over in the order of a scene file's first block. `numbers`, 19 of them:
       0  1  2   feet x y z                 12   flap
@@ -35,7 +47,7 @@ extern "C" {
       3   ground friction: 0 none, 1 of the block
       4   flap present, 0 or 1
       5   air state
-   Other than 19 numbers or 6 words are refused with 3. */
+   Other than 19 numbers or 6 words, or an air state without a registered record, are refused with 3. */
 
 /* Takes tables; writes nothing. Returns 0 where they keep every rule, and else 1. */
 uint32_t boltjuniper_check_tables(const uint32_t *records, size_t records_len, const float *shapes, size_t shapes_len);
@@ -44,41 +56,44 @@ uint32_t boltjuniper_check_tables(const uint32_t *records, size_t records_len, c
    (0 or 1), and the liquid that it is in (0 none, 1 water, 2 lava). Returns 0; or 1, 2, 3, 4, 11, then 5, 6 or 7 at the first such event, then
    9. */
 uint32_t boltjuniper_step(const uint32_t *records, size_t records_len, const float *shapes, size_t shapes_len, const uint32_t *cells,
-                          size_t cells_len, int32_t ox, int32_t oy, int32_t oz, uint32_t sx, uint32_t sy, uint32_t sz, const double *numbers,
-                          size_t numbers_len, const uint32_t *words, size_t words_len, uint64_t age, double *out, size_t out_len);
+                          size_t cells_len, int32_t ox, int32_t oy, int32_t oz, uint32_t sx, uint32_t sy, uint32_t sz, int32_t lowest,
+                          int32_t highest, const double *numbers, size_t numbers_len, const uint32_t *words, size_t words_len, uint64_t age,
+                          double *out, size_t out_len);
 
 /* The same for tables and a window that were checked before, once for many bodies: it looks for neither 1 nor 2, and is as safe. */
 uint32_t boltjuniper_step_checked(const uint32_t *records, size_t records_len, const float *shapes, size_t shapes_len, const uint32_t *cells,
                                   size_t cells_len, int32_t ox, int32_t oy, int32_t oz, uint32_t sx, uint32_t sy, uint32_t sz,
-                                  const double *numbers, size_t numbers_len, const uint32_t *words, size_t words_len, uint64_t age, double *out,
-                                  size_t out_len);
+                                  int32_t lowest, int32_t highest, const double *numbers, size_t numbers_len, const uint32_t *words,
+                                  size_t words_len, uint64_t age, double *out, size_t out_len);
 
 /* One tick of the scene in `file` (blocks of 512 bytes, as onetick reads them; no alignment is asked for). Writes the same eight numbers to `out`.
    Returns 0; or 8 where the file is no scene, 1, 2, 3, 4, 11, then 5, 6 or 7 at the first such event, then 9. It keeps three arrays of 15,744
    words of the file on the stack, some 190 KB: call it from a thread that has them. */
 uint32_t boltjuniper_tick(const uint8_t *file, size_t file_len, double *out, size_t out_len);
 
-/* The move of a box through a window: takes tables, a window, `mover` (the box x0 y0 z0 x1 y1 z1, then its delta x y z: nine numbers), the
-   step height, and whether the body was on the ground (0 or 1). Writes ten numbers to `out`: the box after the move, the way that it went
-   x y z, and 1 where it came to stand on the ground, else 0. Returns 0; or 1, 2, 3 (the step height, or a ground above 1), 4 (the box or the
-   delta, or other than nine numbers), 11, then 5 or 6 at the first such event. */
+/* The move of a box through a window: takes tables, a window, the air state, `mover` (the box x0 y0 z0 x1 y1 z1, then its delta x y z: nine
+   numbers), the step height, and whether the body was on the ground (0 or 1). Writes ten numbers to `out`: the box after the move, the way that
+   it went x y z, and 1 where it came to stand on the ground, else 0. Returns 0; or 1, 2, 3 (an air state without a registered record, the step
+   height, or a ground above 1), 4 (the box or the delta, or other than nine numbers), 11, then 5 or 6 at the first such event. */
 uint32_t boltjuniper_move(const uint32_t *records, size_t records_len, const float *shapes, size_t shapes_len, const uint32_t *cells,
-                          size_t cells_len, int32_t ox, int32_t oy, int32_t oz, uint32_t sx, uint32_t sy, uint32_t sz, const double *mover,
-                          size_t mover_len, double step, uint32_t ground, double *out, size_t out_len);
+                          size_t cells_len, int32_t ox, int32_t oy, int32_t oz, uint32_t sx, uint32_t sy, uint32_t sz, int32_t lowest,
+                          int32_t highest, uint32_t air, const double *mover, size_t mover_len, double step, uint32_t ground, double *out,
+                          size_t out_len);
 
-/* The move of a box over boxes of the host's own: takes `boxes`, six numbers to a box, and the rest as boltjuniper_move does, and writes the
-   same ten numbers. Returns 0; or 3 (the step height or the ground), 4 (the mover, any of the boxes, or numbers left over), 11, then 6 (more
-   than 128 boxes). */
+/* The move of a box over boxes of the host's own: takes `boxes`, six numbers to a box, and mover, step height and ground as boltjuniper_move does,
+   and writes the same ten numbers. Returns 0; or 3 (the step height or the ground), 4 (the mover, any of the boxes, or numbers left over), 11, then
+   6 (more than 128 boxes). */
 uint32_t boltjuniper_move_over_list(const double *boxes, size_t boxes_len, const double *mover, size_t mover_len, double step, uint32_t ground,
                                     double *out, size_t out_len);
 
 /* For pictures: the boxes that the move of a box through a window collects, one at a call. It takes what boltjuniper_move does, without the
    ground, and k, which box is asked for. Writes seven numbers to `out`: how many boxes there are, at most 128, and box k, zeros where k is not
-   below that. Returns 0; or 1, 2, 3 (the step height), 4 (the box or the delta, or other than nine numbers), 11, then 5 or 6 at the first such
-   event. */
+   below that. Returns 0; or 1, 2, 3 (the air state or the step height), 4 (the box or the delta, or other than nine numbers), 11, then 5 or 6 at
+   the first such event. */
 uint32_t boltjuniper_collected(const uint32_t *records, size_t records_len, const float *shapes, size_t shapes_len, const uint32_t *cells,
-                               size_t cells_len, int32_t ox, int32_t oy, int32_t oz, uint32_t sx, uint32_t sy, uint32_t sz, const double *mover,
-                               size_t mover_len, double step, uint32_t k, double *out, size_t out_len);
+                               size_t cells_len, int32_t ox, int32_t oy, int32_t oz, uint32_t sx, uint32_t sy, uint32_t sz, int32_t lowest,
+                               int32_t highest, uint32_t air, const double *mover, size_t mover_len, double step, uint32_t k, double *out,
+                               size_t out_len);
 
 #ifdef __cplusplus
 }

@@ -1,10 +1,10 @@
 """Boltjuniper for hosts in Python: what hosts/boltjuniper.h declares, over the shared library that hosts/build makes. Standard library alone.
 
     import boltjuniper as b
-    tables = b.Tables(records, shapes)                    # 20 words to a state, six numbers to a box
-    window = b.Window(cells, (0, -1, 0), (2, 4, 2))       # its cells, origin and sizes
-    b.step(tables, window, b.Body(numbers, words, age))   # Tick(feet=.., velocity=.., ground=True, liquid='none'), or raises Refused
-    b.steps(tables, window, bodies)                       # a list: for each body its Tick, or its Refused as a value
+    tables = b.Tables(records, shapes)                          # 20 words to a state, six numbers to a box
+    window = b.Window(cells, (0, -1, 0), (2, 4, 2), -64, 319)   # its cells and columns, origin and sizes, the world's lowest and highest y
+    b.step(tables, window, b.Body(numbers, words, age))         # Tick(feet=.., velocity=.., ground=True, liquid='none'), or raises Refused
+    b.steps(tables, window, bodies)                             # a list: for each body its Tick, or its Refused as a value
 
 An array of the type that is asked for (numpy's uint32, float32 and float64; array.array's I, f and d) is lent as it is, without a copy, and is only
 read; it must not be changed by another thread while the call runs. A list or a tuple of numbers is copied. Another type of array is a TypeError and
@@ -19,7 +19,8 @@ LIBRARY = os.path.join(os.path.dirname(os.path.dirname(os.path.abspath(__file__)
 # what each refusal means: the sentences of docs/REFUSALS.md
 SENTENCES = {
     1: "The tables of blocks break a rule: a count, a limit, a state that leads to another family, a face mask that does not fit its shape.",
-    2: "The window breaks a limit, or its cell count is not the product of its sizes.",
+    2: "The window or the world's heights break a limit, the lowest cell is over the highest, a column's word is above 1, or cells and columns are not "
+       "as many as the sizes say.",
     3: "A number of the body or of the rules is not finite or beyond its limit, an enum number is unknown, a yes or no is above 1, or the air state "
        "has no registered record. In a direct call also: not 19 numbers and 6 words.",
     4: "A position or velocity (in direct calls also a box or a delta) is not finite or beyond its limit. In a direct call also: not nine "
@@ -57,10 +58,13 @@ class Tables(NamedTuple):
 
 
 class Window(NamedTuple):
-    """The state of each cell at ((y * sizes z) + z) * sizes x + x, counted from the origin; 4294967295 is not loaded."""
+    """The state of each cell at ((y * sizes z) + z) * sizes x + x, counted from the origin, then a word for each column at z * sizes x + x, 1 loaded
+    or 0 not, all in `cells`; and the world's lowest and highest y. A window of other than so many words is refused with 2."""
     cells: object
     origin: tuple
     sizes: tuple
+    lowest: int
+    highest: int
 
 
 class Body(NamedTuple):
@@ -95,15 +99,15 @@ class Moved(NamedTuple):
 # ---- the library
 
 SLICE = [ctypes.c_void_p, ctypes.c_size_t]
-TABLES, WINDOW = SLICE * 2, SLICE + [ctypes.c_int32] * 3 + [ctypes.c_uint32] * 3
+TABLES, WINDOW, AIR = SLICE * 2, SLICE + [ctypes.c_int32] * 3 + [ctypes.c_uint32] * 3 + [ctypes.c_int32] * 2, [ctypes.c_uint32]
 BODY, STEP = SLICE * 2 + [ctypes.c_uint64], [ctypes.c_double, ctypes.c_uint32]
 DECLARED = {
     "check_tables": TABLES,
     "step": TABLES + WINDOW + BODY + SLICE,
     "step_checked": TABLES + WINDOW + BODY + SLICE,
-    "move": TABLES + WINDOW + SLICE + STEP + SLICE,
+    "move": TABLES + WINDOW + AIR + SLICE + STEP + SLICE,
     "move_over_list": SLICE * 2 + STEP + SLICE,
-    "collected": TABLES + WINDOW + SLICE + STEP + SLICE,
+    "collected": TABLES + WINDOW + AIR + SLICE + STEP + SLICE,
     "tick": SLICE * 2,
 }
 _loaded = {}
@@ -183,6 +187,11 @@ class _Lent:
     def window(self, window):
         self.slice("cells", window.cells, "I")
         self.arguments += [*_whole(window.origin, -2**31, 2**31), *_whole(window.sizes, 0, 2**32)]
+        self.arguments += _whole([window.lowest, window.highest], -2**31, 2**31)
+        return self
+
+    def air(self, state):
+        self.arguments += _whole([state], 0, 2**32)
         return self
 
     def body(self, body):
@@ -251,14 +260,14 @@ def tick(file):
     return _judged(_tick(_Lent().slice("file", file, "B").answer("tick", 8)))
 
 
-def move(tables, window, mover):
-    """The move of a box through a window."""
-    return _judged(_moved(_Lent().tables(tables).window(window).mover(mover).answer("move", 10)))
+def move(tables, window, air, mover):
+    """The move of a box through a window, whose sky and void are of the air state."""
+    return _judged(_moved(_Lent().tables(tables).window(window).air(air).mover(mover).answer("move", 10)))
 
 
-def collected(tables, window, mover):
+def collected(tables, window, air, mover):
     """The boxes that a move through a window collects, each least x y z and greatest x y z, in their order."""
-    lent = _Lent().tables(tables).window(window).swept(mover)
+    lent = _Lent().tables(tables).window(window).air(air).swept(mover)
 
     def count_and_box(k):
         return _judged(lent.answer("collected", 7, k))

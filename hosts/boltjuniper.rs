@@ -1,24 +1,25 @@
 //! Boltjuniper for hosts in Rust: safe wrappers around what hosts/boltjuniper.h declares of crates/exports. Link target/staticlib/libexports.a.
-//! An answer is what was written, or the number of the refusal (docs/REFUSALS.md). Lengths and flags are right by their types, so neither they
-//! nor 11 are ever the reason.
+//! An answer is what was written, or the number of the refusal (docs/REFUSALS.md). The lengths of bodies, movers and answers, and flags, are right
+//! by their types, so neither they nor 11 are ever the reason; those of tables and windows are for the library to refuse.
 
 mod linked {
     unsafe extern "C" {
         pub fn boltjuniper_check_tables(records: *const u32, records_len: usize, shapes: *const f32, shapes_len: usize) -> u32;
         pub fn boltjuniper_step(
             records: *const u32, records_len: usize, shapes: *const f32, shapes_len: usize, cells: *const u32, cells_len: usize, ox: i32, oy: i32,
-            oz: i32, sx: u32, sy: u32, sz: u32, numbers: *const f64, numbers_len: usize, words: *const u32, words_len: usize, age: u64,
-            out: *mut f64, out_len: usize,
+            oz: i32, sx: u32, sy: u32, sz: u32, lowest: i32, highest: i32, numbers: *const f64, numbers_len: usize, words: *const u32,
+            words_len: usize, age: u64, out: *mut f64, out_len: usize,
         ) -> u32;
         pub fn boltjuniper_step_checked(
             records: *const u32, records_len: usize, shapes: *const f32, shapes_len: usize, cells: *const u32, cells_len: usize, ox: i32, oy: i32,
-            oz: i32, sx: u32, sy: u32, sz: u32, numbers: *const f64, numbers_len: usize, words: *const u32, words_len: usize, age: u64,
-            out: *mut f64, out_len: usize,
+            oz: i32, sx: u32, sy: u32, sz: u32, lowest: i32, highest: i32, numbers: *const f64, numbers_len: usize, words: *const u32,
+            words_len: usize, age: u64, out: *mut f64, out_len: usize,
         ) -> u32;
         pub fn boltjuniper_tick(file: *const u8, file_len: usize, out: *mut f64, out_len: usize) -> u32;
         pub fn boltjuniper_move(
             records: *const u32, records_len: usize, shapes: *const f32, shapes_len: usize, cells: *const u32, cells_len: usize, ox: i32, oy: i32,
-            oz: i32, sx: u32, sy: u32, sz: u32, mover: *const f64, mover_len: usize, step: f64, ground: u32, out: *mut f64, out_len: usize,
+            oz: i32, sx: u32, sy: u32, sz: u32, lowest: i32, highest: i32, air: u32, mover: *const f64, mover_len: usize, step: f64, ground: u32,
+            out: *mut f64, out_len: usize,
         ) -> u32;
         pub fn boltjuniper_move_over_list(
             boxes: *const f64, boxes_len: usize, mover: *const f64, mover_len: usize, step: f64, ground: u32, out: *mut f64, out_len: usize,
@@ -36,12 +37,15 @@ pub struct Tables<'a> {
     pub shapes: &'a [f32],
 }
 
-/// The state of each cell at ((y * sizes z) + z) * sizes x + x, counted from the origin; `u32::MAX` is not loaded.
+/// The state of each cell at ((y * sizes z) + z) * sizes x + x, counted from the origin, then a word for each column at z * sizes x + x, 1 loaded
+/// or 0 not, all in `cells`; and the world's lowest and highest y. A window of other than so many words is refused with 2.
 #[derive(Clone, Copy)]
 pub struct Window<'a> {
     pub cells: &'a [u32],
     pub origin: [i32; 3],
     pub sizes: [u32; 3],
+    pub lowest: i32,
+    pub highest: i32,
 }
 
 /// A body in the order of a scene file's first block, as hosts/boltjuniper.h has it.
@@ -118,7 +122,7 @@ pub fn step(t: Tables, w: Window, b: &Body) -> Result<Tick, Refusal> {
     let refusal = unsafe {
         linked::boltjuniper_step(
             t.records.as_ptr(), t.records.len(), t.shapes.as_ptr(), t.shapes.len(), w.cells.as_ptr(), w.cells.len(), ox, oy, oz, sx, sy, sz,
-            b.numbers.as_ptr(), b.numbers.len(), b.words.as_ptr(), b.words.len(), b.age, out.as_mut_ptr(), out.len(),
+            w.lowest, w.highest, b.numbers.as_ptr(), b.numbers.len(), b.words.as_ptr(), b.words.len(), b.age, out.as_mut_ptr(), out.len(),
         )
     };
     ticked(refusal, out)
@@ -130,7 +134,7 @@ pub fn step_checked(t: Tables, w: Window, b: &Body) -> Result<Tick, Refusal> {
     let refusal = unsafe {
         linked::boltjuniper_step_checked(
             t.records.as_ptr(), t.records.len(), t.shapes.as_ptr(), t.shapes.len(), w.cells.as_ptr(), w.cells.len(), ox, oy, oz, sx, sy, sz,
-            b.numbers.as_ptr(), b.numbers.len(), b.words.as_ptr(), b.words.len(), b.age, out.as_mut_ptr(), out.len(),
+            w.lowest, w.highest, b.numbers.as_ptr(), b.numbers.len(), b.words.as_ptr(), b.words.len(), b.age, out.as_mut_ptr(), out.len(),
         )
     };
     ticked(refusal, out)
@@ -143,13 +147,13 @@ pub fn tick(file: &[u8]) -> Result<Tick, Refusal> {
     ticked(refusal, out)
 }
 
-/// The move of a box through a window.
-pub fn move_through(t: Tables, w: Window, m: Mover) -> Result<Moved, Refusal> {
+/// The move of a box through a window, whose sky and void are of the air state.
+pub fn move_through(t: Tables, w: Window, air: u32, m: Mover) -> Result<Moved, Refusal> {
     let ([ox, oy, oz], [sx, sy, sz], mover, mut out) = (w.origin, w.sizes, m.numbers(), [0.0; 10]);
     let refusal = unsafe {
         linked::boltjuniper_move(
             t.records.as_ptr(), t.records.len(), t.shapes.as_ptr(), t.shapes.len(), w.cells.as_ptr(), w.cells.len(), ox, oy, oz, sx, sy, sz,
-            mover.as_ptr(), mover.len(), m.step, m.ground as u32, out.as_mut_ptr(), out.len(),
+            w.lowest, w.highest, air, mover.as_ptr(), mover.len(), m.step, m.ground as u32, out.as_mut_ptr(), out.len(),
         )
     };
     moved(refusal, out)

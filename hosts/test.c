@@ -1,13 +1,14 @@
 /* Holds the functions of hosts/boltjuniper.h to the stored answers of the original Rust (docs/VECTORS.md). Run by hosts/run. */
 #include "boltjuniper.h"
 #include <inttypes.h>
+#include <math.h>
 #include <stdio.h>
 #include <stdlib.h>
 #include <string.h>
 
 enum { WORDS = 128 * 128, ROOM = 1 << 16 };
 
-static uint32_t file[2 * WORDS], body[48], records[WORDS], window[6], cells[WORDS];
+static uint32_t file[2 * WORDS], body[48], records[WORDS], window[8], cells[WORDS];
 static float shapes[WORDS];
 static char line[ROOM];
 static size_t block;
@@ -15,7 +16,7 @@ static size_t block;
 struct count { const char *what; int agree, differ; };
 static struct count ticks = {"tick", 0, 0}, steps = {"step", 0, 0}, checked = {"step_checked", 0, 0}, tables = {"check_tables", 0, 0},
                     moves = {"move", 0, 0}, lists = {"move_over_list", 0, 0}, collects = {"collected", 0, 0},
-                    lengths = {"lengths, ground and room", 0, 0};
+                    lengths = {"lengths, ground and room", 0, 0}, windows = {"heights, columns and air", 0, 0};
 
 static void add(struct count *c, const char *ours, const char *theirs) {
     if (strcmp(ours, theirs) == 0) {
@@ -28,7 +29,7 @@ static void add(struct count *c, const char *ours, const char *theirs) {
 
 static int tell(const struct count *c) {
     printf("C, %s: %d agree, %d differ\n", c->what, c->agree, c->differ);
-    return c->differ != 0;
+    return c->differ != 0 || c->agree == 0;
 }
 
 /* The words of the next part, `per` to a block, of a file that is a scene, so that every block is there. */
@@ -38,13 +39,16 @@ static void part(size_t per, size_t words, void *to) {
     if (words) memcpy(next, file + 128 * block++ + 3, 4 * words);
 }
 
+/* A window's cells, and a word for each of its columns. */
+static size_t cells_len(void) { return (size_t)window[3] * window[4] * window[5] + (size_t)window[3] * window[5]; }
+
 static void parts(void) {
     block = 0;
     part(48, 48, body);
     part(120, 20 * (size_t)body[46], records);
     part(120, 6 * (size_t)body[47], shapes);
-    part(6, 6, window);
-    part(123, (size_t)window[3] * window[4] * window[5], cells);
+    part(8, 8, window);
+    part(123, cells_len(), cells);
 }
 
 /* Reads a file whole (the machine is little-endian). */
@@ -87,7 +91,12 @@ static void move_text(char *to, uint32_t refusal, const double *out) {
 }
 
 typedef uint32_t step_function(const uint32_t *, size_t, const float *, size_t, const uint32_t *, size_t, int32_t, int32_t, int32_t, uint32_t,
-                               uint32_t, uint32_t, const double *, size_t, const uint32_t *, size_t, uint64_t, double *, size_t);
+                               uint32_t, uint32_t, int32_t, int32_t, const double *, size_t, const uint32_t *, size_t, uint64_t, double *, size_t);
+
+/* A scene's window, as the calls take it. */
+#define WINDOW                                                                                                                                      \
+    cells, cells_len(), (int32_t)window[0], (int32_t)window[1], (int32_t)window[2], window[3], window[4], window[5], (int32_t)window[6],            \
+        (int32_t)window[7]
 
 static void step(struct count *c, step_function *f, const char *theirs) {
     double numbers[19], out[8];
@@ -96,9 +105,7 @@ static void step(struct count *c, step_function *f, const char *theirs) {
     memcpy(numbers, body, sizeof numbers);
     memcpy(&age, body + 38, 8);
     for (int k = 0; k < 8; k++) out[k] = -1;
-    uint32_t refusal = f(records, 20 * (size_t)body[46], shapes, 6 * (size_t)body[47], cells, (size_t)window[3] * window[4] * window[5],
-                         (int32_t)window[0], (int32_t)window[1], (int32_t)window[2], window[3], window[4], window[5], numbers, 19, body + 40, 6,
-                         age, out, 8);
+    uint32_t refusal = f(records, 20 * (size_t)body[46], shapes, 6 * (size_t)body[47], WINDOW, numbers, 19, body + 40, 6, age, out, 8);
     tick_text(ours, refusal, out);
     add(c, ours, theirs);
 }
@@ -112,8 +119,9 @@ static void tick(size_t bytes, size_t room, struct count *c, const char *theirs)
 
 static void one_scene(char *theirs) {
     char path[64], ours[64];
-    sprintf(path, "crates/replay/data/%.4s.scn", theirs);
-    theirs += 5;
+    int name = (int)strcspn(theirs, " ");
+    snprintf(path, sizeof path, "crates/replay/data/%.*s.scn", name, theirs);
+    theirs += name + 1;
     size_t bytes = read_file(path);
     int first = !strncmp(theirs, "refused ", 8) && strchr("81234", theirs[8]);
     tick(bytes, 8, &ticks, theirs);
@@ -121,15 +129,14 @@ static void one_scene(char *theirs) {
     if (!strcmp(theirs, "refused 8")) return;
     parts();
     int bad = !strcmp(theirs, "refused 1"), early = bad || !strcmp(theirs, "refused 2");
-    size_t n = 20 * (size_t)body[46], m = 6 * (size_t)body[47], k = (size_t)window[3] * window[4] * window[5];
+    size_t n = 20 * (size_t)body[46], m = 6 * (size_t)body[47];
     step(&steps, boltjuniper_step, theirs);
     if (!early) step(&checked, boltjuniper_step_checked, theirs);
     sprintf(ours, "%" PRIu32, boltjuniper_check_tables(records, n, shapes, m));
     add(&tables, ours, bad ? "1" : "0");
     /* A move through the window meets 1 and 2 as the step does; its step height is then 3. */
     double mover[9] = {0}, out[10];
-    sprintf(ours, "refused %" PRIu32, boltjuniper_move(records, n, shapes, m, cells, k, (int32_t)window[0], (int32_t)window[1],
-                                                       (int32_t)window[2], window[3], window[4], window[5], mover, 9, 5, 0, out, 10));
+    sprintf(ours, "refused %" PRIu32, boltjuniper_move(records, n, shapes, m, WINDOW, body[45], mover, 9, 5, 0, out, 10));
     add(&moves, ours, early ? theirs : "refused 3");
 }
 
@@ -154,16 +161,18 @@ static void one_list(char *call) {
     add(&lists, ours, theirs);
 }
 
-/* Case A of the requirements: what its step does to the box. */
-static const uint32_t states[40] = {[0] = 1, [20] = 3, [28] = 1, [39] = 15}, ground[16] = {1, 1, 1, 1, 1, 1, 1, 1};
+/* Case A of the requirements: what its step does to the box. Its window has 16 cells and four columns, all loaded. */
+static const uint32_t states[40] = {[0] = 1, [20] = 3, [28] = 1, [39] = 15};
+static const uint32_t ground[20] = {1, 1, 1, 1, 1, 1, 1, 1, [16] = 1, 1, 1, 1};
 static const float cube[6] = {0, 0, 0, 1, 1, 1};
 static const double mover[9] = {0, 1.25, 0, 1, 2.25, 1, 0.25, -0.5, 0};
+#define CASE_A ground, 20, 0, -1, 0, 2, 4, 2, -64, 319
 
 static void case_a(void) {
     static const double theirs[10] = {0.25, 1, 0, 1.25, 2, 1, 0.25, -0.25, 0, 1};
     double out[10];
     char a[512], b[512];
-    move_text(a, boltjuniper_move(states, 40, cube, 6, ground, 16, 0, -1, 0, 2, 4, 2, mover, 9, 0, 0, out, 10), out);
+    move_text(a, boltjuniper_move(states, 40, cube, 6, CASE_A, 0, mover, 9, 0, 0, out, 10), out);
     move_text(b, 0, theirs);
     add(&moves, a, b);
 }
@@ -174,7 +183,7 @@ static void collected(void) {
     for (uint32_t k = 0; k < 3; k++) {
         double out[7];
         char a[512], b[512];
-        uint32_t refusal = boltjuniper_collected(states, 40, cube, 6, ground, 16, 0, -1, 0, 2, 4, 2, mover, 9, 0, k, out, 7);
+        uint32_t refusal = boltjuniper_collected(states, 40, cube, 6, CASE_A, 0, mover, 9, 0, k, out, 7);
         if (refusal) sprintf(a, "refused %" PRIu32, refusal);
         else put(a, "boxes", out, 7);
         put(b, "boxes", theirs[k], 7);
@@ -183,43 +192,41 @@ static void collected(void) {
 }
 
 /* Slices of other lengths than their page says, a ground above 1, and too little room: what is refused, and that nothing is written. */
-static void refuses(uint32_t ours, uint32_t theirs, double *out) {
+static void refuses(struct count *c, uint32_t ours, uint32_t theirs, double *out) {
     char a[64], b[64];
     int n = sprintf(a, "refused %" PRIu32, ours);
     for (int k = 0; theirs && k < 10; k++)
         if (out[k] != -1) sprintf(a + n, ", and something written");
     sprintf(b, "refused %" PRIu32, theirs);
-    add(&lengths, a, b);
+    add(c, a, b);
     for (int k = 0; k < 10; k++) out[k] = -1;
 }
 
 static void a_step(uint32_t theirs, size_t state_words, size_t numbers_len, size_t words_len, double gravity, size_t room) {
     double numbers[20] = {0.5, 1.25, 0.5, 0.25, 0, 0, 1, 1, 0, gravity, 0.5, 0.5}, out[10] = {-1, -1, -1, -1, -1, -1, -1, -1, -1, -1};
     static const uint32_t words[7] = {0, 3};
-    refuses(boltjuniper_step(states, state_words, cube, 6, ground, 16, 0, -1, 0, 2, 4, 2, numbers, numbers_len, words, words_len, 0, out, room),
-            theirs, out);
+    refuses(&lengths, boltjuniper_step(states, state_words, cube, 6, CASE_A, numbers, numbers_len, words, words_len, 0, out, room), theirs, out);
     if (state_words == 40)
-        refuses(boltjuniper_step_checked(states, 40, cube, 6, ground, 16, 0, -1, 0, 2, 4, 2, numbers, numbers_len, words, words_len, 0, out, room),
-                theirs, out);
+        refuses(&lengths, boltjuniper_step_checked(states, 40, cube, 6, CASE_A, numbers, numbers_len, words, words_len, 0, out, room), theirs, out);
 }
 
 static void a_move(uint32_t theirs, size_t state_words, size_t mover_len, double step_height, uint32_t on_ground, size_t room) {
     double out[10] = {-1, -1, -1, -1, -1, -1, -1, -1, -1, -1};
-    refuses(boltjuniper_move(states, state_words, cube, 6, ground, 16, 0, -1, 0, 2, 4, 2, mover, mover_len, step_height, on_ground, out, room),
-            theirs, out);
+    uint32_t ours = boltjuniper_move(states, state_words, cube, 6, CASE_A, 0, mover, mover_len, step_height, on_ground, out, room);
+    refuses(&lengths, ours, theirs, out);
 }
 
 static void a_collection(uint32_t theirs, size_t state_words, size_t mover_len, double step_height, size_t room) {
     double out[10] = {-1, -1, -1, -1, -1, -1, -1, -1, -1, -1};
-    refuses(boltjuniper_collected(states, state_words, cube, 6, ground, 16, 0, -1, 0, 2, 4, 2, mover, mover_len, step_height, 0, out, room),
-            theirs, out);
+    uint32_t ours = boltjuniper_collected(states, state_words, cube, 6, CASE_A, 0, mover, mover_len, step_height, 0, out, room);
+    refuses(&lengths, ours, theirs, out);
 }
 
 static void a_list(uint32_t theirs, size_t boxes_len, double last, size_t mover_len, uint32_t on_ground, size_t room) {
     static double many[6 * 130];
     double out[10] = {-1, -1, -1, -1, -1, -1, -1, -1, -1, -1};
     if (boxes_len) many[boxes_len - 1] = last;
-    refuses(boltjuniper_move_over_list(many, boxes_len, mover, mover_len, 0, on_ground, out, room), theirs, out);
+    refuses(&lengths, boltjuniper_move_over_list(many, boxes_len, mover, mover_len, 0, on_ground, out, room), theirs, out);
     if (boxes_len) many[boxes_len - 1] = 0;
 }
 
@@ -234,6 +241,60 @@ static void all_lengths(void) {
     a_list(4, 6 * 130, -1, 9, 0, 0), a_list(11, 6 * 130, 0, 9, 0, 0), a_list(6, 6 * 130, 0, 9, 0, 10), a_list(0, 6 * 128, 0, 9, 0, 10);
 }
 
+/* Case A's window lent with another first cell, last word, length, size, heights or air, to its body at this height: what is refused by the step, the
+   checked step (which looks for neither 1 nor 2), the move and the collection, and that nothing is written. */
+struct lent { uint32_t first, last; size_t len; uint32_t sx; int32_t oy, lowest, highest; uint32_t air; double y; size_t mover_len, room; };
+static const struct lent as_it_is = {1, 1, 20, 2, -1, -64, 319, 0, 1.25, 9, 10};
+
+static void a_window(uint32_t theirs, struct lent l) {
+    uint32_t w[21], body_words[6] = {0, 3, 0, 0, 0, l.air};
+    double numbers[19] = {0.5, l.y, 0.5, 0.25, 0, 0, 1, 1, 0, 0.5, 0.5, 0.5}, out[10] = {-1, -1, -1, -1, -1, -1, -1, -1, -1, -1};
+    double swept[9] = {0, l.y, 0, 1, l.y + 1, 1, 0.25, -0.5, 0};
+    memcpy(w, ground, sizeof ground);
+    w[0] = l.first, w[20] = 1, w[l.len - 1] = l.last;
+#define LENT states, 40, cube, 6, w, l.len, 0, l.oy, 0, l.sx, 4, 2, l.lowest, l.highest
+    refuses(&windows, boltjuniper_step(LENT, numbers, 19, body_words, 6, 0, out, l.room), theirs, out);
+    if (theirs != 2) refuses(&windows, boltjuniper_step_checked(LENT, numbers, 19, body_words, 6, 0, out, l.room), theirs, out);
+    refuses(&windows, boltjuniper_move(LENT, l.air, swept, l.mover_len, 0, 0, out, l.room), theirs, out);
+    refuses(&windows, boltjuniper_collected(LENT, l.air, swept, l.mover_len, 0, 0, out, l.room), theirs, out);
+}
+
+static void all_windows(void) {
+    struct lent l = as_it_is;
+    a_window(0, l);
+    l.lowest = 320, a_window(2, l), l = as_it_is;         /* the lowest over the highest */
+    l.lowest = 319, a_window(0, l), l = as_it_is;         /* a world of one layer, above the body, which falls in the void */
+    l.lowest = -33554432, l.highest = 33554432, a_window(0, l), l.lowest--, a_window(2, l), l = as_it_is;
+    l.highest = 33554433, a_window(2, l), l = as_it_is;
+    l.last = 2, a_window(2, l), l = as_it_is;             /* a column's word above 1 */
+    l.len = 19, a_window(2, l), l = as_it_is;             /* a column too few, and too many; cells without columns */
+    l.len = 21, a_window(2, l), l = as_it_is;
+    l.len = 16, a_window(2, l), l = as_it_is;
+    l.first = UINT32_MAX, a_window(0, l), l = as_it_is;   /* a number without a record is merely unregistered */
+    l.air = 2, a_window(3, l), l.room = 0, a_window(3, l), l.mover_len = 8, a_window(3, l); /* an air state without a record, before 4 and 11 */
+    l.last = 2, a_window(2, l), l = as_it_is;             /* and after 2 */
+    l.sx = 1, l.len = 10, a_window(5, l);                 /* the column to the east is not there, */
+    l.y = 400.25, a_window(5, l), l = as_it_is;           /* and is not taken for sky either */
+    l.oy = 0, a_window(5, l);                             /* a window that begins above what is asked for, */
+    l.lowest = 0, a_window(0, l);                         /* unless that is below the world */
+}
+
+/* Case A's body above and below the world: it falls as through a window that holds air there. Where the columns to the east are not loaded, it is
+   stopped by them at every height. */
+static void beyond(double y) {
+    static const uint32_t air[20] = {[16] = 1, 1, 1, 1}, half[20] = {[16] = 1, 0, 1, 0}, body_words[6] = {0, 3};
+    double numbers[19] = {0.5, y, 0.5, 0.25, 0, 0, 1, 1, 0, 0.5, 0.5, 0.5}, out[8];
+    double falls[8] = {0.75, y - 0.5, 0.5, 0.125, -0.25, 0, 0, 0}, stopped[8] = {0.5, y - 0.5, 0.5, 0, -0.25, 0, 0, 0};
+    char ours[512], theirs[512], halted[512];
+    tick_text(theirs, 0, falls), tick_text(halted, 0, stopped);
+    tick_text(ours, boltjuniper_step(states, 40, cube, 6, CASE_A, numbers, 19, body_words, 6, 0, out, 8), out), add(&windows, ours, theirs);
+    int32_t oy = (int32_t)floor(y) - 2;
+    tick_text(ours, boltjuniper_step(states, 40, cube, 6, air, 20, 0, oy, 0, 2, 4, 2, -999, 999, numbers, 19, body_words, 6, 0, out, 8), out);
+    add(&windows, ours, theirs);
+    tick_text(ours, boltjuniper_step(states, 40, cube, 6, half, 20, 0, -1, 0, 2, 4, 2, -64, 319, numbers, 19, body_words, 6, 0, out, 8), out);
+    add(&windows, ours, halted);
+}
+
 int main(void) {
     FILE *f = fopen("crates/replay/stdout", "r");
     if (!f) return 2;
@@ -246,7 +307,10 @@ int main(void) {
     case_a();
     collected();
     all_lengths();
-    const struct count *all[] = {&ticks, &steps, &checked, &tables, &moves, &lists, &collects, &lengths};
+    all_windows();
+    beyond(400.25);
+    beyond(-100.75);
+    const struct count *all[] = {&ticks, &steps, &checked, &tables, &moves, &lists, &collects, &lengths, &windows};
     int bad = 0;
     for (size_t k = 0; k < sizeof all / sizeof *all; k++) bad |= tell(all[k]);
     return bad;

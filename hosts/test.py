@@ -63,8 +63,8 @@ def move_text(mover, m):
 
 def parts(scene, as_array=lambda a: a):
     """A scene as the calls take it, each array as this makes it."""
-    (records, shapes), (cells, origin, sizes), (numbers, words, age) = scenefile.arrays(scene)
-    return (b.Tables(as_array(records), as_array(shapes)), b.Window(as_array(cells), origin, sizes), b.Body(as_array(numbers), as_array(words), age))
+    (records, shapes), (cells, *numbered), (numbers, words, age) = scenefile.arrays(scene)
+    return (b.Tables(as_array(records), as_array(shapes)), b.Window(as_array(cells), *numbered), b.Body(as_array(numbers), as_array(words), age))
 
 
 def as_numpy(a):
@@ -73,7 +73,8 @@ def as_numpy(a):
 
 
 COUNTS = {name: Count(name) for name in ("tick", "ticks", "step", "step_checked", "steps", "check_tables", "move", "move_over_list", "collected",
-                                         "move over what it collects", "step of numpy's arrays", "two ticks at a door", "arrays as they are")}
+                                         "move over what it collects", "step of numpy's arrays", "heights, columns and air", "two ticks at a door",
+                                         "arrays as they are")}
 
 
 def one_scene(name, theirs):
@@ -92,7 +93,7 @@ def one_scene(name, theirs):
     if not early:
         COUNTS["step_checked"].add(name, tick_text(asked(b.step_checked, tables, window, body)), theirs)
     # A move through the window meets 1 and 2 as the step does; its step height is then 3.
-    refused = asked(b.move, tables, window, b.Mover((0.0,) * 6, (0.0,) * 3, 5.0))
+    refused = asked(b.move, tables, window, body.words[5], b.Mover((0.0,) * 6, (0.0,) * 3, 5.0))
     COUNTS["move"].add(name, "refused %d" % refused.number, theirs if early else "refused 3")
     over_collected(name, tables, window, body)
     if numpy:
@@ -100,12 +101,17 @@ def one_scene(name, theirs):
 
 
 def over_collected(name, tables, window, body):
-    """A move through a window is the move over the boxes that it collects: here the body's own box, by its velocity."""
+    """A move through a window is the move over the boxes that it collects: here the body's own box, by its velocity. Only a block beyond the limit on
+    boxes can be met in a window and not handed in."""
     (x, y, z), delta, (width, height), step = body.numbers[:3], body.numbers[3:6], body.numbers[6:8], body.numbers[13]
     mover = b.Mover((x - width / 2, y, z - width / 2, x + width / 2, y + height, z + width / 2), tuple(delta), step, body.words[0])
-    boxes = asked(b.collected, tables, window, mover)
+    air = body.words[5]
+    boxes = asked(b.collected, tables, window, air, mover)
     over = boxes if isinstance(boxes, b.Refused) else asked(b.move_over_list, [number for box in boxes for number in box], mover)
-    COUNTS["move over what it collects"].add(name, move_text(mover, asked(b.move, tables, window, mover)), move_text(mover, over))
+    if isinstance(boxes, list) and any(abs(number) > 2**25 for box in boxes for number in box):
+        COUNTS["move over what it collects"].add(name, over, b.Refused(4))
+        return
+    COUNTS["move over what it collects"].add(name, move_text(mover, asked(b.move, tables, window, air, mover)), move_text(mover, over))
 
 
 def one_list(call, theirs):
@@ -126,13 +132,58 @@ def case_a():
     tables, window, _ = parts(example("case-a"))
     mover = b.Mover((0.0, 1.25, 0.0, 1.0, 2.25, 1.0), (0.25, -0.5, 0.0))
     theirs = b.Moved((0.25, 1.0, 0.0, 1.25, 2.0, 1.0), (0.25, -0.25, 0.0), True)
-    COUNTS["move"].add("case A", move_text(mover, asked(b.move, tables, window, mover)), move_text(mover, theirs))
-    COUNTS["collected"].add("case A", asked(b.collected, tables, window, mover), [(0, 0, 0, 1, 1, 1), (1, 0, 0, 2, 1, 1)])
-    COUNTS["collected"].add("step height", asked(b.collected, tables, window, mover._replace(step=5.0)), b.Refused(3))
-    # of the fence, joined to the unloaded cell, the arm alone lies in the way
+    COUNTS["move"].add("case A", move_text(mover, asked(b.move, tables, window, 0, mover)), move_text(mover, theirs))
+    COUNTS["collected"].add("case A", asked(b.collected, tables, window, 0, mover), [(0, 0, 0, 1, 1, 1), (1, 0, 0, 2, 1, 1)])
+    COUNTS["collected"].add("step height", asked(b.collected, tables, window, 0, mover._replace(step=5.0)), b.Refused(3))
+    # of the fence, joined to the unloaded column, the arm alone lies in the way
     tables, window, _ = parts(example("fence-unloaded"))
     mover = b.Mover((1.6875, 1.0, 0.625, 1.9375, 1.25, 0.875), (0.0, 0.0, 0.75))
-    COUNTS["collected"].add("fence", asked(b.collected, tables, window, mover), [(1.625, 1.0, 1.375, 2.0, 2.5, 1.625)])
+    COUNTS["collected"].add("fence", asked(b.collected, tables, window, 0, mover), [(1.625, 1.0, 1.375, 2.0, 2.5, 1.625)])
+
+
+def windows():
+    """Case A's window with other words, sizes, heights and air, and its body beyond the world."""
+    count = COUNTS["heights, columns and air"]
+    tables, window, body = parts(example("case-a"))
+    words, mover = list(window.cells), b.Mover((0.0, 1.25, 0.0, 1.0, 2.25, 1.0), (0.25, -0.5, 0.0))
+
+    def refused(what, theirs, air=0, **lent):
+        lent, airy = window._replace(**lent), body._replace(words=[*body.words[:5], air])
+        for call in ((b.step, tables, lent, airy), (b.move, tables, lent, air, mover), (b.collected, tables, lent, air, mover)):
+            ours = asked(*call)
+            count.add(what, ours.number if isinstance(ours, b.Refused) else 0, theirs)
+
+    refused("as it is", 0)
+    refused("lowest over highest", 2, lowest=320, highest=319)
+    refused("lowest beyond its limit", 2, lowest=-2**25 - 1)
+    refused("highest beyond its limit", 2, highest=2**25 + 1)
+    refused("a column of 2", 2, cells=words[:-1] + [2])
+    refused("a column too few", 2, cells=words[:-1])
+    refused("a column too many", 2, cells=words + [1])
+    refused("no columns", 2, cells=words[:16])
+    refused("no words", 2, cells=[])
+    refused("an unregistered cell", 0, cells=[2**32 - 1] + words[1:])
+    refused("air without a record", 3, air=2)
+    refused("air without a record, and a column of 2", 2, air=2, cells=words[:-1] + [2])
+    refused("a column is not there", 5, cells=words[:8] + words[-2:], sizes=(1, 4, 2))
+    refused("begins above what is asked for", 5, origin=(0, 0, 0))
+    refused("unless that is below the world", 0, origin=(0, 0, 0), lowest=0)
+
+    # It falls as through a window that holds air there; columns that are not loaded, to the east, stop it at every height.
+    for y, low in (400.25, 398), (-100.75, -103):
+        high = body._replace(numbers=[0.5, y, *body.numbers[2:]])
+        small = window._replace(lowest=-64, highest=319)
+        falls = b.Tick((0.75, y - 0.5, 0.5), (0.125, -0.25, 0.0), False, "none")
+        count.add("beyond the world", asked(b.step, tables, small, high), falls)
+        held = window._replace(cells=[0] * 16 + [1] * 4, origin=(0, low, 0), lowest=-999, highest=999)
+        count.add("held as air", asked(b.step, tables, held, high), falls)
+        count.add("beside columns that are not loaded", asked(b.step, tables, small._replace(cells=words[:16] + [1, 0, 1, 0]), high),
+                  falls._replace(feet=(0.5, y - 0.5, 0.5), velocity=(0.0, -0.25, 0.0)))
+    for height in "lowest", "highest":
+        try:
+            count.add("a height beyond a word", asked(b.step, tables, window._replace(**{height: 2**31}), body), "ValueError")
+        except ValueError:
+            count.add("a height beyond a word", "ValueError", "ValueError")
 
 
 def doors():
@@ -179,6 +230,7 @@ def main():
             elif line.startswith("movelist "):
                 one_list(*line.split("=> ", 1))
     case_a()
+    windows()
     doors()
     arrays()
     if not numpy:

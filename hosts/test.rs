@@ -9,6 +9,8 @@ struct Scene {
     cells: Vec<u32>,
     origin: [i32; 3],
     sizes: [u32; 3],
+    lowest: i32,
+    highest: i32,
 }
 
 // The parts of a file that is a scene, so that every block is there.
@@ -24,12 +26,13 @@ fn scene(file: &[u8]) -> Scene {
     let b = part(48, 48);
     let records = part(120, 20 * b[46]);
     let shapes = part(120, 6 * b[47]).into_iter().map(f32::from_bits).collect();
-    let w = part(6, 6);
+    let w = part(8, 8);
     let sizes = [w[3], w[4], w[5]];
-    let cells = part(123, sizes.iter().product());
+    let cells = part(123, w[3] * w[4] * w[5] + w[3] * w[5]);
     let wide = |k: usize| b[2 * k] as u64 | (b[2 * k + 1] as u64) << 32;
     let body = Body { numbers: std::array::from_fn(|k| f64::from_bits(wide(k))), words: b[40..46].try_into().unwrap(), age: wide(19) };
-    Scene { body, records, shapes, cells, origin: [w[0] as i32, w[1] as i32, w[2] as i32], sizes }
+    let origin = [w[0] as i32, w[1] as i32, w[2] as i32];
+    Scene { body, records, shapes, cells, origin, sizes, lowest: w[6] as i32, highest: w[7] as i32 }
 }
 
 fn bits(numbers: &[f64]) -> String {
@@ -67,15 +70,67 @@ impl Count {
     }
     fn tell(self, what: &str) -> bool {
         println!("Rust, {what}: {} agree, {} differ", self.0, self.1);
-        self.1 == 0
+        self.1 == 0 && self.0 > 0
+    }
+}
+
+// Case A of the requirements: what its step does to the box; its window with other words, sizes, heights and air; and its body beyond the world.
+fn case_a(moves: &mut Count, windows: &mut Count) {
+    let mut records = [0; 40];
+    (records[0], records[20], records[28], records[39]) = (1, 3, 1, 15);
+    let t = Tables { records: &records, shapes: &[0.0, 0.0, 0.0, 1.0, 1.0, 1.0] };
+    // 16 cells and four columns, with one more word behind them
+    let cells: [u32; 21] = std::array::from_fn(|k| !(8..16).contains(&k) as u32);
+    let w = Window { cells: &cells[..20], origin: [0, -1, 0], sizes: [2, 4, 2], lowest: -64, highest: 319 };
+    let m = Mover { aabb: [0.0, 1.25, 0.0, 1.0, 2.25, 1.0], delta: [0.25, -0.5, 0.0], step: 0.0, ground: false };
+    let theirs = Moved { aabb: [0.25, 1.0, 0.0, 1.25, 2.0, 1.0], moved: [0.25, -0.25, 0.0], ground: true };
+    moves.add("case A", &move_text(m, move_through(t, w, 0, m)), &move_text(m, Ok(theirs)));
+
+    let body = |y: f64, air: u32| {
+        let mut numbers = [0.0; 19];
+        numbers[..12].copy_from_slice(&[0.5, y, 0.5, 0.25, 0.0, 0.0, 1.0, 1.0, 0.0, 0.5, 0.5, 0.5]);
+        Body { numbers, words: [0, 3, 0, 0, 0, air], age: 0 }
+    };
+    let changed = |at: usize, to: u32| -> Vec<u32> { cells[..20].iter().enumerate().map(|(k, &c)| if k == at { to } else { c }).collect() };
+    let (two, strange) = (changed(19, 2), changed(0, u32::MAX));
+    let refusals = [
+        ("as it is", w, 0, 0),
+        ("lowest over highest", Window { lowest: 320, ..w }, 0, 2),
+        ("lowest beyond its limit", Window { lowest: -33_554_433, ..w }, 0, 2),
+        ("highest beyond its limit", Window { highest: 33_554_433, ..w }, 0, 2),
+        ("a column of 2", Window { cells: &two, ..w }, 0, 2),
+        ("a column too few", Window { cells: &cells[..19], ..w }, 0, 2),
+        ("a column too many", Window { cells: &cells, ..w }, 0, 2),
+        ("no columns", Window { cells: &cells[..16], ..w }, 0, 2),
+        ("no words", Window { cells: &[], ..w }, 0, 2),
+        ("an unregistered cell", Window { cells: &strange, ..w }, 0, 0),
+        ("air without a record", w, 2, 3),
+        ("air without a record, and a column of 2", Window { cells: &two, ..w }, 2, 2),
+        ("a column is not there", Window { cells: &cells[..10], sizes: [1, 4, 2], ..w }, 0, 5),
+        ("begins above what is asked for", Window { origin: [0, 0, 0], ..w }, 0, 5),
+        ("unless that is below the world", Window { origin: [0, 0, 0], lowest: 0, ..w }, 0, 0),
+    ];
+    for (what, w, air, theirs) in refusals {
+        windows.add(what, &step(t, w, &body(1.25, air)).err().unwrap_or(0).to_string(), &theirs.to_string());
+        windows.add(what, &move_through(t, w, air, m).err().unwrap_or(0).to_string(), &theirs.to_string());
+    }
+    // It falls as through a window that holds air there; columns that are not loaded, to the east, stop it at every height.
+    let air: Vec<u32> = (0..20).map(|k| (k > 15) as u32).collect();
+    let half: Vec<u32> = (0..20).map(|k| (k == 16 || k == 18) as u32).collect();
+    for (y, low) in [(400.25, 398), (-100.75, -103)] {
+        let falls = Tick { feet: [0.75, y - 0.5, 0.5], velocity: [0.125, -0.25, 0.0], ground: false, liquid: Liquid::None };
+        let stopped = Tick { feet: [0.5, y - 0.5, 0.5], velocity: [0.0, -0.25, 0.0], ..falls };
+        let told = |w: Window| tick_text(step(t, w, &body(y, 0)));
+        windows.add("beyond the world", &told(w), &tick_text(Ok(falls)));
+        windows.add("held as air", &told(Window { cells: &air, origin: [0, low, 0], lowest: -999, highest: 999, ..w }), &tick_text(Ok(falls)));
+        windows.add("beside columns that are not loaded", &told(Window { cells: &half, ..w }), &tick_text(Ok(stopped)));
     }
 }
 
 fn main() {
     let stored = std::fs::read_to_string("crates/replay/stdout").unwrap();
-    let lines: Vec<&str> = stored.lines().collect();
-    let (calls, scenes) = lines.split_at(lines.len() - 701);
-    let [mut ticks, mut steps, mut checked, mut tables, mut moves, mut lists] = std::array::from_fn(|_| Count::default());
+    let (scenes, calls): (Vec<&str>, Vec<&str>) = stored.lines().partition(|l| l.starts_with(|c: char| c.is_ascii_digit()));
+    let [mut ticks, mut steps, mut checked, mut tables, mut moves, mut lists, mut windows] = std::array::from_fn(|_| Count::default());
     for line in scenes {
         let (name, theirs) = line.split_once(' ').unwrap();
         let file = std::fs::read(format!("crates/replay/data/{name}.scn")).unwrap();
@@ -85,13 +140,13 @@ fn main() {
         }
         let s = scene(&file);
         let t = Tables { records: &s.records, shapes: &s.shapes };
-        let w = Window { cells: &s.cells, origin: s.origin, sizes: s.sizes };
+        let w = Window { cells: &s.cells, origin: s.origin, sizes: s.sizes, lowest: s.lowest, highest: s.highest };
         steps.add(name, &tick_text(step(t, w, &s.body)), theirs);
         let early = theirs == "refused 1" || theirs == "refused 2";
         tables.add(name, &check_tables(t).err().unwrap_or(0).to_string(), if theirs == "refused 1" { "1" } else { "0" });
         // A move through the window meets 1 and 2 as the step does; its step height is then 3.
         let none = Mover { aabb: [0.0; 6], delta: [0.0; 3], step: 5.0, ground: false };
-        let refused = format!("refused {}", move_through(t, w, none).err().unwrap_or(0));
+        let refused = format!("refused {}", move_through(t, w, s.body.words[5], none).err().unwrap_or(0));
         moves.add(name, &refused, if early { theirs } else { "refused 3" });
         if !early {
             checked.add(name, &tick_text(step_checked(t, w, &s.body)), theirs);
@@ -110,15 +165,7 @@ fn main() {
         };
         lists.add(call, &move_text(m, move_over_list(&boxes, m)), theirs);
     }
-    // Case A of the requirements: what its step does to the box.
-    let mut records = [0; 40];
-    (records[0], records[20], records[28], records[39]) = (1, 3, 1, 15);
-    let cells: [u32; 16] = std::array::from_fn(|k| (k < 8) as u32);
-    let m = Mover { aabb: [0.0, 1.25, 0.0, 1.0, 2.25, 1.0], delta: [0.25, -0.5, 0.0], step: 0.0, ground: false };
-    let t = Tables { records: &records, shapes: &[0.0, 0.0, 0.0, 1.0, 1.0, 1.0] };
-    let ours = move_through(t, Window { cells: &cells, origin: [0, -1, 0], sizes: [2, 4, 2] }, m);
-    let theirs = Moved { aabb: [0.25, 1.0, 0.0, 1.25, 2.0, 1.0], moved: [0.25, -0.25, 0.0], ground: true };
-    moves.add("case A", &move_text(m, ours), &move_text(m, Ok(theirs)));
+    case_a(&mut moves, &mut windows);
 
     let fine = [
         ticks.tell("tick"),
@@ -127,6 +174,7 @@ fn main() {
         tables.tell("check_tables"),
         moves.tell("move"),
         lists.tell("move_over_list"),
+        windows.tell("heights, columns and air"),
     ];
     std::process::exit(fine.contains(&false) as i32);
 }

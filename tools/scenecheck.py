@@ -1,8 +1,9 @@
 """Which of the refusals 1 to 4 a scene meets before any cell is asked for, each with the place of its cause. The program says the first number alone;
-crates/tables/specs/Check.antt, crates/window/specs/Window.antt and crates/step/specs/Limits.antt have the rules, in this order."""
+crates/table_check/specs/Check.antt, crates/window/specs/Window.antt and crates/bodies/specs/Limits.antt have the rules, in this order. Sizes and
+counts are not among them here: a file that breaks one is no scene, which is 8 (scenefile.py)."""
 import math
 
-from scenefile import BODY, BOX_WORDS, F32, F64, STATE, STATE_WORDS, WINDOW, f32, f64, pieces, places, value, values
+from scenefile import BODY, BOX_WORDS, F32, F64, STATE, STATE_WORDS, WINDOW, divided, f32, f64, heights, pieces, places, value, values
 
 AXES = "xyz"
 SMALL = ("offset", "gravity", "vertical_drag", "horizontal_drag", "flap", "default_friction", "sample_depth", "liquid_gravity", "water_drag",
@@ -115,9 +116,16 @@ def table_causes(scene):
 # ---- 2 to 4
 
 def window_causes(scene):
-    for axis, c in zip(AXES, values(scene.window, WINDOW["origin"])):
+    (ox, oy, oz), (sx, _, _) = values(scene.window, WINDOW["origin"]), values(scene.window, WINDOW["sizes"])
+    lowest, highest = heights(scene)
+    for what, c in (("origin x", ox), ("origin y", oy), ("origin z", oz), ("lowest", lowest), ("highest", highest)):
         if abs(c) > 2**25:
-            yield "origin %s: is %d, must be of size at most 33554432" % (axis, c)
+            yield "%s: is %d, must be of size at most 33554432" % (what, c)
+    if lowest > highest:
+        yield "lowest: is %d, above highest, %d" % (lowest, highest)
+    for k, word in enumerate(divided(scene)[1]):
+        if word > 1:
+            yield "column x = %d, z = %d: is %d, must be 0 or 1" % (ox + k % sx, oz + k // sx, word)
 
 
 def number_causes(scene):

@@ -1,12 +1,13 @@
 """A scene as a picture, in SVG: layer by layer from above, then from two sides, with the body before its tick and, where the library is built, after
-it. Nothing of the rules is worked out here: where the body comes to is the library's answer, and blocks are drawn as they were recorded."""
+it. Nothing of the rules but the look-up of a cell is worked out here: where the body comes to is the library's answer, and blocks are drawn as they
+were recorded."""
 import html
 import math
 import os
 import sys
 
 import scenecheck
-from scenefile import BODY, BOX_WORDS, STATE, STATE_WORDS, UNLOADED, WINDOW, arrays, f32, pieces, value, values
+from scenefile import BODY, BOX_WORDS, STATE, STATE_WORDS, WINDOW, arrays, divided, f32, heights, pieces, value, values
 
 sys.path.append(os.path.join(os.path.dirname(os.path.abspath(__file__)), "..", "hosts"))
 import boltjuniper
@@ -16,7 +17,8 @@ MOST_CELLS, MOST_LAYERS = 20, 6
 STYLE = """
 text { font: 13px sans-serif; fill: #222 } .title { font-size: 20px; font-weight: bold } .head { font-size: 15px; font-weight: bold }
 .tick { font-size: 11px; fill: #666 } .state { font-size: 10px; fill: #555 } .edge { fill: none; stroke: #999; stroke-width: 0.5 }
-.air { fill: #fff } .outside { fill: url(#outside) } .unloaded { fill: url(#unloaded) } .unregistered { fill: url(#unregistered) }
+.air { fill: #fff } .beyond { fill: #dceefb } .limit { stroke: #0b5394; stroke-width: 3; stroke-dasharray: 10 4; fill: none }
+.outside { fill: url(#outside) } .unloaded { fill: url(#unloaded) } .unregistered { fill: url(#unregistered) }
 .water { fill: #7db7f0; fill-opacity: 0.6 } .lava { fill: #f08a4b; fill-opacity: 0.7 }
 .cube { fill: #b9b9b9; stroke: #777 } .part { fill: #d9c7a0; stroke: #8a7748 } .joins { fill: #c79a6b; stroke: #7a5230 }
 .reaches { fill: none; stroke: #7a5230; stroke-dasharray: 2 3 } .collected { fill: #e06c00; fill-opacity: 0.15; stroke: #e06c00; stroke-width: 2.5 }
@@ -38,8 +40,10 @@ LEGEND = (
     ("collected", "a box that its move collected"), ("cube", "a full cube"), ("part", "a block of another shape"),
     ("joins", "a fence, pane or wall, as recorded; the rules join it anew by its neighbours"),
     ("reaches", "a box that reaches up out of the layer below"), ("water", "water"), ("lava", "lava"),
-    ("unloaded", "a cell that was not loaded: solid to the rules"), ("unregistered", "a state that the tables do not have: no block"),
-    ("outside", "not recorded: outside the window"))
+    ("unloaded", "a column that was not loaded: solid to the rules at every height"),
+    ("unregistered", "a state that the tables do not have: no block"),
+    ("limit", "where the world ends"), ("beyond", "above or below the world: air, recorded or not"), ("outside", "not recorded: outside the window"))
+LINES = ("way", "limit")  # of the legend, drawn as lines
 
 
 # ---- SVG
@@ -61,18 +65,27 @@ def said(numbers):
 class World:
     def __init__(self, scene):
         self.records, self.shapes = pieces(scene.records, STATE_WORDS), [[f32(w) for w in b] for b in pieces(scene.boxes, BOX_WORDS)]
-        self.cells, self.origin, self.sizes = scene.cells, values(scene.window, WINDOW["origin"]), values(scene.window, WINDOW["sizes"])
+        self.cells, self.columns = divided(scene)
+        self.origin, self.sizes = values(scene.window, WINDOW["origin"]), values(scene.window, WINDOW["sizes"])
+        self.lowest, self.highest = heights(scene)
+        self.air = value(scene.body, BODY["air"])
 
     def at(self, cell):
-        """What a cell is: `outside`, `unloaded`, `unregistered`, or its state."""
+        """What the rules find in a cell: `outside`, `unloaded`, `unregistered`, or its state. Its column decides first, then the world's ends."""
         x, y, z = (c - o for c, o in zip(cell, self.origin))
         sx, sy, sz = self.sizes
-        if not (0 <= x < sx and 0 <= y < sy and 0 <= z < sz):
+        if not (0 <= x < sx and 0 <= z < sz):
             return "outside"
-        state = self.cells[(y * sz + z) * sx + x]
-        if state == UNLOADED:
+        if not self.columns[z * sx + x]:
             return "unloaded"
+        if not self.is_beyond(cell[1]) and not 0 <= y < sy:
+            return "outside"
+        state = self.air if self.is_beyond(cell[1]) else self.cells[(y * sz + z) * sx + x]
         return state if state < len(self.records) and self.records[state][0] & 1 else "unregistered"
+
+    def is_beyond(self, y):
+        """Above or below the world."""
+        return y < self.lowest or y > self.highest
 
     def boxes(self, cell):
         """The recorded boxes of a cell, in the world, each with the kind that it is drawn as."""
@@ -87,7 +100,7 @@ class World:
 
     def has_liquid(self):
         wet = {k for k, record in enumerate(self.records) if value(record, STATE["liquid"])}
-        return not wet.isdisjoint(self.cells)
+        return not wet.isdisjoint(self.cells + [self.air])
 
     def liquid(self, cell):
         """Its kind and the height of its surface."""
@@ -125,14 +138,15 @@ class Tick:
     def collect(self, scene, lent, before, has_liquid):
         """The boxes of the move, whose delta is the velocity, and gravity where it comes before the move. An item's is not known from outside where
         there may be a current, or where it may be at rest."""
-        number = {key: value(scene.body, BODY[key]) for key in ("model", "stage", "gravity", "step_height")}
+        number = {key: value(scene.body, BODY[key]) for key in ("model", "stage", "gravity", "step_height", "air")}
         if number["model"] == 0 and (has_liquid or list(self.feet) == values(scene.body, BODY["position"])):
             self.unsaid = "an item's own way through a liquid, or at rest, is not told"
             return
         x, y, z = values(scene.body, BODY["velocity"])
         delta = (x, y - number["gravity"] if number["stage"] == 0 else y, z)
         try:
-            self.collected, self.unsaid = boltjuniper.collected(*lent, boltjuniper.Mover(tuple(before), delta, number["step_height"])), ""
+            mover = boltjuniper.Mover(tuple(before), delta, number["step_height"])
+            self.collected, self.unsaid = boltjuniper.collected(*lent, number["air"], mover), ""
         except boltjuniper.Refused as refused:  # a direct call's limits are narrower than a body's
             self.unsaid = "a move of its own is refused by %d here" % refused.number
 
@@ -147,7 +161,7 @@ class Panel:
         self.low, self.high = low, high  # cells, both ends included
         across, down = (max(len(str(low[k])), len(str(high[k] + 1))) for k in (u, v))  # digits of the numbers along each edge
         self.left, self.top = max(26 + 7 * down, 10 + 4 * across), 44
-        self.width = self.left + (high[u] + 1 - low[u]) * scale + 14 + 4 * across
+        self.width = max(self.left + (high[u] + 1 - low[u]) * scale + 14 + 4 * across, self.left + 7 * len(title))
         self.height = self.top + (high[v] + 1 - low[v]) * scale + 30
         self.out = []
 
@@ -187,6 +201,7 @@ class Panel:
         for cell in self.cells():
             self.label(world, cell)
         self.ruler()
+        self.limits(world)
         for box in collected:
             if self.meets(box):
                 self.box(box, "collected")
@@ -200,7 +215,7 @@ class Panel:
     def ground(self, world, cell):
         cube = [*cell, *(c + 1 for c in cell)]
         state = world.at(cell)
-        self.box(cube, "cell " + (state if isinstance(state, str) else "air"))
+        self.box(cube, "cell " + (state if isinstance(state, str) else "beyond" if world.is_beyond(cell[1]) else "air"))
         liquid, surface = world.liquid(cell)
         if liquid:
             self.box(cube[:4] + [cell[1] + surface] + cube[5:], "liquid " + liquid)
@@ -213,8 +228,15 @@ class Panel:
             x, y = self.place(cell[self.u], cell[self.v] + (1 if self.v == 1 else 0))
             if state == "unloaded":
                 self.out.append(words(x + self.scale / 2, y + self.scale / 2 + 5, "?", "mark", "middle"))
-            elif not isinstance(state, str):
+            elif not isinstance(state, str) and not world.is_beyond(cell[1]):
                 self.out.append(words(x + 3, y + 11, str(state), "state"))
+
+    def limits(self, world):
+        """From a side, where the world begins and ends."""
+        (low, high), (left, right) = ((self.low[k], self.high[k] + 1) for k in (self.v, self.u))
+        for y in (world.lowest, world.highest + 1) if self.v == 1 else ():
+            if low <= y <= high:
+                self.out.append('<path d="M%.6g %.6gL%.6g %.6g" class="limit"/>' % (*self.place(left, y), *self.place(right, y)))
 
     def ruler(self):
         """The coordinates along both axes, and what each way is called."""
@@ -252,12 +274,13 @@ def shown(boxes, velocity):
     return low, high, cut
 
 
-def layers(low, high, boxes, scale):
+def layers(world, low, high, boxes, scale):
     """From above: a panel for each layer, the lowest first."""
     feet = math.floor(boxes[0][1])
     for y in range(low[1], high[1] + 1):
         met = any(b[1] < y + 1 and b[4] > y for b in boxes)
-        where = "feet" if y == feet else "body" if met else "below" if y < feet else "above"
+        end = "above the world" if y > world.highest else "below the world" if y < world.lowest else ""
+        where = ", ".join(filter(None, ("feet" if y == feet else "body" if met else "", end))) or ("below" if y < feet else "above")
         yield Panel("y = %d, %s" % (y, where), 0, 2, [low[0], y, low[2]], [high[0], y, high[2]], scale)
 
 
@@ -293,7 +316,7 @@ def legend(used, y):
         width = 44 + 7 * len(text)
         if x > 14 and x + width > WIDE:
             x, y = 14, y + 24
-        out.append('<path d="M%d %dh24" class="way"/>' % (x, y + 8) if cls == "way" else rectangle(x, y, 24, 15, cls))
+        out.append('<path d="M%d %dh24" class="%s"/>' % (x, y + 8, cls) if cls in LINES else rectangle(x, y, 24, 15, cls))
         out.append(words(x + 30, y + 12, text))
         x += width
     return out, y + 34
@@ -326,7 +349,7 @@ def picture(scene, name):
         told.append(words(14, 94, "Only the cells nearest to the body are shown."))
     scale = min(64, max(16, 400 // max(high[k] + 1 - low[k] for k in range(3))))
     drawn, y = [], 110
-    for title, panels in (("From the side", sides(low, high, boxes, scale)), ("From above, layer by layer", layers(low, high, boxes, scale))):
+    for title, panels in (("From the side", sides(low, high, boxes, scale)), ("From above, layer by layer", layers(world, low, high, boxes, scale))):
         more, y = flowed(title, [p.draw(world, before, after, tick.collected) for p in panels], y)
         drawn, y = drawn + more, y + 10
     used = {cls for cls, _ in LEGEND if any('%s"' % cls in d or "%s " % cls in d for d in drawn)}

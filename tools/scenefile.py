@@ -12,7 +12,6 @@ from typing import Callable, NamedTuple
 
 MARK = 0x314E4353
 WORD = 2**32
-UNLOADED = WORD - 1
 BLOCK, PAYLOAD, MOST_BLOCKS = 128, 123, 128
 
 
@@ -41,7 +40,7 @@ class Kind(NamedTuple):
 
 
 def low_first(n, words):
-    return [n >> 32 * k & UNLOADED for k in range(words)]
+    return [n >> 32 * k & WORD - 1 for k in range(words)]
 
 
 def joined(words):
@@ -124,15 +123,17 @@ def named(*names):
 
 
 def read_cell(text):
-    return [UNLOADED] if text == "-" else U32.read(text)
+    if text == "-":  # an unloaded cell, when cells were loaded one by one
+        raise ValueError("`-` is no state: write any state here, and a 0 for its column in a row below `columns`")
+    return U32.read(text)
 
 
 F64 = Kind(2, read_f64, show_f64)
 F32 = Kind(1, read_f32, show_f32)
-U32 = whole(1, 0, UNLOADED)
+U32 = whole(1, 0, WORD - 1)
 I32 = whole(1, -2**31, 2**31 - 1)
 U64 = whole(2, 0, 2**64 - 1)
-CELL = Kind(1, read_cell, lambda w: "-" if w[0] == UNLOADED else str(w[0]))
+CELL = Kind(1, read_cell, U32.show)
 
 # ---- the layout: which words of a part a key of a text stands for. What follows it in the part follows it here.
 
@@ -162,9 +163,10 @@ STATE, STATE_WORDS = fields(
     ("post", named("never", "always", "north", "east", "south", "west")), ("boxes", U32, U32), ("sides", *[U32] * 8), ("posts", U32, U32),
     ("faces", U32))
 BOX, BOX_WORDS = fields(("box", *[F32] * 6))
-WINDOW, WINDOW_WORDS = fields(("origin", I32, I32, I32), ("sizes", U32, U32, U32))
+WINDOW, WINDOW_WORDS = fields(("origin", I32, I32, I32), ("sizes", U32, U32, U32), ("lowest", I32), ("highest", I32))
 
 COUNTED = ("states", "boxes")  # counted, and written by nobody
+NEEDED = ("sizes", "lowest", "highest")  # never left out: a world of another height would be another record
 LIMITS = {"states": (1, 4096), "boxes": (0, 16384), "sizes": (1, 64)}  # those that a file must keep to be a scene
 
 
@@ -173,15 +175,35 @@ class Part(NamedTuple):
     name: str
     per: int  # words to a block
     words: Callable  # how many a scene has, by the parts in front of it
+    holds: str
 
 
 PARTS = (
-    Part(1, "body", BODY_WORDS, lambda s: BODY_WORDS),
-    Part(2, "records", 6 * STATE_WORDS, lambda s: STATE_WORDS * value(s.body, BODY["states"])),
-    Part(3, "boxes", 20 * BOX_WORDS, lambda s: BOX_WORDS * value(s.body, BODY["boxes"])),
-    Part(4, "window", WINDOW_WORDS, lambda s: WINDOW_WORDS),
-    Part(5, "cells", PAYLOAD, lambda s: math.prod(values(s.window, WINDOW["sizes"]))),
+    Part(1, "body", BODY_WORDS, lambda s: BODY_WORDS, "body"),
+    Part(2, "records", 6 * STATE_WORDS, lambda s: STATE_WORDS * value(s.body, BODY["states"]), "records"),
+    Part(3, "boxes", 20 * BOX_WORDS, lambda s: BOX_WORDS * value(s.body, BODY["boxes"]), "boxes"),
+    Part(4, "window", WINDOW_WORDS, lambda s: WINDOW_WORDS, "window"),
+    Part(5, "cells", PAYLOAD, lambda s: cell_count(s) + column_count(s), "cells, then columns"),
 )
+
+
+def cell_count(scene):
+    return math.prod(values(scene.window, WINDOW["sizes"]))
+
+
+def column_count(scene):
+    sx, _, sz = values(scene.window, WINDOW["sizes"])
+    return sx * sz
+
+
+def heights(scene):
+    """The world's lowest and highest cell."""
+    return value(scene.window, WINDOW["lowest"]), value(scene.window, WINDOW["highest"])
+
+
+def divided(scene):
+    """The states of the cells, and the words of the columns, which follow them in `cells` as they do in a file and in what a host lends."""
+    return scene.cells[:cell_count(scene)], scene.cells[cell_count(scene):]
 
 
 def places(field):
@@ -212,7 +234,7 @@ def arrays(scene):
         return array.array(code, struct.pack("<%dI" % len(words), *words))
 
     age, counts = BODY["age"].at, BODY["states"].at
-    window = (of("I", scene.cells), values(scene.window, WINDOW["origin"]), values(scene.window, WINDOW["sizes"]))
+    window = (of("I", scene.cells), values(scene.window, WINDOW["origin"]), values(scene.window, WINDOW["sizes"]), *heights(scene))
     body = (of("d", scene.body[:age]), of("I", scene.body[age + 2:counts]), value(scene.body, BODY["age"]))
     return (of("I", scene.records), of("f", scene.boxes)), window, body
 
@@ -265,10 +287,10 @@ def unpacked(data):
         while len(words) < need:
             if at == len(blocks):
                 raise Malformed(["the file ends with block %d, and %d of %d words of kind %d (%s) are not there"
-                                 % (at - 1, need - len(words), need, part.kind, part.name)])
+                                 % (at - 1, need - len(words), need, part.kind, part.holds)])
             w, used = blocks[at], min(part.per, need - len(words))
             if w[1] != part.kind:
-                raise Malformed(["block %d, word 1: is %d, must be %d (%s)" % (at, w[1], part.kind, part.name)])
+                raise Malformed(["block %d, word 1: is %d, must be %d (%s)" % (at, w[1], part.kind, part.holds)])
             causes += ["block %d, word %d: is %d, must be 0: it is unused" % (at, k, w[k]) for k in range(3 + used, 126) if w[k]]
             words += w[3:3 + used]
             at += 1
@@ -337,55 +359,79 @@ class Text:
     """What the lines of a text came to."""
 
     def __init__(self):
-        self.lines, self.states, self.boxes, self.layers, self.rows_follow = {}, [], [], [], False
+        self.lines, self.states, self.boxes, self.layers, self.columns, self.rows = {}, [], [], [], None, None
         self.parts = [(BODY, [0] * BODY_WORDS), (WINDOW, [0] * WINDOW_WORDS)]
 
     def line(self, number, key, given):
-        rows, self.rows_follow = self.rows_follow, False
+        rows, self.rows = self.rows, None
         for table, words in self.parts:
             if key in table and key not in COUNTED:
                 got = read_values(key, table[key].kinds, given)
-                if key in self.lines:
-                    raise Mistake("%s was given at line %d" % (key, self.lines[key]))
-                self.lines[key] = number
+                self.once(number, key)
                 words[table[key].at:table[key].at + len(got)] = got
                 return
         if key == "state":
             self.states += read_state(given)
         elif key in BOX:
             self.boxes += read_values(key, BOX[key].kinds, given)
-        elif key == "layer":
+        elif key in ("layer", "columns"):
             read_values(key, (), given)
-            self.layers.append((number, []))
-            self.rows_follow = True
-        elif rows and (key == "-" or re.match(r"[-+0-9]", key)):
+            self.begin(number, key)
+        elif rows and re.match(r"[-+0-9]", key):
             row = [key] + given
-            self.layers[-1][1].append((number, read_values("a row of cells", [CELL] * len(row), row)))
-            self.rows_follow = True
+            kind = CELL if rows.of == "cell" else U32
+            rows.rows.append((number, read_values("a row of %ss" % rows.of, [kind] * len(row), row)))
+            self.rows = rows
         elif re.fullmatch(r"[-+.0-9]+", key):
-            raise Mistake("a row of cells stands below `layer` or another row")
+            raise Mistake("a row stands below `layer`, `columns` or another row")
         else:
-            known = [k for table in (BODY, WINDOW, BOX) for k in table if k not in COUNTED] + ["state", "layer"]
+            known = [k for table in (BODY, WINDOW, BOX) for k in table if k not in COUNTED] + ["state", "layer", "columns"]
             raise unknown(key, known)
 
+    def once(self, number, key):
+        if key in self.lines:
+            raise Mistake("%s was given at line %d" % (key, self.lines[key]))
+        self.lines[key] = number
+
+    def begin(self, number, key):
+        """Rows follow: a layer's, or the columns'."""
+        if key == "layer":
+            self.rows = Rows(number, "layer", "cell", [])
+            self.layers.append(self.rows)
+        else:
+            self.once(number, key)
+            self.rows = self.columns = Rows(number, "block of columns", "column", [])
+
     def cells(self, end):
-        """The cells of all layers, as many as the sizes want; or the line where there are more or fewer."""
-        if "sizes" not in self.lines:
-            raise Mistake("line %d: the text ends without sizes" % end)
+        """The cells of all layers, then the columns, as many as the sizes want; or the line where there are more or fewer."""
+        for key in NEEDED:
+            if key not in self.lines:
+                raise Mistake("line %d: the text ends without %s" % (end, key))
         sx, sy, sz = values(self.parts[1][1], WINDOW["sizes"])
         cells = []
-        for k, (number, rows) in enumerate(self.layers):
+        for k, layer in enumerate(self.layers):
             if k == sy:
-                raise Mistake("line %d: layer %d, sizes want %d" % (number, k + 1, sy))
-            for n, row in rows:
-                if len(row) != sx:
-                    raise Mistake("line %d: a row of %s, sizes want %d" % (n, plural(len(row), "cell"), sx))
-                cells += row
-            if len(rows) != sz:
-                raise Mistake("line %d: a layer of %s, sizes want %d" % (number, plural(len(rows), "row"), sz))
+                raise Mistake("line %d: layer %d, sizes want %d" % (layer.line, k + 1, sy))
+            cells += layer.words(sx, sz)
         if len(self.layers) != sy:
             raise Mistake("line %d: the text ends with %s, sizes want %d" % (end, plural(len(self.layers), "layer"), sy))
-        return cells
+        return cells + (self.columns.words(sx, sz) if self.columns else [1] * (sx * sz))
+
+
+class Rows(NamedTuple):
+    """Rows of numbers, a row for each z: of the cells of a layer, or of the columns."""
+    line: int
+    what: str
+    of: str
+    rows: list
+
+    def words(self, sx, sz):
+        for number, row in self.rows:
+            if len(row) != sx:
+                raise Mistake("line %d: a row of %s, sizes want %d" % (number, plural(len(row), self.of), sx))
+        if len(self.rows) != sz:
+            raise Mistake("line %d: a %s of %s, sizes want %d" % (self.line, self.what, plural(len(self.rows), "row"), sz))
+        return [w for _, row in self.rows for w in row]
 
 
 def plural(n, what):
@@ -434,7 +480,19 @@ def printed(scene):
     out += ["%s  # %d" % (state_text(w), k) for k, w in enumerate(pieces(scene.records, STATE_WORDS))]
     out += [" ".join(["box"] + texts(w, BOX["box"])) for w in pieces(scene.boxes, BOX_WORDS)]
     out += [" ".join([key] + texts(scene.window, field)) for key, field in WINDOW.items()]
+    cells, columns = divided(scene)
     (_, oy, _), (sx, _, sz) = values(scene.window, WINDOW["origin"]), values(scene.window, WINDOW["sizes"])
-    for y, layer in enumerate(pieces(scene.cells, sx * sz)):
-        out += ["layer  # y %d" % (oy + y)] + ["  " + " ".join(CELL.show([c]) for c in row) for row in pieces(layer, sx)]
+    for y, layer in enumerate(pieces(cells, sx * sz), oy):
+        out += ["layer  # y %d%s" % (y, beyond(scene, y))] + row_texts(layer, sx)
+    out += ["columns  # 1 is loaded, 0 is not"] + row_texts(columns, sx)
     return "\n".join(out) + "\n"
+
+
+def row_texts(words, sx):
+    return ["  " + " ".join(U32.show([w]) for w in row) for row in pieces(words, sx)]
+
+
+def beyond(scene, y):
+    """What is said of a layer that is not of the world, since nothing that stands there is read."""
+    lowest, highest = heights(scene)
+    return ", below the world: air" if y < lowest else ", above the world: air" if y > highest else ""

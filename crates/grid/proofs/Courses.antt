@@ -77,11 +77,12 @@ short-down : (lo g e : ℕ) → Way lo g e → g ≤ lo → ¬ (e ≡ g) → (g 
 short-down lo g e (upward h j) k n = (omega arith, omega arith)
 short-down lo g e (downward h j) k n = (omega arith, omega arith)
 
--- ---- a block box that lies aside of the area
+-- ---- a block box that lies aside of the area: no box in there overlaps it
 pub record Aside (area : Box) (o : Aabb) : Type 0 where
-  pub box : Box
-  pub on : On o box
-  pub apart : ¬ (Overlap area box)
+  pub apart : (f : Aabb) (c : Box) → On f c → BoxInside c area → T (overlap f o) → ⊥
+
+pub aside : (area : Box) (o : Aabb) (box : Box) → On o box → ¬ (Overlap area box) → Aside area o
+aside area o box O n = record { apart = λ f c C i t. n (overlap-grow c area box i (overlap-to f o c box C O t)) }
 
 -- what holds of the whole-number boxes of a list holds of that of each of its boxes
 record Among (o : Aabb) (P : Box → Type 0) : Type 0 where
@@ -116,7 +117,7 @@ module _ (Block : Aabb → Type 0) (fs : List Aabb) (ws : List Box) (F : OnAll f
     where
       go : T (overlap f o) → List·Memᴰ o fs ⊎ Aside area o → ⊥
       go t (inl m) = let a = among o fs ws (λ (w : Box). ¬ (Overlap c w)) F m free in a .holds (overlap-to f o c (a .box) C (a .on) t)
-      go t (inr a) = a .apart (overlap-grow c area (a .box) i (overlap-to f o c (a .box) C (a .on) t))
+      go t (inr a) = a .apart f c C i t
 
   struck-of : (f : Aabb) (c : Box) → On f c → W.Struck c ws → Struck Block f
   struck-of f c C h = let r = hit f c C fs ws F h in record { by = r .by; is = back (r .by) (r .is); hits = r .hits }

@@ -8,6 +8,8 @@ pub mod Courses
 pub mod Starts
 pub mod OverList
 pub mod Cells
+pub mod Far
+pub mod Heights
 pub mod Blocks
 pub mod Areas
 pub mod Through

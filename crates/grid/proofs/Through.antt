@@ -4,29 +4,31 @@ use mathlib.Core.Path.{_≡_, refl, sym, ap, _∙_, subst}
 use mathlib.Core.Logic.{_⊎_, inl, inr}
 use mathlib.Core.Bool.{Bool, true, false, not, _&&_}
 use mathlib.Core.List.{List, [], _∷_, List·Memᴰ, List·Memᴰ·head, List·Memᴰ·tail, List·Memᴰ·cases-cons, List·Memᴰ·append-cases}
-use Prim.Native.Nat.{ℕ, suc, _+_, _*_, _≤_, _<_}
+use Prim.Native.Nat.{ℕ, suc, _+_, _*_, _^_, _≤_, _<_}
 use native.Mathlib.Omega.{arith}
-use lib.Dec.{T, eqb, eqb→eq, T-not}
-use lib.ListN.{length}
-use lib.Ieee.{Float}
+use lib.Dec.{T, eqb, eqb→eq, T-not, not-T}
+use lib.Ieee.{Float, lt}
 use lib.Ieee.Fits.{and-i, and-l, and-r, eq→eqb}
 use Rattle.base.specs.Choose.{choose}
 use Rattle.base.specs.Ask.{Ask, refused, found, _>>=_}
-use Rattle.base.proofs.Tests.{no-not}
+use Rattle.base.specs.Every.{every}
+use Rattle.base.proofs.Every.{every-at, every-from}
+use Rattle.base.proofs.Tests.{T-true, no-not}
 use Rattle.boxes.specs.declared.Vec3.{Vec3}
 use Rattle.boxes.specs.declared.Aabb.{Aabb}
 use Rattle.sweeps.specs.declared.MoveResult.{MoveResult}
 use Rattle.sweeps.specs.declared.MoveAnswer.{MoveAnswer}
-use Rattle.boxes.specs.Boxes.{overlap}
+use Rattle.boxes.specs.Boxes.{meet, overlap}
 use Rattle.sweeps.specs.Move.{moveOver}
 use Rattle.boxes.specs.Limits.{isBox, isDelta, isStep}
+use Rattle.tables.specs.Tables.{isRegistered}
 use Rattle.table_check.specs.Check.{tableRefusal}
 use Rattle.window.specs.declared.Pos.{Pos}
 use Rattle.window.specs.declared.Window.{Window}
 use Rattle.window.specs.Window.{windowFits, windowRefusal}
 use Rattle.window.specs.Look.{lookAt}
 use Rattle.window.proofs.Cells as N
-use Rattle.lent.specs.Lent.{unless, directRefusal}
+use Rattle.lent.specs.Lent.{unless, lentRefusal, directRefusal}
 use Rattle.ranges.specs.declared.Range.{Range}
 use Rattle.ranges.specs.Ranges.{placeAt}
 use Rattle.moves.specs.Collect.{rangeOf, collectBlockBoxes}
@@ -35,16 +37,16 @@ use Rattle.moves.specs.Answers.{sweptArea, moveAabb, moveAnswer, moveEntry}
 use Rattle.moves.proofs.Order.{keptOf, collected-is, is-collected}
 use Rattle.moves.proofs.Refuses.{FiveOrSix, collect-refuses}
 use Rattle.grid.specs.Grid.{onGrid, vecOnGrid, isProper, isFree}
-use Rattle.grid.specs.Demand.{Demand3, keepsStep, IsSettled, shapesOnGrid, isFreeIn, windowOnGrid, keepsAmong, keepsStepIn, WindowDemand}
-use Rattle.grid.proofs.Axis.{Span, Meets}
-use Rattle.grid.proofs.Whole.{Box, Solid, Overlap}
-use Rattle.grid.proofs.Counted.{On, overlap-to, overlap-from}
-use Rattle.grid.proofs.Readings.{Knowns}
-use Rattle.grid.proofs.Courses.{Aside}
+use Rattle.grid.specs.Demand.{Free, Demand3, keepsStep, IsSettled, shapesOnGrid, everyPlace, isFreeIn, windowOnGrid, keepsAmong, keepsStepIn, WindowDemand}
+use Rattle.grid.proofs.Whole.{Box, Solid}
+use Rattle.grid.proofs.Counted.{base, On, overlap-to, overlap-from}
+use Rattle.grid.proofs.Readings.{three, ReadSpan, boxOf, Knowns}
+use Rattle.grid.proofs.Courses.{Aside, aside}
 use Rattle.grid.proofs.Starts.{Start, start, areaOf, from-start}
-use Rattle.grid.proofs.Cells.{in-cells, in-layers}
-use Rattle.grid.proofs.Blocks.{InCells, Settled, at-cell, block}
-use Rattle.grid.proofs.Areas.{area, area-on}
+use Rattle.grid.proofs.Cells.{Numbered, in-cells, in-layers}
+use Rattle.grid.proofs.Far.{Far, far-clear}
+use Rattle.grid.proofs.Blocks.{InColumn, InCells, Stands, near, far, Settled, block}
+use Rattle.grid.proofs.Areas.{Sides, Area, area, area-on}
 
 -- ---- what is in the lists together is in one of them
 record OneOf {A I : Type 0} (a : A) (g : I → List A) : Type 0 where
@@ -106,87 +108,183 @@ all-known (b ∷ bs) h =
     let r = all-known bs (λ o n. h o (List·Memᴰ·tail n)) in
     record { boxes = k .box ∷ r .boxes; on = (k .on, r .on); solid = (k .solid, r .solid) }
 
+-- what is in the list overlaps the area
+overlaps-area : (area b : Aabb) (bs : List Aabb) → List·Memᴰ b (overlapping area bs) → T (overlap b area)
+unfolding overlapping choose
+overlaps-area area b (c ∷ bs) m = go (overlap c area) refl m (λ n. overlaps-area area b bs n)
+  where
+    put : (b ≡ c) ⊎ List·Memᴰ b (overlapping area bs) → overlap c area ≡ true → (List·Memᴰ b (overlapping area bs) → T (overlap b area)) → T (overlap b area)
+    put (inl e) q rest = subst (λ (u : Aabb). T (overlap u area)) (sym e) (subst T (sym q) tt)
+    put (inr n) q rest = rest n
+
+    go : (t : Bool) → overlap c area ≡ t → List·Memᴰ b (choose t (c ∷ overlapping area bs) (overlapping area bs)) → (List·Memᴰ b (overlapping area bs) → T (overlap b area)) → T (overlap b area)
+    go true q m rest = put (List·Memᴰ·cases-cons m) q rest
+    go false q m rest = rest m
+
 -- ---- a box of a cell
-abbrev box-known : {p : Pos} {b : Aabb} {nx ny nz : ℕ} → InCells p b nx ny nz → Known b
+abbrev box-known : {b : Aabb} {nx ny nz : ℕ} → InCells b nx ny nz → Known b
 box-known c = record {
   box = record { x = c .x .span; y = c .y .span; z = c .z .span };
   on = record { x = c .x .on; y = c .y .on; z = c .z .on };
   solid = record { x = c .x .thick; y = c .y .thick; z = c .z .thick };
 }
 
-turned : (a b : Box) → Overlap a b → Overlap b a
-turned a b o = record { x = flip (o .x); y = flip (o .y); z = flip (o .z) }
+-- overlap, whichever box is named first
+turned : (a b : Aabb) → T (overlap a b) → T (overlap b a)
+turned a b t =
+    let h = three (meet (a .min .x) (a .max .x) (b .min .x) (b .max .x)) (meet (a .min .y) (a .max .y) (b .min .y) (b .max .y)) (meet (a .min .z) (a .max .z) (b .min .z) (b .max .z)) t in
+    let x = flip (lt (a .min .x) (b .max .x)) (lt (b .min .x) (a .max .x)) (h .x) in
+    let y = flip (lt (a .min .y) (b .max .y)) (lt (b .min .y) (a .max .y)) (h .y) in
+    let z = flip (lt (a .min .z) (b .max .z)) (lt (b .min .z) (a .max .z)) (h .z) in
+    let yz = and-i (meet (b .min .y) (b .max .y) (a .min .y) (a .max .y)) (meet (b .min .z) (b .max .z) (a .min .z) (a .max .z)) y z in
+    and-i (meet (b .min .x) (b .max .x) (a .min .x) (a .max .x)) (meet (b .min .y) (b .max .y) (a .min .y) (a .max .y) && meet (b .min .z) (b .max .z) (a .min .z) (a .max .z)) x yz
   where
-    flip : {s t : Span} → Meets s t → Meets t s
-    flip m = record { under = m .over; over = m .under }
+    flip : (p q : Bool) → T (p && q) → T (q && p)
+    flip p q t = and-i q p (and-r p q t) (and-l p q t)
 
-module _ (records : List ℕ) (shapes : List Float) (cells : List ℕ) (w : Window) (W : windowFits (length cells) w ≡ true) (G : T (shapesOnGrid records shapes cells w))
-    (m : Aabb) (d : Vec3) (h : Float) (s : Start m d h) (bs : List Aabb) (C : collectBlockBoxes (lookAt cells w) records shapes (sweptArea m d h) ≡ found bs) where
-  -- what was collected is a box of a settled cell
-  back : (o : Aabb) → List·Memᴰ o bs → IsSettled records shapes cells w o
-  back o n =
-      let r = in-order o (keptOf (lookAt cells w) records shapes (sweptArea m d h)) (rangeOf (sweptArea m d h))
-      (subst (λ (l : List Aabb). List·Memᴰ o l) (collected-is (lookAt cells w) records shapes (sweptArea m d h) bs C) n) in
-      record { cell = r .at; is = of-overlapping (sweptArea m d h) o (settledBoxes (lookAt cells w) records shapes (r .at)) (r .is) }
+-- the box at the start, as an area
+start-area : {m : Aabb} {d : Vec3} {h : Float} (s : Start m d h) → Area m (boxOf (s .box))
+start-area s = record { x = side (s .box .x); y = side (s .box .y); z = side (s .box .z) }
+  where
+    side : {a b : Float} (r : ReadSpan a b (2 ^ 37)) → Sides a b (r .span)
+    side r =
+        let deep : base ≤ r .span .lo + 2 ^ 37 = r .deep in
+        let room : r .span .hi ≤ base + 2 ^ 37 = r .room in
+        let thick : r .span .lo < r .span .hi = r .thick in
+        record { lo = record { at = r .on .lo .at; low = omega arith; high = omega arith }; hi = record { at = r .on .hi .at; low = omega arith; high = omega arith } }
 
-  at-index : (o : Aabb) (p : Pos) → List·Memᴰ o (settledBoxes (lookAt cells w) records shapes p) → overlap o (sweptArea m d h) ≡ true → (x y z : ℕ)
-      → x < rangeOf (sweptArea m d h) .x .count → y < rangeOf (sweptArea m d h) .y .count → z < rangeOf (sweptArea m d h) .z .count
-      → p .x ≡ placeAt (rangeOf (sweptArea m d h)) x y z .x → p .y ≡ placeAt (rangeOf (sweptArea m d h)) x y z .y → p .z ≡ placeAt (rangeOf (sweptArea m d h)) x y z .z → List·Memᴰ o bs
-  at-index o p n e x y z hx hy hz px py pz =
-      let at : p ≡ placeAt (rangeOf (sweptArea m d h)) x y z = (λ j. record { x = px j; y = py j; z = pz j }) in
-      is-collected (lookAt cells w) records shapes (sweptArea m d h) bs C o x y z hx hy hz (subst (λ (q : Pos). List·Memᴰ o (settledBoxes (lookAt cells w) records shapes q)) at n) e
+-- ---- a near box that overlaps the area f: its cell is in the range of f
+record InRange (r : Range) (p : Pos) : Type 0 where
+  x : ℕ
+  y : ℕ
+  z : ℕ
+  below-x : x < r .x .count
+  below-y : y < r .y .count
+  below-z : z < r .z .count
+  is : p ≡ placeAt r x y z
 
-  -- a box of a settled cell that overlaps the swept area: its cell is in the range
-  collected : (o : Aabb) (p : Pos) → List·Memᴰ o (settledBoxes (lookAt cells w) records shapes p) → (b : Settled w p o) → overlap o (sweptArea m d h) ≡ true → List·Memᴰ o bs
-  collected o p n b e =
-      let a = area m d h s in
-      let i = b .place in
-      let k = box-known (b .box) in
-      let v = overlap-to o (sweptArea m d h) (k .box) (areaOf s) (k .on) (area-on a) (subst T (sym e) tt) in
-      let xl : 4096 * i .x .number ≤ k .box .x .lo = b .box .x .low in
-      let xh : k .box .x .hi ≤ 4096 * i .x .number + 4096 = b .box .x .high in
-      let xu : k .box .x .lo < areaOf s .x .hi = v .x .under in
-      let xo : areaOf s .x .lo < k .box .x .hi = v .x .over in
-      let yl : 4096 * i .y .number ≤ k .box .y .lo = b .box .y .low in
-      let yh : k .box .y .hi ≤ 4096 * i .y .number + 6144 = b .box .y .high in
-      let yu : k .box .y .lo < areaOf s .y .hi = v .y .under in
-      let yo : areaOf s .y .lo < k .box .y .hi = v .y .over in
-      let zl : 4096 * i .z .number ≤ k .box .z .lo = b .box .z .low in
-      let zh : k .box .z .hi ≤ 4096 * i .z .number + 4096 = b .box .z .high in
-      let zu : k .box .z .lo < areaOf s .z .hi = v .z .under in
-      let zo : areaOf s .z .lo < k .box .z .hi = v .z .over in
-      let x = in-cells _ _ (areaOf s .x .lo) (areaOf s .x .hi) (i .x .number) (a .x .lo) (a .x .hi) (omega arith) (omega arith) in
-      let y = in-layers _ _ (areaOf s .y .lo) (areaOf s .y .hi) (i .y .number) (a .y .lo) (a .y .hi) (omega arith) (omega arith) in
-      let z = in-cells _ _ (areaOf s .z .lo) (areaOf s .z .hi) (i .z .number) (a .z .lo) (a .z .hi) (omega arith) (omega arith) in
-      at-index o p n e (x .index) (y .index) (z .index) (x .below) (y .below) (z .below) (i .x .is ∙ sym (x .is)) (i .y .is ∙ sym (y .is)) (i .z .is ∙ sym (z .is))
+in-range : (w : Window) (f : Aabb) (v : Box) → Area f v → (p : Pos) (o : Aabb) (i : InColumn w p) (h : Numbered (p .y) (2 ^ 27)) → InCells o (i .x .at .number) (h .number) (i .z .at .number)
+    → T (overlap o f) → InRange (rangeOf f) p
+in-range w f v a p o i h c t =
+    let k = box-known c in
+    let m = overlap-to o f (k .box) v (k .on) (area-on a) t in
+    let xl : 4096 * i .x .at .number ≤ k .box .x .lo = c .x .low in
+    let xh : k .box .x .hi ≤ 4096 * i .x .at .number + 4096 = c .x .high in
+    let xu : k .box .x .lo < v .x .hi = m .x .under in
+    let xo : v .x .lo < k .box .x .hi = m .x .over in
+    let yl : 4096 * h .number ≤ k .box .y .lo = c .y .low in
+    let yh : k .box .y .hi ≤ 4096 * h .number + 6144 = c .y .high in
+    let yu : k .box .y .lo < v .y .hi = m .y .under in
+    let yo : v .y .lo < k .box .y .hi = m .y .over in
+    let zl : 4096 * i .z .at .number ≤ k .box .z .lo = c .z .low in
+    let zh : k .box .z .hi ≤ 4096 * i .z .at .number + 4096 = c .z .high in
+    let zu : k .box .z .lo < v .z .hi = m .z .under in
+    let zo : v .z .lo < k .box .z .hi = m .z .over in
+    let x = in-cells (f .min .x) (f .max .x) (v .x .lo) (v .x .hi) (i .x .at .number) (a .x .lo) (a .x .hi) (omega arith) (omega arith) in
+    let y = in-layers (f .min .y) (f .max .y) (v .y .lo) (v .y .hi) (h .number) (a .y .lo) (a .y .hi) (omega arith) (omega arith) in
+    let z = in-cells (f .min .z) (f .max .z) (v .z .lo) (v .z .hi) (i .z .at .number) (a .z .lo) (a .z .hi) (omega arith) (omega arith) in
+    let px = i .x .at .is ∙ sym (x .is) in
+    let py = h .is ∙ sym (y .is) in
+    let pz = i .z .at .is ∙ sym (z .is) in
+    record { x = x .index; y = y .index; z = z .index; below-x = x .below; below-y = y .below; below-z = z .below; is = (λ j. record { x = px j; y = py j; z = pz j }) }
 
-  seen : (o : Aabb) → IsSettled records shapes cells w o → List·Memᴰ o bs ⊎ Aside (areaOf s) o
-  seen o c = go (overlap o (sweptArea m d h)) refl
-    where
-      go : (t : Bool) → overlap o (sweptArea m d h) ≡ t → List·Memᴰ o bs ⊎ Aside (areaOf s) o
-      go true e = inl (collected o (c .cell) (c .is) (block records shapes cells w W G (c .cell) o (c .is)) e)
-      go false e =
-          let k = box-known (block records shapes cells w W G (c .cell) o (c .is) .box) in
-          inr record {
-            box = k .box;
-            on = k .on;
-            apart = (λ v. subst T e (overlap-from o (sweptArea m d h) (k .box) (areaOf s) (k .on) (area-on (area m d h s)) (turned (areaOf s) (k .box) v)));
+-- a test of every cell of a range, at one of them
+at-place : (r : Range) (test : Pos → Bool) (p : Pos) → InRange r p → T (everyPlace r test) → T (test p)
+unfolding everyPlace
+at-place r test p i t =
+    let ly = every-at (r .y .count) (λ y. every (r .x .count) (λ x. every (r .z .count) (λ z. test (placeAt r x y z)))) (T-true (everyPlace r test) t) (i .y) (i .below-y) in
+    let lx = every-at (r .x .count) (λ x. every (r .z .count) (λ z. test (placeAt r x (i .y) z))) ly (i .x) (i .below-x) in
+    let lz = every-at (r .z .count) (λ z. test (placeAt r (i .x) (i .y) z)) lx (i .z) (i .below-z) in
+    subst (λ (q : Pos). T (test q)) (sym (i .is)) (subst T (sym lz) tt)
+
+places : (r : Range) (test : Pos → Bool) → ((p : Pos) → T (test p)) → T (everyPlace r test)
+unfolding everyPlace
+places r test h =
+    subst T
+    (sym (every-from (r .y .count) _ (λ y hy. every-from (r .x .count) _ (λ x hx. every-from (r .z .count) _ (λ z hz. T-true (test (placeAt r x y z)) (h (placeAt r x y z)))))))
+    tt
+
+module _ (records : List ℕ) (shapes : List Float) (cells : List ℕ) (w : Window) where
+  abbrev boxesIn : Pos → List Aabb
+  boxesIn = settledBoxes (lookAt cells w) records shapes
+
+  -- the test of the start asks for nothing more than that no block box is overlapped
+  pub start-tests : (m : Aabb) → Free (IsSettled records shapes cells w) m → T (isFreeIn records shapes cells w m)
+  start-tests m h = places (rangeOf m) (λ p. isFree m (boxesIn p)) (λ p. free-all m (boxesIn p) (λ o n. h o record { cell = p; is = n }))
+
+  module _ (W : windowFits cells w ≡ true) (G : T (shapesOnGrid records shapes cells w)) where
+    -- and for nothing less
+    pub start-clear : (m : Aabb) (v : Box) → Area m v → T (isFreeIn records shapes cells w m) → Free (IsSettled records shapes cells w) m
+    start-clear m v a t o c = not-T (overlap m o) (go (block records shapes cells w W G (c .cell) o (c .is)))
+      where
+        at : (p : Pos) (i : InColumn w p) → Stands p o (i .x .at .number) (i .z .at .number) → List·Memᴰ o (boxesIn p) → T (overlap m o) → ⊥
+        at p i (near y b) n u = T-not (overlap m o) (free-at m o (boxesIn p) n (at-place (rangeOf m) (λ p. isFree m (boxesIn p)) p (in-range w m v a p o i y b (turned m o u)) t)) u
+        at p i (far f) n u = far-clear m o (v .y) (area-on a .y) (a .y .lo .low) (a .y .hi .high) f u
+
+        go : Settled w (c .cell) o → T (overlap m o) → ⊥
+        go b u = at (c .cell) (b .place) (b .stands) (c .is) u
+
+    module _ (m : Aabb) (d : Vec3) (h : Float) (s : Start m d h) (bs : List Aabb) (C : collectBlockBoxes (lookAt cells w) records shapes (sweptArea m d h) ≡ found bs) where
+      abbrev swept : Aabb
+      swept = sweptArea m d h
+
+      -- what was collected is a box of a settled cell, and overlaps the swept area
+      kept-at : (o : Aabb) → List·Memᴰ o bs → OneOf o (keptOf (lookAt cells w) records shapes swept)
+      kept-at o n =
+          in-order o (keptOf (lookAt cells w) records shapes swept) (rangeOf swept)
+          (subst (λ (l : List Aabb). List·Memᴰ o l) (collected-is (lookAt cells w) records shapes swept bs C) n)
+
+      back : (o : Aabb) → List·Memᴰ o bs → IsSettled records shapes cells w o
+      back o n = let r = kept-at o n in record { cell = r .at; is = of-overlapping swept o (boxesIn (r .at)) (r .is) }
+
+      -- nothing far overlaps it
+      far-off : (o : Aabb) → Far o → T (overlap o swept) → ⊥
+      far-off o f t = let a = area m d h s in far-clear swept o (areaOf s .y) (area-on a .y) (a .y .lo .low) (a .y .hi .high) f (turned o swept t)
+
+      known : (o : Aabb) → List·Memᴰ o bs → Known o
+      known o n =
+          let c = back o n in
+          let r = kept-at o n in
+          go (block records shapes cells w W G (c .cell) o (c .is)) (overlaps-area swept o (boxesIn (r .at)) (r .is))
+        where
+          go : {p : Pos} → Settled w p o → T (overlap o swept) → Known o
+          go b t = at (b .stands) t
+            where
+              at : {p : Pos} {nx nz : ℕ} → Stands p o nx nz → T (overlap o swept) → Known o
+              at (near y k) t = box-known k
+              at (far f) t = absurd (far-off o f t)
+
+      -- a box of a settled cell is collected, or lies aside of all that the move reaches
+      collected : (p : Pos) (o : Aabb) → List·Memᴰ o (boxesIn p) → InRange (rangeOf swept) p → overlap o swept ≡ true → List·Memᴰ o bs
+      collected p o n r e =
+          is-collected (lookAt cells w) records shapes swept bs C o (r .x) (r .y) (r .z) (r .below-x) (r .below-y) (r .below-z) (subst (λ (q : Pos). List·Memᴰ o (boxesIn q)) (r .is) n) e
+
+      seen : (o : Aabb) → IsSettled records shapes cells w o → List·Memᴰ o bs ⊎ Aside (areaOf s) o
+      seen o c = let b = block records shapes cells w W G (c .cell) o (c .is) in at (c .cell) (b .place) (b .stands) (c .is)
+        where
+          at : (p : Pos) (i : InColumn w p) → Stands p o (i .x .at .number) (i .z .at .number) → List·Memᴰ o (boxesIn p) → List·Memᴰ o bs ⊎ Aside (areaOf s) o
+          at p i (near y b) n = go (overlap o swept) refl
+            where
+              go : (t : Bool) → overlap o swept ≡ t → List·Memᴰ o bs ⊎ Aside (areaOf s) o
+              go true e = inl (collected p o n (in-range w swept (areaOf s) (area m d h s) p o i y b (subst T (sym e) tt)) e)
+              go false e =
+                  let k = box-known b in
+                  inr (aside (areaOf s) o (k .box) (k .on) (λ v. subst T e (turned swept o (overlap-from swept o (areaOf s) (k .box) (area-on (area m d h s)) (k .on) v))))
+          at p i (far f) n = inr record {
+            apart = λ q c C i t.
+                let a = area m d h s in
+                let al : base ≤ areaOf s .y .lo + 2 ^ 38 = a .y .lo .low in
+                let ah : areaOf s .y .hi ≤ base + 2 ^ 38 = a .y .hi .high in
+                let il : areaOf s .y .lo ≤ c .y .lo = i .y .low in
+                let ih : c .y .hi ≤ areaOf s .y .hi = i .y .high in
+                far-clear q o (c .y) (C .y) (omega arith) (omega arith) f t;
           }
 
-  known : (o : Aabb) → List·Memᴰ o bs → Known o
-  known o n = let c = back o n in box-known (block records shapes cells w W G (c .cell) o (c .is) .box)
-
-  -- no overlap at the start
-  start-clear : T (isFreeIn records shapes cells w m) → (o : Aabb) → IsSettled records shapes cells w o → T (not (overlap m o))
-  start-clear t o c =
-      let at = settledBoxes (lookAt cells w) records shapes in
-      let i = block records shapes cells w W G (c .cell) o (c .is) .place in
-      free-at m o (at (c .cell)) (c .is) (at-cell w (λ p. isFree m (at p)) (c .cell) i t)
-
-  through : T (isFreeIn records shapes cells w m) → (ground : Bool) → Demand3 (IsSettled records shapes cells w) (keepsStep bs m d h ground) m d (moveOver bs m d h ground)
-  through t =
-      let k = all-known bs known in
-      from-start (IsSettled records shapes cells w) bs (k .boxes) (k .on) (k .solid) m d h s back seen (free-all m bs (λ o n. start-clear t o (back o n)))
+      through : T (isFreeIn records shapes cells w m) → (ground : Bool) → Demand3 (IsSettled records shapes cells w) (keepsStep bs m d h ground) m d (moveOver bs m d h ground)
+      through t =
+          let k = all-known bs known in
+          from-start (IsSettled records shapes cells w) bs (k .boxes) (k .on) (k .solid) m d h s back seen
+          (free-all m bs (λ o n. start-clear m (boxOf (s .box)) (start-area s) t o (back o n)))
 
 -- ---- a move that is not refused
 abbrev answerTo : ℕ → Bool → Bool → Bool → Ask (List Aabb) → Aabb → Vec3 → Float → Bool → MoveAnswer
@@ -214,23 +312,29 @@ accepted lent false false false (refused n) m d h ground g f e = absurd (never (
     never (inr z) = omega arith
 accepted lent false false false (found bs) m d h ground g f e = record { lent = refl; three = refl; four = refl; boxes = bs; collects = refl; result = refl }
 
-window-taken : (tables window : ℕ) → choose (eqb tables 0) window tables ≡ 0 → window ≡ 0
+-- of two refusals in order, where there is none
+record Neither (first then : ℕ) : Type 0 where
+  one : first ≡ 0
+  two : then ≡ 0
+
+neither : (first then : ℕ) → choose (eqb first 0) then first ≡ 0 → Neither first then
 unfolding choose
-window-taken tables window e = go (eqb tables 0) (λ z. eq→eqb {a = tables} {b = 0} z) e
+neither first then e = go (eqb first 0) (eqb→eq first 0) (λ z. eq→eqb {a = first} {b = 0} z) e
   where
-    go : (t : Bool) → (tables ≡ 0 → T t) → choose t window tables ≡ 0 → window ≡ 0
-    go true f e = e
-    go false f e = absurd (f e)
+    go : (t : Bool) → (T t → first ≡ 0) → (first ≡ 0 → T t) → choose t then first ≡ 0 → Neither first then
+    go true f g e = record { one = f tt; two = e }
+    go false f g e = absurd (g e)
 
 pub demand3-window : WindowDemand
-unfolding moveEntry moveAabb directRefusal windowOnGrid keepsStepIn
+unfolding moveEntry moveAabb directRefusal lentRefusal windowOnGrid keepsStepIn
 demand3-window records shapes cells w m d h ground t e =
     let c = collectBlockBoxes (lookAt cells w) records shapes (sweptArea m d h) in
     let l = directRefusal records shapes cells w in
     let a = accepted l (not (eqb l 0)) (not (isStep h)) (not (isBox m && isDelta d)) c m d h ground (λ t z. T-not (eqb l 0) t (eq→eqb {a = l} {b = 0} z))
     (collect-refuses cells w records shapes (sweptArea m d h) .only) e in
     let bs = a .boxes in
-    let W = N.accepted (length cells) w (window-taken (tableRefusal records shapes) (windowRefusal cells w) (eqb→eq l 0 (no-not (eqb l 0) (a .lent)))) in
+    let lent = neither (lentRefusal records shapes cells w) (choose (isRegistered records (w .air)) 0 3) (eqb→eq l 0 (no-not (eqb l 0) (a .lent))) in
+    let W = N.accepted cells w (neither (tableRefusal records shapes) (windowRefusal cells w) (lent .one) .two) in
     let bd = no-not (isBox m && isDelta d) (a .four) in
     let t1 = and-r (isProper m) (shapesOnGrid records shapes cells w && (vecOnGrid d && (onGrid h && isFreeIn records shapes cells w m))) t in
     let t2 = and-r (shapesOnGrid records shapes cells w) (vecOnGrid d && (onGrid h && isFreeIn records shapes cells w m)) t1 in

@@ -3,6 +3,7 @@
 -- ends overlapping no block box at all, where the block boxes, at start and end, are those of every cell whose shape the look-up settles without leaving
 -- the window, collected or not; in a move over a list they are the list's own, and no cell is needed. Where no step-up is kept, the axes go y, x, z, and
 -- each travels towards its share of delta as far as it can with no overlap at any multiple of 1/4096 on the way. Where one is kept, the end is free too."
+-- A settled cell may lie at any height: a column that is not loaded is solid without end, and above and below the world there is the air state's shape.
 -- The limits are those that an accepted move was held to. `ListDemand` and `WindowDemand` are the two theorems; proofs/OverList and proofs/Through prove
 -- them. `T` of a test says that it is true, and `Block b` that b is one of the block boxes.
 use mathlib.Core.Path.{_≡_}
@@ -10,7 +11,7 @@ use mathlib.Core.Bool.{Bool, true, false, not, _&&_, _||_}
 use mathlib.Core.List.{List, List·Memᴰ}
 use Prim.Native.Nat.{ℕ}
 use lib.Dec.{T}
-use lib.IntN.{pos, negsuc, _+ℤ_}
+use lib.IntN.{ℤ, pos, negsuc, _+ℤ_, _-ℤ_}
 use lib.Ieee.{Float, fin, binary64, ofBits, add, sub, lt, le, eq}
 use Rattle.base.specs.Choose.{choose}
 use Rattle.base.specs.Ask.{Ask, refused, found}
@@ -30,7 +31,9 @@ use Rattle.tables.specs.Tables.{boxesAt, boxAt}
 use Rattle.window.specs.declared.Pos.{Pos}
 use Rattle.window.specs.declared.Window.{Window}
 use Rattle.window.specs.Look.{lookAt}
-use Rattle.moves.specs.Collect.{CellShape, cube, boxes as ofState, toAabb, cellShape, collectBlockBoxes}
+use Rattle.ranges.specs.declared.Range.{Range}
+use Rattle.ranges.specs.Ranges.{placeAt}
+use Rattle.moves.specs.Collect.{CellShape, cube, boxes as ofState, toAabb, cellShape, rangeOf, collectBlockBoxes}
 use Rattle.moves.specs.Settled.{settledBoxes}
 use Rattle.moves.specs.Answers.{sweptArea, moveEntry}
 use Rattle.grid.specs.Grid.{onGrid, vecOnGrid, isProper, areProper, isFree}
@@ -132,18 +135,41 @@ settledOnGrid shapes (refused k) = true
 settledOnGrid shapes (found cube) = true
 settledOnGrid shapes (found (ofState first count)) = shapeOnGrid (boxesAt shapes first count)
 
--- the cell of the window that lies so far from its origin, and a test of every one; no other cell is settled
-abbrev pub cellFrom : Window → ℕ → ℕ → ℕ → Pos
-cellFrom w x y z = record { x = w .origin .x +ℤ pos x; y = w .origin .y +ℤ pos y; z = w .origin .z +ℤ pos z }
+-- a test of the cell of every column of the window at one height
+abbrev pub cellFrom : Window → ℕ → ℤ → ℕ → Pos
+cellFrom w x y z = record { x = w .origin .x +ℤ pos x; y = y; z = w .origin .z +ℤ pos z }
 
-unfoldable pub everyCell : Window → (Pos → Bool) → Bool
-everyCell w test = every (w .sizes .y) (λ y. every (w .sizes .x) (λ x. every (w .sizes .z) (λ z. test (cellFrom w x y z))))
+unfoldable pub everyColumn : Window → (Pos → Bool) → ℤ → Bool
+everyColumn w test y = every (w .sizes .x) (λ x. every (w .sizes .z) (λ z. test (cellFrom w x y z)))
+
+-- Above the world the cells of a column all come to the same, and so do those below it from the second on: the first has the world's lowest cell above
+-- it, which a wall asks for.
+abbrev pub aboveWorld : Window → ℤ
+aboveWorld w = w .highest +ℤ pos 1
+
+abbrev pub belowWorld : Window → ℤ
+belowWorld w = w .lowest -ℤ pos 1
+
+abbrev pub deepBelow : Window → ℤ
+deepBelow w = w .lowest -ℤ pos 2
+
+-- So a test at the window's heights and at these three is a test of what every cell comes to, at any height.
+unfoldable pub everyHeight : Window → (Pos → Bool) → Bool
+everyHeight w test =
+    every (w .sizes .y) (λ y. everyColumn w test (w .origin .y +ℤ pos y))
+    && (everyColumn w test (aboveWorld w) && (everyColumn w test (belowWorld w) && everyColumn w test (deepBelow w)))
 
 abbrev pub shapesOnGrid : List ℕ → List Float → List ℕ → Window → Bool
-shapesOnGrid records shapes cells w = everyCell w (λ p. settledOnGrid shapes (cellShape (lookAt cells w) records p))
+shapesOnGrid records shapes cells w = everyHeight w (λ p. settledOnGrid shapes (cellShape (lookAt cells w) records p))
 
+-- a test of every cell of a range
+unfoldable pub everyPlace : Range → (Pos → Bool) → Bool
+everyPlace r test = every (r .y .count) (λ y. every (r .x .count) (λ x. every (r .z .count) (λ z. test (placeAt r x y z))))
+
+-- No overlap, by the cells that a collection over the box goes through: with shapes as above no other cell's box reaches it. `start-clear` and
+-- `start-tests` of proofs/Through say that this is no overlap with any block box at all.
 abbrev pub isFreeIn : List ℕ → List Float → List ℕ → Window → Aabb → Bool
-isFreeIn records shapes cells w a = everyCell w (λ p. isFree a (settledBoxes (lookAt cells w) records shapes p))
+isFreeIn records shapes cells w a = everyPlace (rangeOf a) (λ p. isFree a (settledBoxes (lookAt cells w) records shapes p))
 
 unfoldable pub windowOnGrid : List ℕ → List Float → List ℕ → Window → Aabb → Vec3 → Float → Bool
 windowOnGrid records shapes cells w aabb delta stepHeight =

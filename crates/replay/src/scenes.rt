@@ -1,4 +1,6 @@
-// The scene files of data/, by number: each with what `onetick` prints of it, its lines joined by `; `.
+// The scene files of data/, by number: each with what `onetick` prints of it, its lines joined by `; `. From 1000 on they are scenes of the layout
+// without heights and columns, converted (tools/convert): not each has a likeness, so a number without a file is passed over. The stored answers have
+// a line for each that must be there.
 ghost use mathlib.Core.Path.{_≡_};
 ghost use lib.ListN.{length};
 
@@ -55,22 +57,21 @@ fn put_answer(fd: i32) {
 }
 
 fn run(n: u32) {
-    let label = digits(n);
-    crate::text::put(&label);
-    crate::text::put(b" ");
     let path = name(n);
     let fd = os::open_read(&path);
     if fd < 0 {
-        crate::text::put(b"missing");
-    } else {
-        put_answer(fd);
-        libc::close(fd);
+        return;
     }
+    let label = digits(n);
+    crate::text::put(&label);
+    crate::text::put(b" ");
+    put_answer(fd);
+    libc::close(fd);
     crate::text::put(b"\n");
 }
 
 pub(crate) fn run_all() {
-    let most: u32 = 701;
+    let most: u32 = 1701;
     for n in 0..most {
         run(n);
     }
