@@ -11,7 +11,6 @@ use lib.Dec.{leb}
 use lib.ListN.{length, getD, take, drop, length-take, length-drop, List·getD-eq-default}
 use lib.Seq.{getD-take, getD-drop, drop-drop}
 use borrow.Author.Tests.{lt-ltb, le-ltb, leb-true}
-use borrow.Rule.Slice.PartMut.{putMid}
 use Rattle.base.specs.Choose.{choose}
 use Rattle.base.specs.Loop.{stored}
 use Rattle.base.proofs.Every.{both, every-at, every-from}
@@ -20,7 +19,7 @@ use Rattle.blocks.specs.declared.Part.{Part}
 use Rattle.blocks.specs.Blocks.{blockOf, fileWord, mark, blockFits, perBlock, blocksOf, endOf, usedIn, partFits, partWord}
 use Rattle.blocks.proofs.Parts.{per-block}
 use Rattle.part_writer.specs.Bytes.{joined, partBlock, partBytes, partRoom, writtenPart}
-use Rattle.part_writer.proofs.Stored.{stored-length, stored-mid}
+use Rattle.part_writer.proofs.Stored.{stored-length}
 use Rattle.part_writer.proofs.Joined.{joined-same, joined-length, joined-at, joined-cut}
 use Rattle.part_writer.proofs.Blocks.{Fit, block-same, block-length, made-used, made-fits, marked-there, block-made}
 use Rattle.part_writer.proofs.Counts.{in-block, at-place, used-most, within, used-word}
@@ -175,28 +174,19 @@ roomy size p h =
     let t = both (leb (endOf p) 128) (leb (endOf p * 512) size) h in
     record { few = leb-true _ _ (t .one); long = leb-true _ _ (t .two) }
 
--- ---- the program's loop: a block more. It is written into its place, which was lent, so that the buffer comes back with it
-module _ (p : Part) (f : ℕ → ℕ) (l₀ l block : List ℕ) (j : ℕ) (size : length l ≡ length l₀) (inv : l ≡ stored l₀ (p .first * 512) (joined (partBlock p f) j)) where
-  abbrev put : List ℕ
-  put = putMid ((p .first + j) * 512) ((p .first + j) * 512 + 512 - (p .first + j) * 512) l block
+-- ---- the program's loop: a block more
+module _ (p : Part) (f : ℕ → ℕ) (l₀ l : List ℕ) (j : ℕ) (size : length l ≡ length l₀) (inv : l ≡ stored l₀ (p .first * 512) (joined (partBlock p f) j)) where
+  module _ (l′ block : List ℕ) (put : l′ ≡ stored l ((p .first + j) * 512) block) (e : block ≡ partBlock p f j) where
+    pub turn-size : length l′ ≡ length l₀
+    turn-size = ap length put ∙ stored-length l ((p .first + j) * 512) block ∙ size
 
-  module _ (room : (p .first + j) * 512 + 512 ≤ length l) (e : block ≡ partBlock p f j) where
-    put-stored : put ≡ stored l ((p .first + j) * 512) (partBlock p f j)
-    put-stored =
-        let n = ap length e ∙ block-size p f j in
-        stored-mid l ((p .first + j) * 512) ((p .first + j) * 512 + 512) block (omega arith) room (omega arith)
-        ∙ ap (stored l ((p .first + j) * 512)) e
-
-    pub turn-size : length put ≡ length l₀
-    turn-size = ap length put-stored ∙ stored-length l ((p .first + j) * 512) (partBlock p f j) ∙ size
-
-    pub turn-stored : put ≡ stored l₀ (p .first * 512) (joined (partBlock p f) (j + 1))
+    pub turn-stored : l′ ≡ stored l₀ (p .first * 512) (joined (partBlock p f) (j + 1))
     unfolding joined
     turn-stored =
         let n : j + 1 ≡ suc j = omega arith in
         let b = joined-length 512 (partBlock p f) j (λ j h. block-size p f j) in
         let q : (p .first + j) * 512 ≡ p .first * 512 + length (joined (partBlock p f) j) = omega arith in
-        put-stored ∙ (rw (inv, q, n) (stored-then l₀ (p .first * 512) (joined (partBlock p f) j) (partBlock p f j)))
+        rw (put, e, inv, q, n) (stored-then l₀ (p .first * 512) (joined (partBlock p f) j) (partBlock p f j))
 
   -- the last
   pub all-written : partRoom (length l₀) p ≡ true → j ≡ blocksOf p → l ≡ writtenPart l₀ p f

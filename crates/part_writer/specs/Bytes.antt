@@ -5,8 +5,10 @@ use mathlib.Core.List.{List, [], _∷_, _++_}
 use Prim.Native.Nat.{ℕ, zero, suc, _+_, _*_, _/_, _%_, _^_}
 use lib.Dec.{ltb, leb}
 use lib.ListN.{length, getD}
+use lib.Ieee.{Float, binary32, toBits}
 use Rattle.base.specs.Choose.{choose}
 use Rattle.base.specs.Loop.{stored}
+use Rattle.floats.specs.Numbers.{zero64}
 use Rattle.blocks.specs.declared.Part.{Part}
 use Rattle.blocks.specs.Blocks.{mark, checkOf, perBlock, blocksOf, endOf, usedIn}
 
@@ -64,3 +66,7 @@ writtenPart out p f = choose (partRoom (length out) p) (stored out (p .first * 5
 -- word i of lent words; one that is not there is 0
 abbrev pub wordIn : List ℕ → ℕ → ℕ
 wordIn words i = getD words i 0
+
+-- the bits of f32 number i of lent numbers
+unfoldable pub bitsIn : List Float → ℕ → ℕ
+bitsIn numbers i = toBits binary32 (getD numbers i zero64)
