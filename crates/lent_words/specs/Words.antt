@@ -1,5 +1,6 @@
 -- Words that are lent or stand in a file: one as a signed number, two as one number, and eight as a window's numbers.
-use Prim.Native.Nat.{ℕ, _+_, _-_, _*_}
+use mathlib.Core.List.{List, [], _∷_}
+use Prim.Native.Nat.{ℕ, _+_, _-_, _*_, _/_, _%_}
 use lib.Dec.{ltb}
 use lib.IntN.{ℤ, pos, negsuc}
 use Rattle.base.specs.Choose.{choose}
@@ -10,9 +11,21 @@ use Rattle.window.specs.Numbers.{windowOf}
 unfoldable pub signedWord : ℕ → ℤ
 signedWord w = choose (ltb w 2147483648) (pos w) (negsuc (4294967295 - w))
 
+-- a signed number as a word, two's complement too
+unfoldable pub unsignedWord : ℤ → ℕ
+unsignedWord (pos n) = n
+unsignedWord (negsuc n) = 4294967295 - n
+
 -- two words as one number, the low word first
 abbrev pub wideOf : ℕ → ℕ → ℕ
 wideOf low high = low + high * 4294967296
+
+-- the two words of a number
+abbrev pub lowOf : ℕ → ℕ
+lowOf n = n % 4294967296
+
+abbrev pub highOf : ℕ → ℕ
+highOf n = n / 4294967296
 
 -- word k being handed in: "signed origin, sizes", then the two heights; the air state stands elsewhere
 abbrev pub windowFrom : (ℕ → ℕ) → ℕ → Window
@@ -21,3 +34,10 @@ windowFrom word air =
     (signedWord (word 0)) (signedWord (word 1)) (signedWord (word 2))
     (word 3) (word 4) (word 5)
     (signedWord (word 6)) (signedWord (word 7)) air
+
+-- and these eight words of a window
+abbrev pub windowWords : Window → List ℕ
+windowWords w =
+    unsignedWord (w .origin .x) ∷ unsignedWord (w .origin .y) ∷ unsignedWord (w .origin .z)
+    ∷ w .sizes .x ∷ w .sizes .y ∷ w .sizes .z
+    ∷ unsignedWord (w .lowest) ∷ unsignedWord (w .highest) ∷ []
