@@ -1,2 +1,3 @@
--- The definitions of which files are scenes.
+-- The definitions of where a body's words stand, and of which files are scenes.
+pub mod Places
 pub mod Files

@@ -8,9 +8,9 @@ use native.Mathlib.Nat.{div-add-mod'}
 use native.Mathlib.Decide.{decLt}
 use native.Mathlib.Omega.{arith}
 use lib.Dec.{leb}
-use lib.ListN.{length, getD, take, drop, length-take, length-drop, List·getD-eq-default}
-use lib.Seq.{getD-take, getD-drop, drop-drop}
-use borrow.Author.Tests.{lt-ltb, le-ltb, leb-true}
+use lib.ListN.{length, getD, take, drop, length-append, length-take, length-drop, List·getD-eq-default}
+use lib.Seq.{getD-take, getD-drop, drop-drop, drop-at, take-all, take-add, take-append-le, drop-append-le}
+use borrow.Author.Tests.{lt-ltb, le-ltb, le-leb, leb-true}
 use Rattle.base.specs.Choose.{choose}
 use Rattle.base.specs.Loop.{stored}
 use Rattle.base.proofs.Every.{both, every-at, every-from}
@@ -196,3 +196,41 @@ module _ (p : Part) (f : ℕ → ℕ) (l₀ l : List ℕ) (j : ℕ) (size : leng
 pub none-written : (p : Part) (f : ℕ → ℕ) (l : List ℕ) → partRoom (length l) p ≡ false → l ≡ writtenPart l p f
 unfolding writtenPart choose
 none-written p f l room = rw room
+
+-- ---- parts one behind another
+
+-- a part is held where it was written last, and stays so whatever is written behind it
+pub holds-last : (before : List ℕ) (p : Part) (f : ℕ → ℕ) → length before ≡ p .first * 512 → Holds (before ++ partBytes p f) p f
+holds-last before p f e =
+    let n = part-length p f in
+    let l = length-append before (partBytes p f) in
+    bytes-hold (before ++ partBytes p f) p f (omega arith)
+    (rw (drop-at before (partBytes p f) (p .first * 512) e) (take-all (blocksOf p * 512) (partBytes p f) (omega arith)))
+
+pub holds-more : (file more : List ℕ) (p : Part) (f : ℕ → ℕ) → Holds file p f → Holds (file ++ more) p f
+holds-more file more p f holds =
+    let w = holds .whole in
+    let l = length-append file more in
+    let d = length-drop (p .first * 512) file in
+    bytes-hold (file ++ more) p f (omega arith)
+    (rw (drop-append-le (p .first * 512) file more (omega arith), take-append-le (blocksOf p * 512) (drop (p .first * 512) file) more (omega arith)) (holds-bytes file p f holds))
+
+-- a file up to the part's end is what stands before it, and the part
+pub holds-next : (file : List ℕ) (p : Part) (f : ℕ → ℕ) → Holds file p f → take (endOf p * 512) file ≡ take (p .first * 512) file ++ partBytes p f
+holds-next file p f holds =
+    let e : endOf p * 512 ≡ p .first * 512 + blocksOf p * 512 = omega arith in
+    rw (e, take-add (p .first * 512) (blocksOf p * 512) file, holds-bytes file p f holds)
+
+-- a part written behind what was written before it
+pub next-written : (l₀ l l′ before : List ℕ) (p : Part) (f : ℕ → ℕ) → partRoom (length l₀) p ≡ true → length before ≡ p .first * 512
+    → l ≡ stored l₀ 0 before → l′ ≡ writtenPart l p f → l′ ≡ stored l₀ 0 (before ++ partBytes p f)
+unfolding writtenPart choose
+next-written l₀ l l′ before p f room n e e′ =
+    let s : length l ≡ length l₀ = ap length e ∙ stored-length l₀ 0 before in
+    let put : l′ ≡ stored l (p .first * 512) (partBytes p f) = rw (s, room) at e′ in
+    let a : 0 + length before ≡ p .first * 512 = omega arith in
+    put ∙ ap (λ (k : List ℕ). stored k (p .first * 512) (partBytes p f)) e ∙ (rw a at (stored-then l₀ 0 before (partBytes p f)))
+
+pub room-there : (size : ℕ) (p : Part) → endOf p ≤ 128 → endOf p * 512 ≤ size → partRoom size p ≡ true
+unfolding partRoom
+room-there size p few long = rw (le-leb _ _ few, le-leb _ _ long)

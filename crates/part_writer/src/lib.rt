@@ -22,7 +22,7 @@ fn put_word(block: &mut [u8], k: u32, w: u32)
 }
 
 // A word that is not there is 0.
-fn word_in(words: &[u32], i: usize) -> u32
+pub fn word_in(words: &[u32], i: usize) -> u32
     ensures { λ r. ⌜ r ≡ wordIn (now (words .entry)) i ⌝ }
 {
     if i < words.len() { words[i] } else { 0 }

@@ -1,2 +1,4 @@
--- The definitions of a scene's tick.
+-- The definitions of what a scene holds, of its tick, and of it written anew.
+pub mod Contents
 pub mod Scene
+pub mod Rewritten
