@@ -13,7 +13,7 @@ use Rattle.base.specs.Choose.{choose}
 use Rattle.base.specs.Loop.{listed}
 use Rattle.window.specs.declared.Window.{Window}
 use Rattle.window.specs.Numbers.{withAir}
-use Rattle.lent_words.specs.Words.{signedWord, unsignedWord, wideOf, lowOf, highOf, windowFrom, windowWords}
+use Rattle.lent_words.specs.Words.{signedWord, unsignedWord, wideOf, lowOf, highOf, windowFrom, windowWords, Signed}
 
 -- ---- a signed word
 
@@ -52,14 +52,6 @@ pub high-wide : (l h : ℕ) → l < 4294967296 → highOf (wideOf l h) ≡ h
 high-wide l h b = omega arith
 
 -- ---- a window
-
--- its coordinates and heights are of 32 bits
-pub record Signed (w : Window) : Type 0 where
-  pub x : mag (w .origin .x) < 2147483648
-  pub y : mag (w .origin .y) < 2147483648
-  pub z : mag (w .origin .z) < 2147483648
-  pub low : mag (w .lowest) < 2147483648
-  pub high : mag (w .highest) < 2147483648
 
 pub window-back : (w : Window) (air : ℕ) → Signed w → windowFrom (λ k. getD (windowWords w) k 0) air ≡ withAir w air
 window-back w air s =

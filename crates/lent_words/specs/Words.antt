@@ -1,8 +1,9 @@
 -- Words that are lent or stand in a file: one as a signed number, two as one number, and eight as a window's numbers.
 use mathlib.Core.List.{List, [], _∷_}
-use Prim.Native.Nat.{ℕ, _+_, _-_, _*_, _/_, _%_}
+use Prim.Native.Nat.{ℕ, _+_, _-_, _*_, _/_, _%_, _<_}
 use lib.Dec.{ltb}
 use lib.IntN.{ℤ, pos, negsuc}
+use lib.Signed.{mag}
 use Rattle.base.specs.Choose.{choose}
 use Rattle.window.specs.declared.Window.{Window}
 use Rattle.window.specs.Numbers.{windowOf}
@@ -41,3 +42,11 @@ windowWords w =
     unsignedWord (w .origin .x) ∷ unsignedWord (w .origin .y) ∷ unsignedWord (w .origin .z)
     ∷ w .sizes .x ∷ w .sizes .y ∷ w .sizes .z
     ∷ unsignedWord (w .lowest) ∷ unsignedWord (w .highest) ∷ []
+
+-- origin and heights are of 32 bits
+pub record Signed (w : Window) : Type 0 where
+  pub x : mag (w .origin .x) < 2147483648
+  pub y : mag (w .origin .y) < 2147483648
+  pub z : mag (w .origin .z) < 2147483648
+  pub low : mag (w .lowest) < 2147483648
+  pub high : mag (w .highest) < 2147483648

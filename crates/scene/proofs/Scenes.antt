@@ -16,9 +16,8 @@ use Rattle.files.specs.declared.Counts.{Counts}
 use Rattle.files.specs.Files.{windowIn, countsOf, blocksFor, isScene}
 use Rattle.files.proofs.Scenes.{rooms, no-scene, scene}
 use Rattle.writer.specs.declared.Written.{Written}
-use Rattle.writer.specs.Contents.{contentsOf}
 use Rattle.writer.specs.Written.{writtenScene, sceneAnswer}
-use Rattle.scene.specs.Contents.{numbersIn, lateWords, ageIn, wordsOf, singlesOf, contentsIn}
+use Rattle.files.specs.Contents.{contentsOf, numbersIn, lateWords, ageIn, wordsOf, singlesOf, contentsBehind}
 use Rattle.scene.specs.Scene.{malformed, stepOf, stepIn, tickOf}
 use Rattle.scene.specs.Rewritten.{rewritten, rewriteAnswer}
 
@@ -35,7 +34,7 @@ module _ (file : List ℕ) (n : Counts) (records : List ℕ) (shapes : List Floa
     (ec : take (min (n .cells) 15744) cells ≡ listed (partWord file (cellPart (n .states) (n .boxes) (n .cells))) (min (n .cells) 15744) 0)
     (ea : a ≡ min (n .states * 20) 15744) (eb : b ≡ min (n .boxes * 6) 15744) (en : c ≡ min (n .cells) 15744)
     (ew : w ≡ windowIn file (windowPart (n .states) (n .boxes))) where
-  pub taken : contentsOf (take a records) (take b shapes) (take c cells) w (numbersIn file) (lateWords file) (ageIn file) ≡ contentsIn file n
+  pub taken : contentsOf (take a records) (take b shapes) (take c cells) w (numbersIn file) (lateWords file) (ageIn file) ≡ contentsBehind file n
   unfolding wordsOf singlesOf
   taken =
       let r = rooms n few in
@@ -70,7 +69,7 @@ module _ (file out : List ℕ) where
   not-rewritten e = rw (no-scene file e) (refl, refl)
 
   pub rewritten-by : (n : Counts) (after : List ℕ) (r : Written) → found n ≡ choose (isScene file) (found (countsOf file)) (refused 8)
-      → (blocksFor n ≤ 128 → after ≡ writtenScene out (contentsIn file n)) → (blocksFor n ≤ 128 → r ≡ sceneAnswer (length out) (contentsIn file n))
+      → (blocksFor n ≤ 128 → after ≡ writtenScene out (contentsBehind file n)) → (blocksFor n ≤ 128 → r ≡ sceneAnswer (length out) (contentsBehind file n))
       → (after ≡ rewritten out file) × (r ≡ rewriteAnswer (length out) file)
   unfolding rewritten rewriteAnswer choose
   rewritten-by n after r e f g =

@@ -1,4 +1,3 @@
--- The definitions of what a scene holds, of its tick, and of it written anew.
-pub mod Contents
+-- The definitions of a scene's tick, and of a scene written anew.
 pub mod Scene
 pub mod Rewritten

@@ -11,8 +11,7 @@ use Rattle.step.specs.Answers.{stepEntry}
 use Rattle.text.specs.Text.{textOf}
 use Rattle.files.specs.declared.Counts.{Counts}
 use Rattle.files.specs.Files.{countsOf, isScene}
-use Rattle.writer.specs.Contents.{Contents}
-use Rattle.scene.specs.Contents.{contentsIn}
+use Rattle.files.specs.Contents.{Contents, contentsBehind}
 
 -- ---- the tick of a scene: "8 comes first"
 
@@ -32,7 +31,7 @@ stepOf c =
     (rulesAt (c .numbers) (c .words)) (bodyAt (c .numbers) (c .words)) (motionAt (c .numbers) (c .words)) (c .age)
 
 unfoldable pub stepIn : List ℕ → Counts → StepAnswer
-stepIn file n = stepOf (contentsIn file n)
+stepIn file n = stepOf (contentsBehind file n)
 
 unfoldable pub tickOf : List ℕ → StepAnswer
 tickOf file = choose (isScene file) (stepIn file (countsOf file)) malformed

@@ -3,7 +3,7 @@ use files::body_word;
 use files::places;
 use lent_words::join;
 ghost use mathlib.Core.Path.{_≡_};
-ghost use Rattle.scene.specs.Contents.{numbersIn, bodyFloat, lateWords, ageIn};
+ghost use Rattle.files.specs.Contents.{numbersIn, bodyFloat, lateWords, ageIn};
 
 // Number k of the body's f64.
 fn body_float(file: &[u8], k: u8) -> f64

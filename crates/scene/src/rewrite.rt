@@ -14,9 +14,8 @@ ghost use mathlib.Core.Path.{_≡_};
 ghost use Prim.Native.Nat.{_≤_};
 ghost use lib.ListN.{length};
 ghost use Rattle.files.specs.Files.{blocksFor};
-ghost use Rattle.writer.specs.Contents.{contentsOf};
 ghost use Rattle.writer.specs.Written.{writtenScene, sceneAnswer};
-ghost use Rattle.scene.specs.Contents.{numbersIn, lateWords, ageIn, contentsIn};
+ghost use Rattle.files.specs.Contents.{contentsOf, numbersIn, lateWords, ageIn, contentsBehind};
 ghost use Rattle.scene.specs.Rewritten.{rewritten, rewriteAnswer};
 
 // A scene of a file's body among these tables and cells.
@@ -32,8 +31,8 @@ fn write_among(file: &[u8], records: &[u32], shapes: &[f32], cells: &[u32], w: W
 
 // The scene in a file with these counts.
 fn write_in(file: &[u8], n: Counts, out: &mut [u8]) -> Written
-    ensures { λ _. ⌜ (blocksFor n ≤ 128 → now (out .exit) ≡ writtenScene (now (out .entry)) (contentsIn (now (file .entry)) n)) ⌝ }
-    ensures { λ r. ⌜ (blocksFor n ≤ 128 → r ≡ sceneAnswer (length (now (out .entry))) (contentsIn (now (file .entry)) n)) ⌝ }
+    ensures { λ _. ⌜ (blocksFor n ≤ 128 → now (out .exit) ≡ writtenScene (now (out .entry)) (contentsBehind (now (file .entry)) n)) ⌝ }
+    ensures { λ r. ⌜ (blocksFor n ≤ 128 → r ≡ sceneAnswer (length (now (out .entry))) (contentsBehind (now (file .entry)) n)) ⌝ }
 {
     let records = records_of(file, n);
     let shapes = shapes_of(file, n);

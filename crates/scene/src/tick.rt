@@ -19,7 +19,7 @@ ghost use Rattle.bodies.specs.Lent.{motionAt, bodyAt, rulesAt};
 ghost use Rattle.step.specs.Answers.{stepEntry};
 ghost use Rattle.text.specs.Text.{written, writtenCount};
 ghost use Rattle.files.specs.Files.{blocksFor};
-ghost use Rattle.scene.specs.Contents.{numbersIn, lateWords, ageIn};
+ghost use Rattle.files.specs.Contents.{numbersIn, lateWords, ageIn};
 ghost use Rattle.scene.specs.Scene.{malformed, stepIn, tickOf, answerText};
 
 // 8: there is no motion to hand back.

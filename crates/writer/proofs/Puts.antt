@@ -21,37 +21,38 @@ use Rattle.part_writer.proofs.Stored.{stored-length}
 use Rattle.part_writer.proofs.Parts.{part-length, part-same, next-written, room-there}
 use Rattle.lent_words.specs.Words.{windowWords}
 use Rattle.writer.specs.declared.Written.{Written}
-use Rattle.writer.specs.Contents.{Contents, countsFor}
+use Rattle.files.specs.Contents.{Contents}
+use Rattle.writer.specs.Contents.{countsFor}
 use Rattle.writer.specs.Written.{bodyWordOf, bytesBy, sceneBytes, sceneBlocks, contentsRefusal, roomFor, sceneRefusal, writtenBy, answerBy, writtenScene, sceneAnswer, writtenChecked, checkedAnswer}
 
 -- ---- the parts
 
 module _ (c : Contents) (n : Counts) where
-  abbrev first : List ℕ
+  abbrev pub first : List ℕ
   first = partBytes bodyPart (bodyWordOf (c .numbers) (c .words) (c .age) n)
 
-  abbrev second : List ℕ
+  abbrev pub second : List ℕ
   second = partBytes (recordPart (n .states)) (wordIn (c .records))
 
-  abbrev third : List ℕ
+  abbrev pub third : List ℕ
   third = partBytes (boxPart (n .states) (n .boxes)) (bitsIn (c .shapes))
 
-  abbrev fourth : List ℕ
+  abbrev pub fourth : List ℕ
   fourth = partBytes (windowPart (n .states) (n .boxes)) (wordIn (windowWords (c .window)))
 
   abbrev fifth : List ℕ
   fifth = partBytes (cellPart (n .states) (n .boxes) (n .cells)) (wordIn (c .cells))
 
-  one-length : length first ≡ endOf bodyPart * 512
+  pub one-length : length first ≡ endOf bodyPart * 512
   one-length = let a = part-length bodyPart (bodyWordOf (c .numbers) (c .words) (c .age) n) in omega arith
 
-  two-length : length (first ++ second) ≡ endOf (recordPart (n .states)) * 512
+  pub two-length : length (first ++ second) ≡ endOf (recordPart (n .states)) * 512
   two-length = let a = one-length in let b = part-length (recordPart (n .states)) (wordIn (c .records)) in length-append first second ∙ omega arith
 
-  three-length : length (first ++ second ++ third) ≡ endOf (boxPart (n .states) (n .boxes)) * 512
+  pub three-length : length (first ++ second ++ third) ≡ endOf (boxPart (n .states) (n .boxes)) * 512
   three-length = let a = two-length in let b = part-length (boxPart (n .states) (n .boxes)) (bitsIn (c .shapes)) in length-append (first ++ second) third ∙ omega arith
 
-  four-length : length (first ++ second ++ third ++ fourth) ≡ endOf (windowPart (n .states) (n .boxes)) * 512
+  pub four-length : length (first ++ second ++ third ++ fourth) ≡ endOf (windowPart (n .states) (n .boxes)) * 512
   four-length =
       let a = three-length in
       let b = part-length (windowPart (n .states) (n .boxes)) (wordIn (windowWords (c .window))) in

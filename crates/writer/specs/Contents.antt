@@ -1,4 +1,4 @@
--- What a scene is made of, as it is handed over or as it stands in a file.
+-- The contents of a scene as they are written: how many there are of each, and what is not written as it was handed over.
 use mathlib.Core.Bool.{Bool, _&&_}
 use mathlib.Core.List.{List}
 use Prim.Native.Nat.{ℕ}
@@ -10,26 +10,12 @@ use Rattle.base.specs.Loop.{listed}
 use Rattle.floats.specs.Numbers.{zero64}
 use Rattle.cover.specs.Cover.{boxCount}
 use Rattle.table_check.specs.Check.{stateCount}
-use Rattle.window.specs.declared.Window.{Window}
 use Rattle.window.specs.Numbers.{withAir}
 use Rattle.bodies.specs.Numbers.{numberAt}
 use Rattle.part_writer.specs.Bytes.{wordIn}
 use Rattle.files.specs.declared.Counts.{Counts}
+use Rattle.files.specs.Contents.{Contents, contentsOf}
 use Rattle.files.specs.Places.{flapNumber, presentWord, airWord}
-
--- tables, the window with its lent words, and a body: 19 numbers and 6 words in the order of `bodies`, and its age
-pub record Contents : Type 0 where
-  pub records : List ℕ
-  pub shapes : List Float
-  pub cells : List ℕ
-  pub window : Window
-  pub numbers : List Float
-  pub words : List ℕ
-  pub age : ℕ
-
-abbrev pub contentsOf : List ℕ → List Float → List ℕ → Window → List Float → List ℕ → ℕ → Contents
-contentsOf records shapes cells w numbers words age =
-    record { records = records; shapes = shapes; cells = cells; window = w; numbers = numbers; words = words; age = age }
 
 -- how many states, boxes and words of the window there are
 abbrev pub countsFor : Contents → Counts
@@ -46,12 +32,5 @@ writtenNumber numbers words k = choose (isAbsent words k) zero64 (numberAt numbe
 -- the same contents as they are read back: the window's air state is the body's
 abbrev pub asWritten : Contents → Contents
 asWritten c =
-    record {
-      records = c .records;
-      shapes = c .shapes;
-      cells = c .cells;
-      window = withAir (c .window) (wordIn (c .words) airWord);
-      numbers = listed (writtenNumber (c .numbers) (c .words)) 19 0;
-      words = c .words;
-      age = c .age;
-    }
+    contentsOf (c .records) (c .shapes) (c .cells) (withAir (c .window) (wordIn (c .words) airWord))
+    (listed (writtenNumber (c .numbers) (c .words)) 19 0) (c .words) (c .age)

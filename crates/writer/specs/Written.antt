@@ -21,7 +21,8 @@ use Rattle.part_writer.specs.Bytes.{partBytes, wordIn, bitsIn}
 use Rattle.files.specs.declared.Counted.{Counted}
 use Rattle.files.specs.declared.Counted.the-variants as counted
 use Rattle.writer.specs.declared.Written.{Written}
-use Rattle.writer.specs.Contents.{Contents, countsFor, writtenNumber}
+use Rattle.files.specs.Contents.{Contents}
+use Rattle.writer.specs.Contents.{countsFor, writtenNumber}
 
 -- ---- the words of the parts that are not lent as words
 
@@ -63,6 +64,9 @@ orElse refusal next = choose (eqb refusal 0) next refusal
 unfoldable pub contentsRefusal : List ℕ → List Float → List ℕ → Window → List Float → List ℕ → ℕ
 contentsRefusal records shapes cells w numbers words = orElse (lentRefusal records shapes cells w) (bodyRefusal records numbers words)
 
+abbrev pub refusalOf : Contents → ℕ
+refusalOf c = contentsRefusal (c .records) (c .shapes) (c .cells) (c .window) (c .numbers) (c .words)
+
 -- 12, then 11, or 0: for so many blocks, and a buffer of this size
 unfoldable pub roomFor : ℕ → ℕ → ℕ
 roomFor blocks size = choose (leb blocks 128) (choose (leb (blocks * 512) size) 0 11) 12
@@ -71,8 +75,7 @@ abbrev pub roomRefusal : Contents → ℕ → ℕ
 roomRefusal c size = roomFor (sceneBlocks c) size
 
 unfoldable pub sceneRefusal : Contents → ℕ → ℕ
-sceneRefusal c size =
-    orElse (contentsRefusal (c .records) (c .shapes) (c .cells) (c .window) (c .numbers) (c .words)) (roomRefusal c size)
+sceneRefusal c size = orElse (refusalOf c) (roomRefusal c size)
 
 -- ---- what is handed back, by the refusal: the buffer, with "bytes past the scene" as they were, and how many bytes were written
 

@@ -10,7 +10,7 @@ ghost use Prim.Native.Nat.{_*_, _≤_};
 ghost use lib.ListN.{length};
 ghost use Rattle.base.specs.Loop.{stored};
 ghost use Rattle.files.specs.Files.{blocksFor};
-ghost use Rattle.writer.specs.Contents.{contentsOf};
+ghost use Rattle.files.specs.Contents.{contentsOf};
 ghost use Rattle.writer.specs.Written.{countedFor, bytesBy, contentsRefusal, roomFor, writtenChecked, checkedAnswer, writtenScene, sceneAnswer};
 
 // What a recorder is handed: refusal 0 and how many bytes the scene has; or a refusal, and 0.

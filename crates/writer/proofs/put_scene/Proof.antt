@@ -1,7 +1,7 @@
 -- `writer::put_scene` meets its contract. Assumes nothing.
 use mathlib.Core.Path.{sym, ap}
 use lib.ListN.{length}
-use Rattle.writer.specs.Contents.{contentsOf}
+use Rattle.files.specs.Contents.{contentsOf}
 use Rattle.writer.proofs.Puts.{all-put, all-length}
 use borrow.Author.Needs.{needs}
 use Rattle.writer.proofs.put_scene.Statement.{statement}

@@ -1,7 +1,7 @@
 -- `writer::write_scene` meets its contract. Assumes nothing.
 use mathlib.Core.Path.{ap, _∙_}
 use lib.ListN.{length}
-use Rattle.writer.specs.Contents.{contentsOf}
+use Rattle.files.specs.Contents.{contentsOf}
 use Rattle.writer.proofs.Puts.{contents-refused, contents-fit, written-length}
 use borrow.Author.Needs.{needs}
 use Rattle.writer.proofs.write_scene.Statement.{statement}

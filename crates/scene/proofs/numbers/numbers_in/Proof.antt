@@ -7,7 +7,7 @@ use lib.ListN.{length, take, length-set}
 use Rattle.base.specs.Loop.{listed}
 use Rattle.base.proofs.Fill.{turn}
 use Rattle.part_writer.proofs.Listed.{filled}
-use Rattle.scene.specs.Contents.{bodyFloat}
+use Rattle.files.specs.Contents.{bodyFloat}
 use Rattle.scene.proofs.numbers.numbers_in.Statement.{statement}
 use Rattle.scene.proofs.numbers.numbers_in.Tie as tie
 
