@@ -12,7 +12,7 @@ use lib.Ieee.{Float, binary32, binary64, isNan, ofBits, toBits}
 use lib.Ieee.Bits.{toBits-ofBits}
 use borrow.Author.Tests.{lt-ltb, le-ltb, le-leb, eq-eqb, ne-eqb, eqb-true, leb-true}
 use Rattle.base.specs.Choose.{choose}
-use Rattle.base.specs.Loop.{listed}
+use Rattle.base.specs.Loop.{listed, stored}
 use Rattle.base.proofs.Every.{both}
 use Rattle.floats.specs.Numbers.{zero64}
 use Rattle.cover.specs.Cover.{boxCount}
@@ -29,8 +29,8 @@ use Rattle.part_writer.specs.Bytes.{partBytes, wordIn, bitsIn}
 use Rattle.part_writer.proofs.Listed.{listed-length, listed-from}
 use Rattle.part_writer.proofs.Parts.{Holds, fits-holds, holds-next, part-same}
 use Rattle.writer.specs.Contents.{countsFor, isAbsent, writtenNumber}
-use Rattle.writer.specs.Written.{halfOf, bodyWordOf, bytesBy, sceneBytes, refusalOf}
-use Rattle.rounds.specs.Rounds.{ReadThenWritten}
+use Rattle.writer.specs.Written.{halfOf, bodyWordOf, bytesBy, sceneBytes, roomFor, refusalOf, sceneRefusal, writtenBy, answerBy, writtenScene, sceneAnswer}
+use Rattle.rounds.specs.Rounds.{ComesOut, ReadThenWritten}
 use Rattle.rounds.proofs.Passed.{Passed, passed}
 use Rattle.rounds.proofs.Known.{known, number-known, shape-known}
 
@@ -290,8 +290,26 @@ module _ (file : List ℕ) (small : (i : ℕ) → getD file i 0 < 256) where
         rw (body-bytes, part-same (recordPart (n .states)) _ _ record-same, part-same (boxPart (n .states) (n .boxes)) _ _ box-same, part-same (windowPart (n .states) (n .boxes)) _ _ place-same, part-same (cellPart (n .states) (n .boxes) (n .cells)) _ _ cell-same)
         (sym (rw (e₄, e₃, e₂, e₁) at e₅) ∙ take-all (blocksFor n * 512) file (omega arith))
 
-    pub made : sceneBytes c ≡ file
-    made = rw counts-same bytes-made
+    bytes-same : sceneBytes c ≡ file
+    bytes-same = rw counts-same bytes-made
+
+    -- and there is room for it
+    none-refused : (out : List ℕ) → length file ≤ length out → sceneRefusal c (length out) ≡ 0
+    unfolding sceneRefusal roomFor choose
+    none-refused out h =
+        let q = told .few in
+        let l = told .size in
+        rw (z, counts-same, le-leb (blocksFor n) 128 q, le-leb (blocksFor n * 512) (length out) (omega arith))
+
+    pub comes-out : ComesOut file
+    unfolding writtenBy answerBy choose
+    comes-out =
+        let l = told .size in
+        record {
+          bytes = bytes-same;
+          buffer = λ out h. rw (none-refused out h, bytes-same);
+          answer = λ out h. rw (none-refused out h, counts-same, l);
+        }
 
 pub read-then-written : ReadThenWritten
-read-then-written file small s z = made file small s z
+read-then-written file small s z = comes-out file small s z

@@ -38,6 +38,12 @@ pub record ReadsBack (out : List ℕ) (c : Contents) : Type 0 where
 abbrev pub WrittenThenRead : Type 0
 WrittenThenRead = (out : List ℕ) (c : Contents) → Typed c → sceneRefusal c (length out) ≡ 0 → ReadsBack out c
 
--- "a file that passes 8 and 1 to 4 is what the writer makes of its contents": a file is bytes
+-- "a file that passes 8 and 1 to 4 is what the writer makes of its contents": so are its bytes, and so a buffer that has room for them comes out
+pub record ComesOut (file : List ℕ) : Type 0 where
+  pub bytes : sceneBytes (contentsIn file) ≡ file
+  pub buffer : (out : List ℕ) → length file ≤ length out → writtenScene out (contentsIn file) ≡ stored out 0 file
+  pub answer : (out : List ℕ) → length file ≤ length out → sceneAnswer (length out) (contentsIn file) ≡ record { refusal = 0; bytes = length file }
+
+-- a file is bytes
 abbrev pub ReadThenWritten : Type 0
-ReadThenWritten = (file : List ℕ) → ((i : ℕ) → getD file i 0 < 256) → isScene file ≡ true → refusalOf (contentsIn file) ≡ 0 → sceneBytes (contentsIn file) ≡ file
+ReadThenWritten = (file : List ℕ) → ((i : ℕ) → getD file i 0 < 256) → isScene file ≡ true → refusalOf (contentsIn file) ≡ 0 → ComesOut file

@@ -18,8 +18,11 @@ use Rattle.files.specs.Contents.{Contents, contentsOf}
 use Rattle.files.specs.Places.{flapNumber, presentWord, airWord}
 
 -- how many states, boxes and words of the window there are
+abbrev pub countsBy : ℕ → ℕ → ℕ → Counts
+countsBy states boxes cells = record { states = states; boxes = boxes; cells = cells }
+
 abbrev pub countsFor : Contents → Counts
-countsFor c = record { states = stateCount (c .records); boxes = boxCount (c .shapes); cells = length (c .cells) }
+countsFor c = countsBy (stateCount (c .records)) (boxCount (c .shapes)) (length (c .cells))
 
 -- number k is that of a flap that is not present
 unfoldable pub isAbsent : List ℕ → ℕ → Bool

@@ -22,7 +22,7 @@ use Rattle.files.specs.declared.Counted.{Counted}
 use Rattle.files.specs.declared.Counted.the-variants as counted
 use Rattle.writer.specs.declared.Written.{Written}
 use Rattle.files.specs.Contents.{Contents}
-use Rattle.writer.specs.Contents.{countsFor, writtenNumber}
+use Rattle.writer.specs.Contents.{countsBy, countsFor, writtenNumber}
 
 -- ---- the words of the parts that are not lent as words
 
@@ -102,5 +102,5 @@ checkedAnswer size c = answerBy (roomRefusal c size) c
 
 -- what the program finds of the counts: a part alone that is longer than a scene has no room
 abbrev pub countedFor : List ℕ → List Float → List ℕ → Counted → Type 0
-countedFor records shapes cells (counted.Are n) = n ≡ record { states = stateCount records; boxes = boxCount shapes; cells = length cells }
-countedFor records shapes cells counted.Unfit = 128 < blocksFor (record { states = stateCount records; boxes = boxCount shapes; cells = length cells })
+countedFor records shapes cells (counted.Are n) = n ≡ countsBy (stateCount records) (boxCount shapes) (length cells)
+countedFor records shapes cells counted.Unfit = 128 < blocksFor (countsBy (stateCount records) (boxCount shapes) (length cells))

@@ -11,6 +11,7 @@ ghost use lib.ListN.{length};
 ghost use Rattle.base.specs.Loop.{stored};
 ghost use Rattle.files.specs.Files.{blocksFor};
 ghost use Rattle.files.specs.Contents.{contentsOf};
+ghost use Rattle.writer.specs.Contents.{countsBy};
 ghost use Rattle.writer.specs.Written.{countedFor, bytesBy, contentsRefusal, roomFor, writtenChecked, checkedAnswer, writtenScene, sceneAnswer};
 
 // What a recorder is handed: refusal 0 and how many bytes the scene has; or a refusal, and 0.
@@ -30,6 +31,18 @@ fn contents_refusal(records: &[u32], shapes: &[f32], cells: &[u32], w: Window, n
     lent
 }
 
+// These counts, which are few enough.
+fn counts_of(states: usize, boxes: usize, cells: usize) -> Counts
+    requires { ⌜ (states ≤ 4096) × (boxes ≤ 16384) × (cells ≤ 15744) ⌝ }
+    ensures { λ r. ⌜ r ≡ countsBy states boxes cells ⌝ }
+{
+    Counts {
+        states: states as u16,
+        boxes: boxes as u16,
+        cells: cells as u32,
+    }
+}
+
 // How many states, boxes and words of the window there are; none where a part alone is longer than a scene.
 fn counts_for(records: &[u32], shapes: &[f32], cells: &[u32]) -> Counted
     ensures { λ r. ⌜ countedFor (now (records .entry)) (now (shapes .entry)) (now (cells .entry)) r ⌝ }
@@ -39,11 +52,7 @@ fn counts_for(records: &[u32], shapes: &[f32], cells: &[u32]) -> Counted
     if states <= 4096 {
         if boxes <= 16384 {
             if cells.len() <= 15744 {
-                return Counted::Are(Counts {
-                    states: states as u16,
-                    boxes: boxes as u16,
-                    cells: cells.len() as u32,
-                });
+                return Counted::Are(counts_of(states, boxes, cells.len()));
             }
         }
     }

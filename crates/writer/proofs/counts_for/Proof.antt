@@ -4,17 +4,11 @@ use borrow.Author.Needs.{needs}
 use Rattle.writer.proofs.counts_for.Statement.{statement}
 use Rattle.writer.proofs.counts_for.Tie as tie
 
-cast-t11 : tie.Need-cast-t11
-cast-t11 c = search needs
-
-cast-t12 : tie.Need-cast-t12
-cast-t12 c = search needs
-
-cast-t14 : tie.Need-cast-t14
-cast-t14 c = search needs
+counts-of-requires : tie.Need-counts-of-requires
+counts-of-requires c κs = search needs
 
 returns : tie.Need-returns
-returns c = search needs
+returns c = c .counts-of .ensures
 
 returns-2 : tie.Need-returns-2
 returns-2 c = many-cells _ (c .if3 .left)
@@ -26,5 +20,4 @@ returns-4 : tie.Need-returns-4
 returns-4 c = many-states _ (c .if1 .left)
 
 pub counts-for-spec : {M : Type 1} → statement M
-counts-for-spec =
-    tie.close (tie.spec cast-t11 cast-t12 cast-t14 returns returns-2 returns-3 returns-4)
+counts-for-spec = tie.close (tie.spec counts-of-requires returns returns-2 returns-3 returns-4)
