@@ -1,13 +1,13 @@
 -- What is known of contents that pass 1 to 4. Assumes nothing.
-use mathlib.Core.Bool.{Bool, true, false, _&&_, true≢false}
+use mathlib.Core.Bool.{true, _&&_}
 use mathlib.Core.List.{List}
-use mathlib.Core.Path.{_≡_, refl, sym, _∙_}
-use Prim.Native.Nat.{ℕ, zero, suc, _+_, _*_, _/_, _%_, _≤_, _<_}
+use mathlib.Core.Path.{_≡_}
+use Prim.Native.Nat.{ℕ, _+_, _*_, _%_, _≤_}
 use native.Mathlib.Omega.{arith}
-use lib.Dec.{eqb, leb, ltb}
+use lib.Dec.{eqb, leb}
 use lib.Ieee.{Float}
 use lib.ListN.{length}
-use borrow.Author.Tests.{eq-eqb, eqb-true, leb-true}
+use borrow.Author.Tests.{eqb-true, leb-true}
 use Rattle.base.specs.Choose.{choose}
 use Rattle.base.specs.Every.{every}
 use Rattle.base.proofs.Every.{both}
@@ -20,41 +20,8 @@ use Rattle.bodies.specs.Numbers.{lengthsFit}
 use Rattle.bodies.specs.Limits.{numbersFit, motionFits, numberRefusal}
 use Rattle.bodies.specs.Lent.{motionAt, bodyAt, rulesAt, bodyRefusal}
 use Rattle.files.specs.Contents.{Contents}
-use Rattle.writer.specs.Written.{orElse, contentsRefusal, refusalOf, sceneRefusal}
-
--- ---- none of two refusals
-
-no-first : (x y : ℕ) → choose true x y ≡ 0 → x ≡ 0
-unfolding choose
-no-first x y h = h
-
-no-second : (x y : ℕ) → choose false x y ≡ 0 → y ≡ 0
-unfolding choose
-no-second x y h = h
-
-pub record Neither (a b : ℕ) : Type 0 where
-  pub first : a ≡ 0
-  pub second : b ≡ 0
-
-pub neither : (a b : ℕ) → orElse a b ≡ 0 → Neither a b
-neither a b h = go (eqb a 0) refl h
-  where
-    go : (t : Bool) → eqb a 0 ≡ t → choose t b a ≡ 0 → Neither a b
-    go true e g = record { first = eqb-true a 0 e; second = no-first b a g }
-    go false e g = absurd (true≢false (sym (eq-eqb a 0 (no-second b a g)) ∙ e))
-
--- a test without which there is a refusal
-record Held (t : Bool) (a : ℕ) : Type 0 where
-  test : t ≡ true
-  rest : a ≡ 0
-
-held : (t : Bool) (a k : ℕ) → choose t a (suc k) ≡ 0 → Held t a
-unfolding choose
-held true a k h = record { test = refl; rest = h }
-held false a k h = absurd (never k h)
-  where
-    never : (k : ℕ) → suc k ≡ 0 → ⊥
-    never k h = omega arith
+use Rattle.writer.specs.Written.{contentsRefusal, refusalOf}
+use Rattle.writer.proofs.Refusals.{neither, held}
 
 -- ---- the tables, the window and the body
 

@@ -37,7 +37,8 @@ use Rattle.writer.specs.Contents.{countsFor, isAbsent, writtenNumber, asWritten
 use Rattle.writer.specs.Written.{halfOf, bodyWordOf, bytesBy, sceneBytes, sceneBlocks, roomFor, roomRefusal, refusalOf, sceneRefusal, writtenBy, answerBy, writtenScene, sceneAnswer}
 use Rattle.writer.proofs.Puts.{first, second, third, fourth, one-length, two-length, three-length, four-length, bytes-length, room-fits}
 use Rattle.rounds.specs.Rounds.{Typed, fileOf, ReadsBack, WrittenThenRead}
-use Rattle.rounds.proofs.Passed.{Passed, passed, neither}
+use Rattle.writer.proofs.Refusals.{neither}
+use Rattle.rounds.proofs.Passed.{Passed, passed}
 
 -- ---- words of 32 bits
 
