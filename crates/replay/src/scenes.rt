@@ -15,14 +15,14 @@ fn digits(n: u32) -> [u8; 4]
     [digit(n / 1000), digit(n / 100), digit(n / 10), digit(n)]
 }
 
-fn name(n: u32) -> [u8; 8]
+pub(crate) fn name(n: u32) -> [u8; 8]
     ensures { λ r. ⌜ 8 ≡ length r ⌝ }
 {
     [digit(n / 1000), digit(n / 100), digit(n / 10), digit(n), b'.', b's', b'c', b'n']
 }
 
 // Room for the longest scene and one byte more, and for every answer.
-fn file_room() -> [u8; 65537]
+pub(crate) fn file_room() -> [u8; 65537]
     ensures { λ r. ⌜ 65537 ≡ length r ⌝ }
 {
     [0; 65537]
@@ -75,15 +75,11 @@ fn put_rewritten(file: &[u8]) {
     crate::text::put(b"another file");
 }
 
-fn put_scene(label: &[u8], file: &[u8]) {
-    crate::text::put(label);
+// What a scene's line begins with: its number, and a space.
+pub(crate) fn put_label(n: u32) {
+    let label = digits(n);
+    crate::text::put(&label);
     crate::text::put(b" ");
-    put_answer(file);
-    crate::text::put(b"\nrewrite ");
-    crate::text::put(label);
-    crate::text::put(b" ");
-    put_rewritten(file);
-    crate::text::put(b"\n");
 }
 
 fn run(n: u32) {
@@ -92,11 +88,16 @@ fn run(n: u32) {
     if fd < 0 {
         return;
     }
-    let mut file = file_room();
-    let size = io::read_full(fd, &mut file);
+    let mut room = file_room();
+    let size = io::read_full(fd, &mut room);
     libc::close(fd);
-    let label = digits(n);
-    put_scene(&label, crate::text::part(&file, 0, size));
+    let file = crate::text::part(&room, 0, size);
+    put_label(n);
+    put_answer(file);
+    crate::text::put(b"\nrewrite ");
+    put_label(n);
+    put_rewritten(file);
+    crate::text::put(b"\n");
 }
 
 pub(crate) fn run_all() {
