@@ -21,8 +21,12 @@ same-length c = search needs
 
 returns : tie.Need-returns
 returns c =
-    let s = c .before .before .before .before .before .before .before .before .before .before .before .before in
-    ?
+    let at-write = c .before .before .before in
+    let at-window = at-write .before .before in
+    let s = at-window .before .before .before .before .before .before .before in
+    let a = s .args in
+    let w = rw (toZ-ofZ w32 (a .ox) (s .fits .ox), toZ-ofZ w32 (a .oy) (s .fits .oy), toZ-ofZ w32 (a .oz) (s .fits .oz), toZ-ofZ w32 (a .lowest) (s .fits .lowest), toZ-ofZ w32 (a .highest) (s .fits .highest)) at (at-window .window-of .ensures) in
+    (c .bytes-or-refusal .ensures ∙ ap bytesOrRefusal (rw w at (at-write .write-checked .ensures .1)), rw w at (at-write .write-checked .ensures .0))
 
 pub boltjuniper-write-checked-spec : {M : Type 1} → statement M
 boltjuniper-write-checked-spec =

@@ -7,7 +7,7 @@ use Rattle.recorder.proofs.bytes_or_refusal.Tie as tie
 
 returns : tie.Need-returns
 unfolding choose
-returns c = rw (eq-eqb _ _ (c .before .if1 .taken))
+returns c = rw (eq-eqb _ _ (c .if1 .taken))
 
 cast-result : tie.Need-cast-result
 cast-result c = search needs
