@@ -1,4 +1,4 @@
-// The scene files of data/, by number: each with what `onetick` prints of it, its lines joined by `; `. From 1000 on they are scenes of the layout
+// The scene files of data/, by number: each with what `onetick` prints of it, its lines joined by `; `, and then with what `rewrite` does. From 1000 on they are scenes of the layout
 // without heights and columns, converted (tools/convert): not each has a likeness, so a number without a file is passed over. The stored answers have
 // a line for each that must be there.
 ghost use mathlib.Core.Path.{_≡_};
@@ -48,12 +48,31 @@ fn put_joined(text: &[u8]) {
     }
 }
 
-fn put_answer(fd: i32) {
-    let mut file = file_room();
-    let n = io::read_full(fd, &mut file);
+fn put_answer(file: &[u8]) {
     let mut out = answer_room();
-    let m = scene::answer(crate::text::part(&file, 0, n), &mut out);
+    let m = scene::answer(file, &mut out);
     put_joined(crate::text::part(&out, 0, m));
+}
+
+fn put_refusal(refusal: u32) {
+    let last = [digit(refusal)];
+    crate::text::put(b"refused ");
+    crate::text::put(&last);
+}
+
+// The file as the writer makes it of its contents: the same, or its refusal.
+fn put_rewritten(file: &[u8]) {
+    let mut out = file_room();
+    let a = scene::rewrite(file, &mut out);
+    if a.refusal != 0 {
+        put_refusal(a.refusal);
+        return;
+    }
+    if suffixes::equals(crate::text::part(&out, 0, a.bytes), file) {
+        crate::text::put(b"same");
+        return;
+    }
+    crate::text::put(b"another file");
 }
 
 // What a scene's line begins with: its number, and a space.
@@ -69,9 +88,15 @@ fn run(n: u32) {
     if fd < 0 {
         return;
     }
-    put_label(n);
-    put_answer(fd);
+    let mut room = file_room();
+    let size = io::read_full(fd, &mut room);
     libc::close(fd);
+    let file = crate::text::part(&room, 0, size);
+    put_label(n);
+    put_answer(file);
+    crate::text::put(b"\nrewrite ");
+    put_label(n);
+    put_rewritten(file);
     crate::text::put(b"\n");
 }
 
