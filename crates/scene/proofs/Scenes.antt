@@ -1,29 +1,26 @@
 -- From what the program reads to what the scene holds. Assumes nothing.
 use mathlib.Core.List.{List, _++_}
 use mathlib.Core.Path.{_≡_, refl, sym, ap, _∙_}
-use Prim.Native.Nat.{ℕ, _-_, _*_, _≤_, min}
+use Prim.Native.Nat.{ℕ, _-_, _≤_}
 use native.Mathlib.Omega.{arith}
 use lib.ListN.{length, take}
 use lib.Seq.{take-all}
-use lib.Ieee.{Float, binary32, ofBits}
+use lib.Ieee.{Float}
 use Rattle.base.specs.Choose.{choose}
 use Rattle.base.specs.Loop.{listed}
 use Rattle.base.specs.Ask.{refused, found}
 use Rattle.base.proofs.Cases.{yes, no}
 use Rattle.base.proofs.Fill.{whole}
 use Rattle.tables.specs.Tables.{wordAt}
-use Rattle.window.specs.declared.Window.{Window}
 use Rattle.bodies.specs.declared.BodyNumbers.{BodyNumbers}
 use Rattle.bodies.specs.declared.MotionNumbers.{MotionNumbers}
 use Rattle.bodies.specs.declared.Rules.{Rules}
 use Rattle.bodies.specs.Numbers.{numberAt, motionFrom, bodyFrom, rulesFrom}
 use Rattle.step.specs.declared.StepAnswer.{StepAnswer}
-use Rattle.step.specs.Answers.{stepEntry}
-use Rattle.blocks.specs.Blocks.{partWord, recordPart, boxPart, windowPart, cellPart}
 use Rattle.files.specs.declared.Counts.{Counts}
-use Rattle.files.specs.Files.{windowIn, countsOf, blocksFor, isScene}
-use Rattle.files.proofs.Scenes.{rooms, no-scene, scene}
-use Rattle.scene.specs.Scene.{bodyFloat, lateWord, rulesIn, bodyIn, givenIn, ageIn, malformed, wordsOf, singlesOf, stepIn, tickOf}
+use Rattle.files.specs.Files.{countsOf, blocksFor, isScene}
+use Rattle.files.proofs.Scenes.{no-scene, scene}
+use Rattle.scene.specs.Scene.{bodyFloat, lateWord, rulesIn, bodyIn, givenIn, malformed, stepIn, tickOf}
 
 -- ---- the body, out of its 19 numbers and 6 words
 
@@ -43,28 +40,6 @@ module _ (file : List ℕ) (numbers : List Float) (words : List ℕ) (en : numbe
   pub motion-read : motionFrom (numberAt numbers) (wordAt words 0) ≡ givenIn file
   unfolding givenIn listed choose
   motion-read = rw (en, ew)
-
--- ---- the tables and cells, all of their words
-
-all : (k : ℕ) → k ≤ 15744 → min k 15744 ≡ k
-all k h = omega arith
-
--- what the program hands to the step is what the scene holds
-pub stepped : (file : List ℕ) (n : Counts) (records : List ℕ) (shapes : List Float) (cells : List ℕ) (a b c : ℕ) (w : Window)
-    → blocksFor n ≤ 128
-    → take (min (n .states * 20) 15744) records ≡ listed (partWord file (recordPart (n .states))) (min (n .states * 20) 15744) 0
-    → take (min (n .boxes * 6) 15744) shapes ≡ listed (λ i. ofBits binary32 (partWord file (boxPart (n .states) (n .boxes)) i)) (min (n .boxes * 6) 15744) 0
-    → take (min (n .cells) 15744) cells ≡ listed (partWord file (cellPart (n .states) (n .boxes) (n .cells))) (min (n .cells) 15744) 0
-    → a ≡ min (n .states * 20) 15744 → b ≡ min (n .boxes * 6) 15744 → c ≡ min (n .cells) 15744
-    → w ≡ windowIn file (windowPart (n .states) (n .boxes))
-    → stepEntry (take a records) (take b shapes) (take c cells) w (rulesIn file) (bodyIn file) (givenIn file) (ageIn file) ≡ stepIn file n
-unfolding stepIn wordsOf singlesOf
-stepped file n records shapes cells a b c w few er es ec ea eb en ew =
-    let r = rooms n few in
-    let p = all (n .states * 20) (r .records) in
-    let q = all (n .boxes * 6) (r .shapes) in
-    let s = all (n .cells) (r .cells) in
-    rw (ea, eb, en, er, es, ec, p, q, s, ew)
 
 -- ---- the tick
 

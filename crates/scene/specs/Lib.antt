@@ -1,2 +1,3 @@
 -- The definitions of a scene's tick.
+pub mod Held
 pub mod Scene
