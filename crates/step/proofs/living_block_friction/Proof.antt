@@ -1,3 +1,4 @@
+-- `step::living_block_friction` meets its contract. Assumes nothing.
 use Rattle.step.specs.Answers.{frictionEntry}
 use Rattle.samples.specs.Samples.{livingBlockFriction}
 use Rattle.base.specs.Choose.{choose}
