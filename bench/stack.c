@@ -26,7 +26,8 @@ static double numbers[19], mover[9], list[6 * (LIST + 1)];
 static size_t listed, file_bytes;
 static uint64_t age;
 static uint32_t file[FILE_BYTES / 4 + 128];
-static double out[16];
+static uint32_t night_window[BOLTJUNIPER_WINDOW_WORDS], night_words[BOLTJUNIPER_BODY_WORDS];
+static double night_numbers[BOLTJUNIPER_BODY_NUMBERS], out[16];
 
 static size_t cells_len(void) { return (size_t)sizes[0] * sizes[2] * (sizes[1] + 1); }
 
@@ -46,6 +47,9 @@ static uint32_t answer;
 CALL(check_tables, boltjuniper_check_tables(TABLES))
 CALL(step, boltjuniper_step(TABLES, WINDOW, numbers, 19, words, 6, age, out, 8))
 CALL(step_checked, boltjuniper_step_checked(TABLES, WINDOW, numbers, 19, words, 6, age, out, 8))
+CALL(step_falling, boltjuniper_step_falling(TABLES, WINDOW, numbers, 19, words, 6, age, 0, 0, out, 10))
+CALL(midnight, boltjuniper_midnight(TABLES, night_window, BOLTJUNIPER_WINDOW_WORDS, 1, cells, cells_len(), night_numbers, BOLTJUNIPER_BODY_NUMBERS,
+                                    night_words, BOLTJUNIPER_BODY_WORDS, 1, out, BOLTJUNIPER_ANSWER_NUMBERS))
 CALL(tick, boltjuniper_tick((const uint8_t *)file, file_bytes, out, 8))
 CALL(move, boltjuniper_move(TABLES, WINDOW, air, mover, 9, numbers[13], words[0], out, 10))
 CALL(move_over_list, boltjuniper_move_over_list(list, 6 * listed, mover, 9, numbers[13], words[0], out, 10))
@@ -67,6 +71,8 @@ static struct row rows[] = {
     {"boltjuniper_tick", tick, A_FILE, 0, 0, 0, 0, 0},
     {"boltjuniper_step", step, PARTS, 0, 0, 0, 0, 0},
     {"boltjuniper_step_checked", step_checked, PARTS, 0, 0, 0, 0, 0},
+    {"boltjuniper_step_falling", step_falling, PARTS, 0, 0, 0, 0, 0},
+    {"boltjuniper_midnight", midnight, PARTS, 0, 0, 0, 0, 0},
     {"boltjuniper_move", move, PARTS, 0, 0, 0, 0, 0},
     {"boltjuniper_move_over_list", move_over_list, A_LIST, 0, 0, 0, 0, 0},
     {"boltjuniper_collected", collected, PARTS, 0, 0, 0, 0, 0},
@@ -126,8 +132,8 @@ static void part(size_t per, size_t n, void *to) {
     for (uint32_t *next = to; n; n -= n < per ? n : per, next += per, block++) memcpy(next, file + 128 * block + 3, 4 * (n < per ? n : per));
 }
 
-/* The box of the body at hand, and the way of its velocity. */
-static void mover_of_body(void) {
+/* Of the body at hand, what the other calls take: its box and the way of its velocity, and its row in a midnight run. */
+static void body_is_set(void) {
     double w = numbers[6] / 2;
     for (int k = 0; k < 3; k++) {
         mover[k] = numbers[k] - (k == 1 ? 0 : w);
@@ -136,6 +142,9 @@ static void mover_of_body(void) {
     }
     mover[7] -= numbers[9];
     air = words[5];
+    memcpy(night_window, origin, sizeof origin), memcpy(night_window + 3, sizes, sizeof sizes);
+    night_window[6] = (uint32_t)lowest, night_window[7] = (uint32_t)highest, night_window[9] = (uint32_t)cells_len();
+    memcpy(night_numbers, numbers, sizeof numbers), memcpy(night_words + 1, &age, sizeof age), memcpy(night_words + 3, words, sizeof words);
 }
 
 static void stored_scene(const char *name) {
@@ -158,7 +167,7 @@ static void stored_scene(const char *name) {
     lowest = (int32_t)window[6], highest = (int32_t)window[7];
     part(123, cells_len(), cells);
     memcpy(numbers, body, sizeof numbers), memcpy(words, body + 40, sizeof words), memcpy(&age, body + 38, sizeof age);
-    mover_of_body();
+    body_is_set();
     all(PARTS, in_stored);
 }
 
@@ -281,7 +290,7 @@ static void body_at_random(void) {
     numbers[14] = 0.6, numbers[15] = 0.1, numbers[16] = 0.02, numbers[17] = 0.8, numbers[18] = 0.5;
     words[0] = chance(2), words[1] = model, words[2] = chance(3), words[3] = chance(2), words[4] = words[5] = 0;
     age = chance(100);
-    mover_of_body();
+    body_is_set();
 }
 
 /* The list of the move over a list: as many boxes as there may be, around the mover. */
@@ -346,7 +355,7 @@ static void many_boxes(int more) {
         int x = n % 2, z = n / 2 % 2 - 1, y = n < 8 ? 1 + n / 4 : 0;
         cells[((size_t)(y - origin[1]) * sizes[2] + (size_t)(z - origin[2])) * sizes[0] + (size_t)(x - origin[0])] = SLABS;
     }
-    mover_of_body();
+    body_is_set();
 }
 
 static void dearest(void) {
