@@ -28,6 +28,7 @@ static uint64_t age;
 static uint32_t file[FILE_BYTES / 4 + 128];
 static uint32_t night_window[BOLTJUNIPER_WINDOW_WORDS], night_words[BOLTJUNIPER_BODY_WORDS];
 static double night_numbers[BOLTJUNIPER_BODY_NUMBERS], out[16];
+static uint8_t recorded[FILE_BYTES];
 
 static size_t cells_len(void) { return (size_t)sizes[0] * sizes[2] * (sizes[1] + 1); }
 
@@ -55,6 +56,11 @@ CALL(move, boltjuniper_move(TABLES, WINDOW, air, mover, 9, numbers[13], words[0]
 CALL(move_over_list, boltjuniper_move_over_list(list, 6 * listed, mover, 9, numbers[13], words[0], out, 10))
 CALL(collected, boltjuniper_collected(TABLES, WINDOW, air, mover, 9, numbers[13], 0, out, 7))
 
+/* A recorder's call answers how many bytes it wrote, 512 to a block, or a refusal. */
+static inline uint32_t refused(uint64_t n) { return n < 512 ? (uint32_t)n : 0; }
+CALL(write_scene, refused(boltjuniper_write_scene(TABLES, WINDOW, numbers, 19, words, 6, age, recorded, sizeof recorded)))
+CALL(write_checked, refused(boltjuniper_write_checked(TABLES, WINDOW, numbers, 19, words, 6, age, recorded, sizeof recorded)))
+
 /* What the others are to be held against: as many parameters as the step has, and nothing done. */
 static __attribute__((noipa)) uint32_t nothing_with(const uint32_t *a, size_t b, const float *c, size_t d, const uint32_t *e, size_t f, int32_t g,
                                                     int32_t h, int32_t i, uint32_t j, uint32_t k, uint32_t l, int32_t m, int32_t n, const double *o,
@@ -77,6 +83,8 @@ static struct row rows[] = {
     {"boltjuniper_move_over_list", move_over_list, A_LIST, 0, 0, 0, 0, 0},
     {"boltjuniper_collected", collected, PARTS, 0, 0, 0, 0, 0},
     {"boltjuniper_check_tables", check_tables, PARTS, 0, 0, 0, 0, 0},
+    {"boltjuniper_write_scene", write_scene, PARTS, 0, 0, 0, 0, 0},
+    {"boltjuniper_write_checked", write_checked, PARTS, 0, 0, 0, 0, 0},
     {"a call that does nothing", nothing, PARTS, 0, 0, 0, 0, 0},
 };
 enum { ROWS = sizeof rows / sizeof *rows };
@@ -379,6 +387,7 @@ static void dearest(void) {
         many_boxes(more);
         write_file();
         must(more ? 6 : 0, tick);
+        must(0, write_scene);
         all(A_FILE | PARTS, in_dearest);
     }
 }

@@ -109,12 +109,3 @@ room p h =
     let m : blocksOf p * perBlock (p .kind) ≤ 15744 = mul-le-mul {n₂ = 128} {m₂ = 123} b (per-block (p .kind) .most) in
     let w = words-most p in
     omega arith
-
--- no more of two parts together, one behind the other
-pub room-for-both : (p q : Part) → endOf p ≤ q .first → endOf q ≤ 128 → p .words + q .words ≤ 15744
-room-for-both p q before h =
-    let a : blocksOf p * perBlock (p .kind) ≤ blocksOf p * 123 = mul-le-mul {n₂ = blocksOf p} {m₂ = 123} (omega arith) (per-block (p .kind) .most) in
-    let b : blocksOf q * perBlock (q .kind) ≤ blocksOf q * 123 = mul-le-mul {n₂ = blocksOf q} {m₂ = 123} (omega arith) (per-block (q .kind) .most) in
-    let w = words-most p in
-    let v = words-most q in
-    omega arith

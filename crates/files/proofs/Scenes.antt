@@ -13,7 +13,7 @@ use Rattle.base.proofs.Every.{both}
 use Rattle.window.specs.declared.Sizes.{Sizes}
 use Rattle.window.specs.Window.{sizesFit}
 use Rattle.blocks.specs.Blocks.{recordPart, boxPart, windowPart, cellPart}
-use Rattle.blocks.proofs.Parts.{room, room-for-both}
+use Rattle.blocks.proofs.Parts.{room}
 use Rattle.files.specs.declared.Counts.{Counts}
 use Rattle.files.specs.Files.{bodyWord, sizesIn, windowIn, countsIn, countsFit, countsOf, flapFits, partsFit, blocksFor, blocksFit, isScene}
 
@@ -66,16 +66,18 @@ module _ (file : List ℕ) where
 pub no-scene : (file : List ℕ) → refused 8 ≡ choose (isScene file) (found (countsOf file)) (refused 8) → isScene file ≡ false
 no-scene file e = unfit (isScene file) (countsOf file) e
 
--- how many words its parts have: 128 blocks hold no more, of records and cells together either
+-- how many words its parts have: 128 blocks hold no more
 pub record Rooms (n : Counts) : Type 0 where
-  pub words : n .states * 20 + n .cells ≤ 15744
+  pub records : n .states * 20 ≤ 15744
   pub shapes : n .boxes * 6 ≤ 15744
+  pub cells : n .cells ≤ 15744
 
 pub rooms : (n : Counts) → blocksFor n ≤ 128 → Rooms n
 rooms n h =
     record {
-      words = room-for-both (recordPart (n .states)) (cellPart (n .states) (n .boxes) (n .cells)) (omega arith) h;
+      records = room (recordPart (n .states)) (omega arith);
       shapes = room (boxPart (n .states) (n .boxes)) (omega arith);
+      cells = room (cellPart (n .states) (n .boxes) (n .cells)) h;
     }
 
 pub record Scene (file : List ℕ) (n : Counts) : Type 0 where

@@ -3,12 +3,15 @@ use mathlib.Core.List.{List, _++_}
 use mathlib.Core.Path.{_≡_, ap, _∙_}
 use Prim.Native.Nat.{ℕ, _+_, _-_, _*_, _≤_, min}
 use native.Mathlib.Omega.{arith}
+use native.Mathlib.Nat.{mul-le-mul}
 use lib.ListN.{length, take, drop, length-take, length-drop}
 use lib.Seq.{length-take-le, take-at, drop-at, take-append-le}
 use lib.Ieee.{Float, binary32, ofBits}
 use Rattle.base.specs.Loop.{listed}
 use Rattle.window.specs.declared.Window.{Window}
-use Rattle.blocks.specs.Blocks.{partWord, recordPart, boxPart, windowPart, cellPart}
+use Rattle.blocks.specs.declared.Part.{Part}
+use Rattle.blocks.specs.Blocks.{perBlock, blocksOf, endOf, partWord, recordPart, boxPart, windowPart, cellPart}
+use Rattle.blocks.proofs.Parts.{per-block, words-most}
 use Rattle.files.specs.declared.Counts.{Counts}
 use Rattle.files.specs.Files.{windowIn, blocksFor}
 use Rattle.files.specs.Contents.{contentsOf, numbersIn, lateWords, ageIn, wordsOf, singlesOf, contentsBehind}
@@ -43,6 +46,15 @@ pub handed-on : (file : List ℕ) (n : Counts) (words : List ℕ) (singles : Lis
     → contentsOf (take a words) (take b singles) (take (a + c - a) (drop a words)) w (numbersIn file) (lateWords file) (ageIn file) ≡ heldContents file n words singles
 handed-on file n words singles a b c w ea eb ec ew = let q : a + c - a ≡ c = omega arith in rw (q, ec, ea, eb, ew)
 
+-- 128 blocks hold no more than 15,744 words of two parts together, of which one is behind the other
+together : (p q : Part) → endOf p ≤ q .first → endOf q ≤ 128 → p .words + q .words ≤ 15744
+together p q behind h =
+    let a : blocksOf p * perBlock (p .kind) ≤ blocksOf p * 123 = mul-le-mul {n₂ = blocksOf p} {m₂ = 123} (omega arith) (per-block (p .kind) .most) in
+    let b : blocksOf q * perBlock (q .kind) ≤ blocksOf q * 123 = mul-le-mul {n₂ = blocksOf q} {m₂ = 123} (omega arith) (per-block (q .kind) .most) in
+    let w = words-most p in
+    let v = words-most q in
+    omega arith
+
 -- with room for all of a scene's words that is what the scene holds
 pub all-held : (file : List ℕ) (n : Counts) (words : List ℕ) (singles : List Float) (v u : ℕ)
     → blocksFor n ≤ 128
@@ -53,10 +65,10 @@ pub all-held : (file : List ℕ) (n : Counts) (words : List ℕ) (singles : List
     → heldContents file n words singles ≡ contentsBehind file n
 unfolding wordsOf singlesOf
 all-held file n words singles v u few ev eu lw ls er ec es =
-    let r = rooms n few in
-    let p : min (n .states * 20) 15744 ≡ n .states * 20 = let h = r .words in omega arith in
-    let q : min (n .cells) (15744 - n .states * 20) ≡ n .cells = let h = r .words in omega arith in
-    let s : min (n .boxes * 6) 15744 ≡ n .boxes * 6 = let h = r .shapes in omega arith in
+    let h : n .states * 20 + n .cells ≤ 15744 = together (recordPart (n .states)) (cellPart (n .states) (n .boxes) (n .cells)) (omega arith) few in
+    let p : min (n .states * 20) 15744 ≡ n .states * 20 = omega arith in
+    let q : min (n .cells) (15744 - n .states * 20) ≡ n .cells = omega arith in
+    let s : min (n .boxes * 6) 15744 ≡ n .boxes * 6 = let m = rooms n few .shapes in omega arith in
     let er′ = rw (ev, p) at er in
     let ec′ = rw (ev, p, q) at ec in
     let es′ = rw (eu, s) at es in

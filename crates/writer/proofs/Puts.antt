@@ -96,9 +96,9 @@ module _ (n : Counts) where
       go (no l) = omega arith
 
   pub many-states : 4096 < n .states → 128 < blocksFor n
-  many-states h = many (λ l. let r = rooms n l .words in less r)
+  many-states h = many (λ l. let r = rooms n l .records in less r)
     where
-      less : n .states * 20 + n .cells ≤ 15744 → ⊥
+      less : n .states * 20 ≤ 15744 → ⊥
       less r = omega arith
 
   pub many-boxes : 16384 < n .boxes → 128 < blocksFor n
@@ -108,9 +108,9 @@ module _ (n : Counts) where
       less r = omega arith
 
   pub many-cells : 15744 < n .cells → 128 < blocksFor n
-  many-cells h = many (λ l. let r = rooms n l .words in less r)
+  many-cells h = many (λ l. let r = rooms n l .cells in less r)
     where
-      less : n .states * 20 + n .cells ≤ 15744 → ⊥
+      less : n .cells ≤ 15744 → ⊥
       less r = omega arith
 
 -- ---- what the room comes to
