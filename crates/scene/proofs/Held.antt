@@ -57,14 +57,14 @@ together p q behind h =
 
 -- with room for all of a scene's words that is what the scene holds
 pub all-held : (file : List ℕ) (n : Counts) (words : List ℕ) (singles : List Float) (v u : ℕ)
-    → blocksFor n ≤ 128
     → v ≡ 15744 → u ≡ 15744 → length words ≡ 15744 → length singles ≡ 15744
     → take (heldRecords n v) words ≡ listed (partWord file (recordPart (n .states))) (heldRecords n v) 0
     → take (heldCells n v) (drop (heldRecords n v) words) ≡ listed (partWord file (cellPart (n .states) (n .boxes) (n .cells))) (heldCells n v) 0
     → take (heldShapes n u) singles ≡ listed (λ i. ofBits binary32 (partWord file (boxPart (n .states) (n .boxes)) i)) (heldShapes n u) 0
+    → blocksFor n ≤ 128
     → heldContents file n words singles ≡ contentsBehind file n
 unfolding wordsOf singlesOf
-all-held file n words singles v u few ev eu lw ls er ec es =
+all-held file n words singles v u ev eu lw ls er ec es few =
     let h : n .states * 20 + n .cells ≤ 15744 = together (recordPart (n .states)) (cellPart (n .states) (n .boxes) (n .cells)) (omega arith) few in
     let p : min (n .states * 20) 15744 ≡ n .states * 20 = omega arith in
     let q : min (n .cells) (15744 - n .states * 20) ≡ n .cells = omega arith in

@@ -36,7 +36,7 @@ returns c =
     let at-all = at-write .before .before .before .before .before .before in
     let start = at-all .before .before .before .before .before in
     let all = at-all .put-all .ensures in
-    let same = λ few. all-held (start .args .file .now) (start .args .n) (at-all .put-all .last .0) (at-all .put-all .last .1 .0) _ _ few (length-replicate {0} {A = ℕ} 15744 0) (length-replicate {0} {A = Float} 15744 (ofBits binary32 0)) (search needs) (search needs) (all .0) (all .1 .0) (all .1 .1) in
+    let same = all-held (start .args .file .now) (start .args .n) (at-all .put-all .last .0) (at-all .put-all .last .1 .0) _ _ (length-replicate {0} {A = ℕ} 15744 0) (length-replicate {0} {A = Float} 15744 (ofBits binary32 0)) (search needs) (search needs) (all .0) (all .1 .0) (all .1 .1) in
     (λ few. at-write .write-held .ensures .0 ∙ ap (writtenScene (start .args .out .now)) (same few), λ few. at-write .write-held .ensures .1 ∙ ap (sceneAnswer (length (start .args .out .now))) (same few))
 
 pub write-in-spec : {M : Type 1} → statement M

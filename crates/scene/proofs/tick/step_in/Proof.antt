@@ -35,7 +35,7 @@ returns c =
     let all = at-all .put-all .ensures in
     λ few.
     c .step-held .ensures
-    ∙ ap stepOf (all-held (start .args .file .now) (start .args .n) (at-all .put-all .last .0) (at-all .put-all .last .1 .0) _ _ few (length-replicate {0} {A = ℕ} 15744 0) (length-replicate {0} {A = Float} 15744 (ofBits binary32 0)) (search needs) (search needs) (all .0) (all .1 .0) (all .1 .1))
+    ∙ ap stepOf (all-held (start .args .file .now) (start .args .n) (at-all .put-all .last .0) (at-all .put-all .last .1 .0) _ _ (length-replicate {0} {A = ℕ} 15744 0) (length-replicate {0} {A = Float} 15744 (ofBits binary32 0)) (search needs) (search needs) (all .0) (all .1 .0) (all .1 .1) few)
 
 pub step-in-spec : {M : Type 1} → statement M
 step-in-spec =
