@@ -105,8 +105,8 @@ uint32_t boltjuniper_midnight(const uint32_t *records, size_t records_len, const
                               size_t numbers_len, const uint32_t *words, size_t words_len, uint32_t bodies_count, double *out, size_t out_len);
 
 /* One tick of the scene in `file` (blocks of 512 bytes, as onetick reads them; no alignment is asked for). Writes the same eight numbers to `out`.
-   Returns 0; or 8 where the file is no scene, 1, 2, 3, 4, 11, then 5, 6 or 7 at the first such event, then 9. It keeps three arrays of 15,744
-   words of the file on the stack, some 190 KB: call it from a thread that has them. */
+   Returns 0; or 8 where the file is no scene, 1, 2, 3, 4, 11, then 5, 6 or 7 at the first such event, then 9. It keeps two arrays of 15,744
+   words of the file on the stack, and reaches 136 KB below its caller (docs/STACK.md): call it from a thread that has them. */
 uint32_t boltjuniper_tick(const uint8_t *file, size_t file_len, double *out, size_t out_len);
 
 /* The move of a box through a window: takes tables, a window, the air state, `mover` (the box x0 y0 z0 x1 y1 z1, then its delta x y z: nine

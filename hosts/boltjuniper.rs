@@ -233,7 +233,7 @@ pub fn midnight(
     if refusal == 0 { Ok(()) } else { Err(refusal) }
 }
 
-/// The tick of a scene file. It keeps some 190 KB of the file on the stack: call it from a thread that has them.
+/// The tick of a scene file. It reaches 136 KB below its caller, with the words of the file: call it from a thread that has them.
 pub fn tick(file: &[u8]) -> Result<Tick, Refusal> {
     let mut out = [0.0; 8];
     let refusal = unsafe { linked::boltjuniper_tick(file.as_ptr(), file.len(), out.as_mut_ptr(), out.len()) };

@@ -1,50 +1,20 @@
--- From what the program reads to what the scene holds. Assumes nothing.
+-- From what the program finds of a file's counts to what the tick and the scene written anew come to. Assumes nothing.
 use mathlib.Core.List.{List}
 use mathlib.Core.Path.{_≡_, refl, sym, ap, _∙_}
-use Prim.Native.Nat.{ℕ, _*_, _≤_, min}
-use native.Mathlib.Omega.{arith}
-use lib.ListN.{length, take}
-use lib.Ieee.{Float, binary32, ofBits}
+use Prim.Native.Nat.{ℕ, _≤_}
+use lib.ListN.{length}
 use Rattle.base.specs.Choose.{choose}
-use Rattle.base.specs.Loop.{listed}
 use Rattle.base.specs.Ask.{refused, found}
 use Rattle.base.proofs.Cases.{yes, no}
-use Rattle.window.specs.declared.Window.{Window}
 use Rattle.step.specs.declared.StepAnswer.{StepAnswer}
-use Rattle.blocks.specs.Blocks.{partWord, recordPart, boxPart, windowPart, cellPart}
 use Rattle.files.specs.declared.Counts.{Counts}
-use Rattle.files.specs.Files.{windowIn, countsOf, blocksFor, isScene}
-use Rattle.files.proofs.Scenes.{rooms, no-scene, scene}
+use Rattle.files.specs.Files.{countsOf, blocksFor, isScene}
+use Rattle.files.proofs.Scenes.{no-scene, scene}
 use Rattle.writer.specs.declared.Written.{Written}
 use Rattle.writer.specs.Written.{writtenScene, sceneAnswer}
-use Rattle.files.specs.Contents.{contentsOf, numbersIn, lateWords, ageIn, wordsOf, singlesOf, contentsBehind}
-use Rattle.scene.specs.Scene.{malformed, stepOf, stepIn, tickOf}
+use Rattle.files.specs.Contents.{contentsBehind}
+use Rattle.scene.specs.Scene.{malformed, stepIn, tickOf}
 use Rattle.scene.specs.Rewritten.{rewritten, rewriteAnswer}
-
--- ---- the tables and cells, all of their words
-
-all : (k : ℕ) → k ≤ 15744 → min k 15744 ≡ k
-all k h = omega arith
-
--- what the program takes out of the file's blocks is what the scene holds
-module _ (file : List ℕ) (n : Counts) (records : List ℕ) (shapes : List Float) (cells : List ℕ) (a b c : ℕ) (w : Window)
-    (er : take (min (n .states * 20) 15744) records ≡ listed (partWord file (recordPart (n .states))) (min (n .states * 20) 15744) 0)
-    (es : take (min (n .boxes * 6) 15744) shapes ≡ listed (λ i. ofBits binary32 (partWord file (boxPart (n .states) (n .boxes)) i)) (min (n .boxes * 6) 15744) 0)
-    (ec : take (min (n .cells) 15744) cells ≡ listed (partWord file (cellPart (n .states) (n .boxes) (n .cells))) (min (n .cells) 15744) 0)
-    (ea : a ≡ min (n .states * 20) 15744) (eb : b ≡ min (n .boxes * 6) 15744) (en : c ≡ min (n .cells) 15744)
-    (ew : w ≡ windowIn file (windowPart (n .states) (n .boxes))) where
-  pub taken : blocksFor n ≤ 128 → contentsOf (take a records) (take b shapes) (take c cells) w (numbersIn file) (lateWords file) (ageIn file) ≡ contentsBehind file n
-  unfolding wordsOf singlesOf
-  taken few =
-      let r = rooms n few in
-      let p = all (n .states * 20) (r .records) in
-      let q = all (n .boxes * 6) (r .shapes) in
-      let s = all (n .cells) (r .cells) in
-      rw (ea, eb, en, er, es, ec, p, q, s, ew)
-
-  pub stepped : blocksFor n ≤ 128 → stepOf (contentsOf (take a records) (take b shapes) (take c cells) w (numbersIn file) (lateWords file) (ageIn file)) ≡ stepIn file n
-  unfolding stepIn
-  stepped few = ap stepOf (taken few)
 
 -- ---- the tick
 

@@ -1,3 +1,4 @@
 -- The definitions of a scene's tick, and of a scene written anew.
+pub mod Held
 pub mod Scene
 pub mod Rewritten

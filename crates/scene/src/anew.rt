@@ -2,10 +2,8 @@
 use crate::numbers::age_in;
 use crate::numbers::numbers_in;
 use crate::numbers::words_in;
-use crate::parts::cells_of;
 use crate::parts::held;
-use crate::parts::records_of;
-use crate::parts::shapes_of;
+use crate::parts::put_all;
 use files::Counted;
 use files::Counts;
 use window::Window;
@@ -16,6 +14,7 @@ ghost use lib.ListN.{length};
 ghost use Rattle.files.specs.Files.{blocksFor};
 ghost use Rattle.writer.specs.Written.{writtenScene, sceneAnswer};
 ghost use Rattle.files.specs.Contents.{contentsOf, numbersIn, lateWords, ageIn, contentsBehind};
+ghost use Rattle.scene.specs.Held.{heldContents};
 ghost use Rattle.scene.specs.Rewritten.{rewritten, rewriteAnswer};
 
 // A scene of a file's body among these tables and cells.
@@ -29,19 +28,27 @@ fn write_among(file: &[u8], records: &[u32], shapes: &[f32], cells: &[u32], w: W
     writer::write_scene(records, shapes, cells, w, &numbers, &words, age, out)
 }
 
+// The same of a file with these counts, whose records stand first among the words, and its cells behind them.
+fn write_held(file: &[u8], n: Counts, words: &[u32], singles: &[f32], out: &mut [u8]) -> Written
+    ensures { λ _. ⌜ now (out .exit) ≡ writtenScene (now (out .entry)) (heldContents (now (file .entry)) n (now (words .entry)) (now (singles .entry))) ⌝ }
+    ensures { λ r. ⌜ r ≡ sceneAnswer (length (now (out .entry))) (heldContents (now (file .entry)) n (now (words .entry)) (now (singles .entry))) ⌝ }
+{
+    let a = held(n.states as u32 * 20, words.len());
+    let b = held(n.boxes as u32 * 6, singles.len());
+    let c = held(n.cells, words.len() - a);
+    let w = files::window_in(file, n);
+    write_among(file, &words[..a], &singles[..b], &words[a..a + c], w, out)
+}
+
 // The scene in a file with these counts.
 fn write_in(file: &[u8], n: Counts, out: &mut [u8]) -> Written
     ensures { λ _. ⌜ (blocksFor n ≤ 128 → now (out .exit) ≡ writtenScene (now (out .entry)) (contentsBehind (now (file .entry)) n)) ⌝ }
     ensures { λ r. ⌜ (blocksFor n ≤ 128 → r ≡ sceneAnswer (length (now (out .entry))) (contentsBehind (now (file .entry)) n)) ⌝ }
 {
-    let records = records_of(file, n);
-    let shapes = shapes_of(file, n);
-    let cells = cells_of(file, n);
-    let words = held(n.states as u32 * 20);
-    let numbers = held(n.boxes as u32 * 6);
-    let count = held(n.cells);
-    let w = files::window_in(file, n);
-    write_among(file, &records[..words], &shapes[..numbers], &cells[..count], w, out)
+    let mut words = [0u32; 15744];
+    let mut singles = [0.0f32; 15744];
+    put_all(&mut words, &mut singles, file, n);
+    write_held(file, n, &words, &singles, out)
 }
 
 // The scene in `file` as the writer makes it of its contents: 8 where the file is no scene, and else what `write_scene` refuses or writes.

@@ -2,10 +2,8 @@
 use crate::numbers::age_in;
 use crate::numbers::numbers_in;
 use crate::numbers::words_in;
-use crate::parts::cells_of;
 use crate::parts::held;
-use crate::parts::records_of;
-use crate::parts::shapes_of;
+use crate::parts::put_all;
 use bodies::MotionNumbers;
 use boxes::Vec3;
 use files::Counted;
@@ -20,7 +18,8 @@ ghost use Rattle.step.specs.Answers.{stepEntry};
 ghost use Rattle.text.specs.Text.{written, writtenCount};
 ghost use Rattle.files.specs.Files.{blocksFor};
 ghost use Rattle.files.specs.Contents.{numbersIn, lateWords, ageIn};
-ghost use Rattle.scene.specs.Scene.{malformed, stepIn, tickOf, answerText};
+ghost use Rattle.scene.specs.Held.{heldContents};
+ghost use Rattle.scene.specs.Scene.{malformed, stepOf, stepIn, tickOf, answerText};
 
 // 8: there is no motion to hand back.
 fn refused_scene() -> StepAnswer
@@ -58,18 +57,25 @@ fn step_among(file: &[u8], records: &[u32], shapes: &[f32], cells: &[u32], w: Wi
     view::step_window(records, shapes, cells, w, rules, body, given, age)
 }
 
-// The step of a scene with these counts.
+// The same for a scene with these counts, whose records stand first among the words, and its cells behind them.
+fn step_held(file: &[u8], n: Counts, words: &[u32], singles: &[f32]) -> StepAnswer
+    ensures { λ r. ⌜ r ≡ stepOf (heldContents (now (file .entry)) n (now (words .entry)) (now (singles .entry))) ⌝ }
+{
+    let a = held(n.states as u32 * 20, words.len());
+    let b = held(n.boxes as u32 * 6, singles.len());
+    let c = held(n.cells, words.len() - a);
+    let w = files::window_in(file, n);
+    step_among(file, &words[..a], &singles[..b], &words[a..a + c], w)
+}
+
+// The step of a scene with these counts. 128 blocks have no more than 15,744 words of records and cells together, so that one array holds both.
 fn step_in(file: &[u8], n: Counts) -> StepAnswer
     ensures { λ r. ⌜ (blocksFor n ≤ 128 → r ≡ stepIn (now (file .entry)) n) ⌝ }
 {
-    let records = records_of(file, n);
-    let shapes = shapes_of(file, n);
-    let cells = cells_of(file, n);
-    let words = held(n.states as u32 * 20);
-    let numbers = held(n.boxes as u32 * 6);
-    let count = held(n.cells);
-    let w = files::window_in(file, n);
-    step_among(file, &records[..words], &shapes[..numbers], &cells[..count], w)
+    let mut words = [0u32; 15744];
+    let mut singles = [0.0f32; 15744];
+    put_all(&mut words, &mut singles, file, n);
+    step_held(file, n, &words, &singles)
 }
 
 // One tick of a scene's body: 8 where the file is no scene, and else what the step answers.
