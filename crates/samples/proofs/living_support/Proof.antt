@@ -1,46 +1,43 @@
+-- `samples::living_support` meets its contract. Assumes nothing.
+use Rattle.samples.specs.Samples.{livingSupport}
+use Rattle.base.specs.Choose.{choose}
 use borrow.Author.Needs.{needs}
 use Rattle.samples.proofs.living_support.Statement.{statement}
 use Rattle.samples.proofs.living_support.Tie as tie
-use Rattle.samples.proofs.living_support.Reads as reads
-use Rattle.samples.proofs.living_support.Lts as lts
-use Rattle.samples.proofs.living_sample.Reads as living-sample-reads
-use Rattle.samples.proofs.told.Reads as told-reads
 
--- src/lib.rt:118:47
 enum-told : tie.Need-enum-told
 enum-told c = search needs
 
--- src/lib.rt:119:46
 enum-told-2 : tie.Need-enum-told-2
 enum-told-2 c = search needs
 
--- src/lib.rt:121:16
 enum-told-3 : tie.Need-enum-told-3
 enum-told-3 c = search needs
 
--- src/lib.rt:122:22
 living-sample-requires : tie.Need-living-sample-requires
 living-sample-requires c κs = search needs
 
--- src/lib.rt:122:17
 told-requires : tie.Need-told-requires
 told-requires c κs = search needs
 
--- src/lib.rt:106:1
 returns : tie.Need-returns
-returns c = ?
+unfolding livingSupport choose
+returns c = rw (c .enum-told .given .1)
 
--- src/lib.rt:106:1
 returns-2 : tie.Need-returns-2
-returns-2 c = ?
+unfolding livingSupport choose
+returns-2 c = rw (c .enum-told2 .given .1)
 
--- src/lib.rt:106:1
 returns-3 : tie.Need-returns-3
-returns-3 c = ?
+unfolding livingSupport choose
+returns-3 c =
+    let at-living-sample = c .before in
+    let at-if1 = at-living-sample .before in
+    rw (at-if1 .before .enum-told3 .given .1, at-if1 .if1 .taken, ← at-living-sample .living-sample .ensures, ← c .told .ensures)
 
--- src/lib.rt:106:1
 returns-4 : tie.Need-returns-4
-returns-4 c = ?
+unfolding livingSupport choose
+returns-4 c = rw (c .before .enum-told3 .given .1, c .if1 .left)
 
 pub living-support-spec : {M : Type 1} → statement M
 living-support-spec =
