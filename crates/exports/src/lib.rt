@@ -1,14 +1,18 @@
 // What a host in another language links: functions on numbers and lent slices of them. Here are the order of their parameters, what is refused
 // of these, and how an answer is written; what they do stands in the crates below.
 mod drift;
+mod falling;
 mod file;
+mod night;
 mod over;
 mod room;
 mod through;
 mod tick;
 
 pub use drift::boltjuniper_item_current;
+pub use falling::boltjuniper_step_falling;
 pub use file::boltjuniper_tick;
+pub use night::boltjuniper_midnight;
 pub use over::boltjuniper_move_over;
 pub use over::boltjuniper_move_over_list;
 pub use through::boltjuniper_move;

@@ -1,4 +1,8 @@
-// What a step comes to, written into lent numbers.
+// What a step comes to, written into lent numbers; falling.rt has the same for a step with a fall record.
+mod falling;
+
+pub use falling::falling_into;
+pub use falling::put_falling;
 use lent_boxes::put;
 use lent_boxes::put_vec;
 use step::StepAnswer;
@@ -21,7 +25,7 @@ fn kind_number(kind: LiquidKind) -> u32
     }
 }
 
-fn float_of(n: u32) -> f64
+pub fn float_of(n: u32) -> f64
     ensures { λ r. ⌜ r ≡ ofInt binary64 (pos n) ⌝ }
 {
     n as f64

@@ -2,7 +2,7 @@
 use mathlib.Core.Path.{_≡_, refl, sym, ap, _∙_, subst}
 use mathlib.Core.Bool.{Bool, true, false, not, _&&_, false≢true}
 use mathlib.Core.List.{List}
-use Prim.Native.Nat.{ℕ, _+_, _*_, _<_, _≤_, _^_}
+use Prim.Native.Nat.{ℕ, _+_, _*_, _<_, _^_}
 use native.Mathlib.Nat.{mul-comm, mul-assoc}
 use native.Mathlib.Omega.{arith}
 use lib.Arith.{digits-lt}
@@ -10,19 +10,17 @@ use lib.Dec.{T, leb, ltb, eqb, leb·zero}
 use lib.IntN.{ℤ, pos, negsuc, natAbs, _+ℤ_, _-ℤ_, +ℤ-idl, +ℤ-comm, -ℤ-+ℤ-cancel}
 use lib.ListN.{length, getD}
 use lib.Signed.{ltZ, leZ}
-use borrow.Author.Tests.{le-ltb, lt-ltb, ltb-true}
+use borrow.Author.Tests.{le-ltb, ltb-true}
 use Rattle.base.proofs.Every.{both}
 use Rattle.base.specs.Choose.{choose}
 use Rattle.base.specs.Ask.{refused, found}
 use Rattle.window.specs.declared.Pos.{Pos}
 use Rattle.window.specs.declared.Sizes.{Sizes}
 use Rattle.window.specs.declared.Window.{Window}
-use Rattle.window.specs.declared.Cell.{Cell}
 use Rattle.window.specs.declared.Cell.the-variants.{Outside, Unloaded, State}
-use Rattle.window.specs.declared.Word.the-variants.{Is, Missing}
-use Rattle.window.specs.Window.{within, columnInside, heightInside, isVoid, indexAt, cellCount, indexOf, columnIndexOf}
+use Rattle.window.specs.Window.{within, isVoid, indexAt, cellCount, columnCount, indexOf, columnIndexOf}
 use Rattle.window.specs.Look.{none, some, lookAt, asked}
-use Rattle.window.specs.Offsets.{offsetOf, lentAt, stateIn, columnIn, cellIn, inColumn, lookIn}
+use Rattle.window.specs.Offsets.{offsetOf, inColumn, lookDown, lookIn}
 use Rattle.window.proofs.Order.{lt-moved, le-moved}
 
 -- on one axis, by the difference to the origin
@@ -74,42 +72,31 @@ pub place-below : (s : Sizes) (x y z : ℕ) → x < s .x → y < s .y → z < s 
 place-below s x y z hx hy hz =
     subst (λ (n : ℕ). indexAt s x y z < n) (mul-comm (s .y * s .z) (s .x) ∙ sym (mul-assoc (s .x) (s .y) (s .z))) (digits-lt (digits-lt hy hz) hx)
 
--- the words of the columns stand where a layer above the highest would
-pub column-place : (s : Sizes) (x z : ℕ) → indexAt s x (s .y) z ≡ cellCount s + (z * s .x + x)
+-- the same places by layers; the words of the columns stand where a layer above the highest would
+pub cell-place : (s : Sizes) (x y z : ℕ) → y * columnCount s + (z * s .x + x) ≡ indexAt s x y z
+cell-place s x y z = omega arith
+
+pub column-place : (s : Sizes) (x z : ℕ) → s .y * columnCount s + (z * s .x + x) ≡ cellCount s + (z * s .x + x)
 column-place s x z = omega arith
 
 -- ---- the look-up, where a, b and c say whether a cell is within on each axis; the column's word stands at k, and the cell's at j
-looked-in : (words : List ℕ) (a b c void : Bool) (air i k m j : ℕ) → (T a → T c → i ≡ k) → (T a → T b → T c → m ≡ j) → (T a → T b → T c → j < k)
-    → asked (inColumn (choose a (choose c (lentAt words i) Missing) Missing) air void (choose a (choose b (choose c (stateIn (lentAt words m)) Outside) Outside) Outside))
+looked-in : (words : List ℕ) (a b c void : Bool) (air i k m j : ℕ) → (T a → T c → i ≡ k) → (T a → T b → T c → m ≡ j)
+    → asked (choose a (choose c (choose (ltb i (length words)) (inColumn (getD words i 0) air void (choose b (State (getD words m 0)) Outside)) Outside) Outside) Outside)
     ≡ choose (not ((a && c) && ltb k (length words))) (refused 5)
     (choose (eqb (getD words k 0) 0) (found none) (choose void (found (some air)) (choose (not b) (refused 5) (found (some (getD words j 0))))))
-unfolding choose lentAt
-looked-in words false b c void air i k m j e f l = refl
-looked-in words true b false void air i k m j e f l = refl
-looked-in words true b true void air i k m j e f l =
-    ap (λ (n : ℕ). asked (inColumn (lentAt words n) air void (choose b (stateIn (lentAt words m)) Outside))) (e tt tt)
-    ∙ column b (f tt) (l tt) (ltb k (length words)) (ltb-true k (length words))
+unfolding choose
+looked-in words false b c void air i k m j e f = refl
+looked-in words true b false void air i k m j e f = refl
+looked-in words true b true void air i k m j e f = rw (e tt tt) (column (ltb k (length words)) (eqb (getD words k 0) 0) void b (f tt))
   where
-    cell : (b : Bool) → (T b → T true → m ≡ j) → (T b → T true → j < k) → k < length words
-        → asked (choose b (stateIn (lentAt words m)) Outside) ≡ choose (not b) (refused 5) (found (some (getD words j 0)))
-    cell true f l h =
-        ap (λ (n : ℕ). asked (stateIn (choose (ltb n (length words)) (Is (getD words n 0)) Missing))) (f tt tt)
-        ∙ (let q : j < length words = let r : j < k = l tt tt in omega arith in rw (lt-ltb j (length words) q))
-    cell false f l h = refl
-
-    column : (b : Bool) → (T b → T true → m ≡ j) → (T b → T true → j < k) → (t : Bool) → (t ≡ true → k < length words)
-        → asked (inColumn (choose t (Is (getD words k 0)) Missing) air void (choose b (stateIn (lentAt words m)) Outside))
-        ≡ choose (not t) (refused 5)
-        (choose (eqb (getD words k 0) 0) (found none) (choose void (found (some air)) (choose (not b) (refused 5) (found (some (getD words j 0))))))
-    column b f l false h = refl
-    column b f l true h = world (eqb (getD words k 0) 0) void
-      where
-        world : (u v : Bool)
-            → asked (choose u Unloaded (choose v (State air) (choose b (stateIn (lentAt words m)) Outside)))
-            ≡ choose u (found none) (choose v (found (some air)) (choose (not b) (refused 5) (found (some (getD words j 0)))))
-        world true v = refl
-        world false true = refl
-        world false false = cell b f l (h refl)
+    column : (t u v b : Bool) → (T b → T true → m ≡ j)
+        → asked (choose t (choose u Unloaded (choose v (State air) (choose b (State (getD words m 0)) Outside))) Outside)
+        ≡ choose (not t) (refused 5) (choose u (found none) (choose v (found (some air)) (choose (not b) (refused 5) (found (some (getD words j 0))))))
+    column false u v b f = refl
+    column true true v b f = refl
+    column true false true b f = refl
+    column true false false false f = refl
+    column true false false true f = rw (f tt tt)
 
 pub record Narrow (s : Sizes) : Type 0 where
   pub x : s .x < 2 ^ 32
@@ -120,22 +107,11 @@ pub record Narrow (s : Sizes) : Type 0 where
 pub looked : (words : List ℕ) (w : Window) (p : Pos) → Narrow (w .sizes)
     → asked (lookIn words (w .sizes) (w .air) (isVoid w p) (offsetOf (p .x -ℤ w .origin .x)) (offsetOf (p .y -ℤ w .origin .y)) (offsetOf (p .z -ℤ w .origin .z)))
     ≡ lookAt words w p
-unfolding lookIn columnIn cellIn lookAt indexOf columnIndexOf
+unfolding lookIn lookDown lookAt indexOf columnIndexOf
 looked words w p n =
     let o = w .origin in
     let s = w .sizes in
     rw (offset-within (o .x) (s .x) (p .x) (n .x), offset-within (o .y) (s .y) (p .y) (n .y), offset-within (o .z) (s .z) (p .z) (n .z))
     (looked-in words _ _ _ (isVoid w p) (w .air) _ _ _ _
     (λ a c. rw (offset-is (o .x) (s .x) (p .x) a, offset-is (o .z) (s .z) (p .z) c) (column-place s _ _))
-    (λ a b c. rw (offset-is (o .x) (s .x) (p .x) a, offset-is (o .y) (s .y) (p .y) b, offset-is (o .z) (s .z) (p .z) c))
-    (λ a b c. before _ (place-below s _ _ _ (below (o .x) (s .x) (p .x) a) (below (o .y) (s .y) (p .y) b) (below (o .z) (s .z) (p .z) c))))
-  where
-    is-true : (b : Bool) → T b → b ≡ true
-    is-true true t = refl
-    is-true false t = absurd t
-
-    below : (o : ℤ) (n : ℕ) (c : ℤ) → T (within o n c) → natAbs (c -ℤ o) < n
-    below o n c t = below-size o n c (is-true (within o n c) t)
-
-    before : {i n : ℕ} (k : ℕ) → i < n → i < n + k
-    before k h = omega arith
+    (λ a b c. rw (offset-is (o .x) (s .x) (p .x) a, offset-is (o .y) (s .y) (p .y) b, offset-is (o .z) (s .z) (p .z) c) (cell-place s _ _ _)))

@@ -2,7 +2,7 @@
 -- `proofs/Offsets` shows that this comes to the look-up as defined in `Look`.
 use mathlib.Core.Bool.{Bool}
 use mathlib.Core.List.{List}
-use Prim.Native.Nat.{ℕ}
+use Prim.Native.Nat.{ℕ, _+_, _*_}
 use lib.Dec.{ltb, eqb}
 use lib.IntN.{ℤ, pos, negsuc}
 use lib.ListN.{length, getD}
@@ -10,35 +10,28 @@ use Rattle.base.specs.Choose.{choose}
 use Rattle.window.specs.declared.Sizes.{Sizes}
 use Rattle.window.specs.declared.Cell.{Cell}
 use Rattle.window.specs.declared.Cell.the-variants.{Outside, Unloaded, State}
-use Rattle.window.specs.declared.Word.{Word}
-use Rattle.window.specs.declared.Word.the-variants.{Is, Missing}
-use Rattle.window.specs.Window.{indexAt}
+use Rattle.window.specs.Window.{columnCount}
 
 -- the largest u64 where the difference is below zero: at or above every size
 unfoldable pub offsetOf : ℤ → ℕ
 offsetOf (pos n) = n
 offsetOf (negsuc n) = 18446744073709551615
 
--- the word at a place, where one was lent
-unfoldable pub lentAt : List ℕ → ℕ → Word
-lentAt words i = choose (ltb i (length words)) (Is (getD words i 0)) Missing
+-- where the word `at` of its layer stands, so many layers up; for large layers no further than n, beyond which no word was lent
+unfoldable pub placeIn : ℕ → ℕ → ℕ → ℕ → ℕ
+placeIn layer up at n = choose (ltb layer 4294967296) (up * layer + at) (choose (ltb (up * layer + at) n) (up * layer + at) n)
 
--- the words of the columns stand where a layer above the window's highest would
-unfoldable pub columnIn : List ℕ → Sizes → ℕ → ℕ → Word
-columnIn words s x z = choose (ltb x (s .x)) (choose (ltb z (s .z)) (lentAt words (indexAt s x (s .y) z)) Missing) Missing
+-- by what the column's word says: `void` says whether the cell lies above or below the world
+abbrev pub inColumn : ℕ → ℕ → Bool → Cell → Cell
+inColumn v air void cell = choose (eqb v 0) Unloaded (choose void (State air) cell)
 
-abbrev pub stateIn : Word → Cell
-stateIn (Is v) = State v
-stateIn Missing = Outside
-
-unfoldable pub cellIn : List ℕ → Sizes → ℕ → ℕ → ℕ → Cell
-cellIn words s x y z =
-    choose (ltb x (s .x)) (choose (ltb y (s .y)) (choose (ltb z (s .z)) (stateIn (lentAt words (indexAt s x y z))) Outside) Outside) Outside
-
--- by what the column's word says: void says whether the cell lies above or below the world
-abbrev pub inColumn : Word → ℕ → Bool → Cell → Cell
-inColumn Missing air void cell = Outside
-inColumn (Is v) air void cell = choose (eqb v 0) Unloaded (choose void (State air) cell)
+-- The words of the columns stand where a layer above the window's highest would. Each layer has so many words, and the column's is `at`.
+unfoldable pub lookDown : List ℕ → ℕ → ℕ → ℕ → ℕ → Bool → ℕ → Cell
+lookDown words layer at height air void y =
+    choose (ltb (height * layer + at) (length words))
+    (inColumn (getD words (height * layer + at) 0) air void (choose (ltb y height) (State (getD words (y * layer + at) 0)) Outside))
+    Outside
 
 unfoldable pub lookIn : List ℕ → Sizes → ℕ → Bool → ℕ → ℕ → ℕ → Cell
-lookIn words s air void x y z = inColumn (columnIn words s x z) air void (cellIn words s x y z)
+lookIn words s air void x y z =
+    choose (ltb x (s .x)) (choose (ltb z (s .z)) (lookDown words (columnCount s) (z * s .x + x) (s .y) air void y) Outside) Outside

@@ -5,12 +5,12 @@ pub use numbers::window_of;
 pub use numbers::with_air;
 ghost use mathlib.Core.Path.{_≡_};
 ghost use mathlib.Core.Bool.{_||_};
-ghost use Prim.Native.Nat.{_+_, _*_};
+ghost use Prim.Native.Nat.{_<_};
 ghost use lib.IntN.{_+ℤ_, _-ℤ_};
 ghost use lib.Signed.{ltZ};
-ghost use Rattle.window.specs.Window.{indexAt, sizeFits, sizesFit, coordinateFits, originFits, heightsFit, columnFits, columnsFit, windowRefusal};
+ghost use Rattle.window.specs.Window.{sizeFits, sizesFit, coordinateFits, originFits, heightsFit, columnFits, columnsFit, windowRefusal};
 ghost use Rattle.window.specs.Look.{lookAt, asked, stepped};
-ghost use Rattle.window.specs.Offsets.{offsetOf, lentAt, columnIn, cellIn, lookIn};
+ghost use Rattle.window.specs.Offsets.{offsetOf, placeIn, lookDown, lookIn};
 
 pub struct Pos {
     pub x: i32,
@@ -62,80 +62,23 @@ fn offset(x: i32, d: i8, o: i32) -> u64
     }
 }
 
-// A lent word, or none.
-enum Word {
-    Is(u32),
-    Missing,
-}
-
-fn word_at(words: &[u32], i: u64) -> Word
-    ensures { λ r. ⌜ r ≡ lentAt (now (words .entry)) i ⌝ }
+// Where a word stands that is the word `at` of its layer, so many layers up: any number from n on where it is not one of n words. Only where a
+// layer has 2^32 words and more might the place not fit in a u64.
+fn place(layer: u64, up: u32, at: u64, n: u64) -> u64
+    requires { ⌜ at < layer ⌝ }
+    ensures { λ r. ⌜ r ≡ placeIn layer up at n ⌝ }
 {
-    let i = i as usize;
-    if i < words.len() {
-        return Word::Is(words[i]);
+    let up = up as u64;
+    if layer < 4294967296 {
+        return up * layer + at;
     }
-    Word::Missing
-}
-
-// The word at row * size + x, where that might not fit in a u64: only a window of 2^32 rows and more comes here.
-fn far_word(words: &[u32], row: u64, size: u64, x: u64) -> Word
-    ensures { λ r. ⌜ r ≡ lentAt (now (words .entry)) (row * size + x) ⌝ }
-{
-    let n = words.len() as u64;
-    if n <= x {
-        return Word::Missing;
-    }
-    if size == 0 {
-        return word_at(words, x);
-    }
-    if row <= (n - 1 - x) / size {
-        return word_at(words, row * size + x);
-    }
-    Word::Missing
-}
-
-// The word at three offsets. Of u32s no sum here wraps.
-fn word_in(words: &[u32], s: Sizes, x: u32, y: u32, z: u32) -> Word
-    ensures { λ r. ⌜ r ≡ lentAt (now (words .entry)) (indexAt s x y z) ⌝ }
-{
-    let row = (y as u64) * (s.z as u64) + (z as u64);
-    if row < 4294967296 {
-        return word_at(words, row * (s.x as u64) + (x as u64));
-    }
-    far_word(words, row, s.x as u64, x as u64)
-}
-
-// The word of the column at two offsets.
-fn column_in(words: &[u32], s: Sizes, x: u64, z: u64) -> Word
-    ensures { λ r. ⌜ r ≡ columnIn (now (words .entry)) s x z ⌝ }
-{
-    if x < s.x as u64 {
-        if z < s.z as u64 {
-            return word_in(words, s, x as u32, s.y, z as u32);
+    if at < n {
+        if up <= (n - 1 - at) / layer {
+            return up * layer + at;
         }
-        return Word::Missing; // beyond on z
+        return n;
     }
-    Word::Missing // beyond on x
-}
-
-// The cell at three offsets.
-fn cell_in(words: &[u32], s: Sizes, x: u64, y: u64, z: u64) -> Cell
-    ensures { λ r. ⌜ r ≡ cellIn (now (words .entry)) s x y z ⌝ }
-{
-    if x < s.x as u64 {
-        if y < s.y as u64 {
-            if z < s.z as u64 {
-                return match word_in(words, s, x as u32, y as u32, z as u32) {
-                    Word::Is(v) => Cell::State(v),
-                    Word::Missing => Cell::Outside,
-                };
-            }
-            return Cell::Outside;
-        }
-        return Cell::Outside; // beyond on y
-    }
-    Cell::Outside
+    n
 }
 
 // Whether y and d together lie above or below the world.
@@ -146,22 +89,42 @@ fn is_void(y: i32, d: i8, lowest: i32, highest: i32) -> bool
     (at < lowest as i64) | ((highest as i64) < at)
 }
 
-// The column decides, then the world's ends, then the window's height.
+// The column decides, then the world's ends, then the window's height. The column's word stands where that of a cell above the highest would, so
+// that where it was lent the cells below it were.
+fn look_down(words: &[u32], layer: u64, at: u64, height: u32, air: u32, void: bool, y: u64) -> Cell
+    requires { ⌜ at < layer ⌝ }
+    ensures { λ r. ⌜ r ≡ lookDown (now (words .entry)) layer at height air void y ⌝ }
+{
+    let i = place(layer, height, at, words.len() as u64) as usize;
+    if i < words.len() {
+        if words[i] == 0 {
+            return Cell::Unloaded;
+        }
+        if void {
+            return Cell::State(air);
+        }
+        if y < height as u64 {
+            let k = (y * layer + at) as usize;
+            return Cell::State(words[k]);
+        }
+        return Cell::Outside; // beyond on y
+    }
+    Cell::Outside
+}
+
+// The cell at three offsets.
 fn look_in(words: &[u32], s: Sizes, air: u32, void: bool, x: u64, y: u64, z: u64) -> Cell
     ensures { λ r. ⌜ r ≡ lookIn (now (words .entry)) s air void x y z ⌝ }
 {
-    match column_in(words, s, x, z) {
-        Word::Missing => Cell::Outside,
-        Word::Is(v) => {
-            if v == 0 {
-                return Cell::Unloaded;
-            }
-            if void {
-                return Cell::State(air);
-            }
-            cell_in(words, s, x, y, z)
+    let sx = s.x as u64;
+    let sz = s.z as u64;
+    if x < sx {
+        if z < sz {
+            return look_down(words, sx * sz, z * sx + x, s.y, air, void, y);
         }
+        return Cell::Outside; // beyond on z
     }
+    Cell::Outside // beyond on x
 }
 
 // The look-up of the cell a step away from p.

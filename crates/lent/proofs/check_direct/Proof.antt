@@ -1,3 +1,4 @@
+-- `lent::check_direct` meets its contract. Assumes nothing.
 use Rattle.lent.specs.Lent.{directRefusal}
 use Rattle.base.specs.Choose.{choose}
 use borrow.Author.Tests.{eq-eqb, ne-eqb}

@@ -1,3 +1,4 @@
+-- `step::step_checked` meets its contract. Assumes nothing.
 use Rattle.step.specs.Answers.{checkedEntry}
 use Rattle.base.specs.Choose.{choose}
 use borrow.Author.Tests.{eq-eqb, ne-eqb}
