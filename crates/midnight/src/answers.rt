@@ -127,7 +127,7 @@ fn put_answer(row: &mut [f64], a: FallingAnswer)
 pub(crate) fn put_row(out: &mut [f64], i: u32, a: FallingAnswer)
     ensures { λ _. ⌜ now (out .exit) ≡ stored (now (out .entry)) (i * answerWidth) (answerNumbers a) ⌝ }
 {
-    let at = wide(i) * 11;
+    let at = wide(i) * 13;
     if at < out.len() {
         put_answer(&mut out[at..], a);
     }

@@ -33,7 +33,7 @@ fn count_refusal(windows: u32, bodies: u32, room: usize) -> u32
     if bodies > 4096 {
         return 14;
     }
-    if room < rows::wide(bodies) * 11 {
+    if room < rows::wide(bodies) * 13 {
         return 11;
     }
     0
@@ -76,7 +76,7 @@ fn answer_all(
 }
 
 // For hosts. Tables as ever; `windows` has ten words for each of `count` windows, over the words `cells` of all of them; `numbers` has 21 numbers
-// and `words` nine words for each of so many bodies; eleven numbers are written for each body (specs/Rows.antt has what stands where). It returns
+// and `words` nine words for each of so many bodies; 13 numbers are written for each body (specs/Rows.antt has what stands where). It returns
 // 0; or 1, 14 or 11, and writes nothing.
 pub fn run(
     records: &[u32],
