@@ -12,7 +12,7 @@ use Rattle.base.specs.Ask as A
 use Rattle.base.specs.Loop as LO
 use Rattle.base.specs.Every as EV
 use Rattle.floats.specs.Numbers as N
-use Rattle.floats.specs.Whole as H
+use Rattle.wholes.specs.Whole as H
 use Rattle.sweeps.specs.Move as M
 use Rattle.boxes.specs.Limits.{twoTo}
 use Rattle.tables.specs.declared.LiquidKind.the-variants.{None, Water}
@@ -26,8 +26,8 @@ use Rattle.lent.specs.Lent as L
 use Rattle.lent.specs.Lent.{lentRefusal}
 use Rattle.connect.specs.Connect as J
 use Rattle.solids.specs.Shapes as SH
-use Rattle.moves.specs.Collect as CO
-use Rattle.moves.specs.Answers as MA
+use Rattle.collection.specs.Collect as CO
+use Rattle.through.specs.Through as MA
 use Rattle.flow.specs.Liquid as Q
 use Rattle.liquids.specs.Flotation as U
 use Rattle.liquids.specs.Living as Y

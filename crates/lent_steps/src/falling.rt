@@ -2,7 +2,7 @@
 use crate::put_motion;
 use crate::put_support;
 use falls::FallingAnswer;
-use lent_boxes::put;
+use lent_numbers::put;
 ghost use mathlib.Core.Path.{_≡_};
 ghost use Rattle.base.specs.Loop.{stored};
 ghost use Rattle.lent_steps.specs.Falling.{fallingNumbers, fallingWritten};

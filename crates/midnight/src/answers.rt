@@ -7,7 +7,7 @@ use crate::WindowRow;
 use bodies::MotionNumbers;
 use falls::Fall;
 use falls::FallingAnswer;
-use lent_boxes::put;
+use lent_numbers::put;
 use lent_steps::float_of;
 use lent_steps::put_falling;
 ghost use mathlib.Core.Path.{_≡_};

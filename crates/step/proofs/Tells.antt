@@ -13,7 +13,7 @@ use Rattle.base.specs.Ask.{Ask, refused, found}
 use Rattle.window.specs.declared.Window.{Window}
 use Rattle.window.specs.Look.{lookAt}
 use Rattle.window.specs.Numbers.{withAir}
-use Rattle.moves.proofs.Refuses.{Refuses}
+use Rattle.collection.proofs.Refuses.{Refuses}
 use Rattle.bodies.specs.declared.BodyNumbers.{BodyNumbers}
 use Rattle.bodies.specs.declared.Rules.{Rules}
 use Rattle.bodies.specs.declared.MotionNumbers.{MotionNumbers}

@@ -15,7 +15,7 @@ use Rattle.tables.specs.declared.LiquidKind.{LiquidKind}
 use Rattle.tables.specs.declared.LiquidKind.the-variants.{None}
 use Rattle.window.specs.declared.Pos.{Pos}
 use Rattle.window.specs.Look.{Block}
-use Rattle.moves.specs.Answers.{moveAabb}
+use Rattle.through.specs.Through.{moveAabb}
 use Rattle.bodies.specs.declared.Model.{Model}
 use Rattle.bodies.specs.declared.Model.the-variants.{Item, Living, FallingBlock, Other}
 use Rattle.bodies.specs.declared.Body.{Body}
