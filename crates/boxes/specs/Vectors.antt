@@ -4,7 +4,7 @@ use mathlib.Core.Bool.{_&&_}
 use lib.Ieee.{Float, binary64, add, mul, div, lt}
 use Rattle.base.specs.Choose.{choose}
 use Rattle.floats.specs.Numbers.{zero64, isFinite, answerWhere, one64}
-use Rattle.floats.specs.Root.{hasRoot, rootOf}
+use Rattle.roots.specs.Root.{hasRoot, rootOf}
 use Rattle.boxes.specs.declared.Vec3.{Vec3}
 use Rattle.boxes.specs.Boxes.{vec}
 

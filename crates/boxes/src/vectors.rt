@@ -74,7 +74,7 @@ pub fn squares(v: Vec3) -> f64
 fn length(v: Vec3) -> f64
     ensures { λ r. ⌜ r ≡ lengthOf v ⌝ }
 {
-    let root = floats::sqrt(squares(v));
+    let root = roots::sqrt(squares(v));
     root.value
 }
 

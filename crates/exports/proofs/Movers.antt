@@ -13,14 +13,14 @@ use Rattle.sweeps.specs.declared.MoveResult.{MoveResult}
 use Rattle.boxes.specs.Limits.{isBox, isDelta, isStep}
 use Rattle.table_check.specs.Check.{tablesFit}
 use Rattle.lent.specs.Lent.{lentRefusal, directRefusal, direct, unless}
-use Rattle.lent_boxes.specs.Boxes.{vecAt, aabbAt, writtenBy}
-use Rattle.lent_boxes.specs.Moves.{moverRefusal}
+use Rattle.movers.specs.Movers.{vecAt, aabbAt, moverRefusal, wholeMove}
+use Rattle.lent_numbers.specs.Written.{writtenBy}
 use Rattle.window.specs.declared.Window.{Window}
 use Rattle.window.specs.Window.{windowFits, windowRefusal}
 use Rattle.window.specs.Look.{lookAt}
 use Rattle.moves.specs.Answers.{moveAabb, moveAnswer, moveEntry}
 use Rattle.exports.specs.Room.{shortOf}
-use Rattle.exports.specs.Windows.{moveAt, wholeMove}
+use Rattle.exports.specs.Windows.{moveAt}
 use Rattle.exports.proofs.Short.{no-room, no-early, never-0}
 
 -- 3, then 4, one by one

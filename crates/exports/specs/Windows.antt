@@ -1,23 +1,17 @@
 -- The move through a window, in lent numbers: `mover` is the box that moves and its delta, nine numbers, and `places` are how many numbers
 -- there is room for in what is lent to be written to.
-use mathlib.Core.Bool.{Bool, true, _&&_}
+use mathlib.Core.Bool.{true}
 use mathlib.Core.List.{List}
 use Prim.Native.Nat.{ℕ}
-use lib.Dec.{eqb, leb, ltb}
-use lib.ListN.{length}
+use lib.Dec.{eqb, leb}
 use lib.Ieee.{Float}
 use Rattle.sweeps.specs.declared.MoveAnswer.{MoveAnswer}
 use Rattle.lent.specs.Lent.{directRefusal}
-use Rattle.lent_boxes.specs.Boxes.{vecAt, aabbAt}
-use Rattle.lent_boxes.specs.Moves.{moverRefusal}
+use Rattle.movers.specs.Movers.{vecAt, aabbAt, moverRefusal}
 use Rattle.window.specs.declared.Window.{Window}
 use Rattle.window.specs.Look.{lookAt}
 use Rattle.moves.specs.Answers.{moveAabb, moveAnswer}
 use Rattle.exports.specs.Room.{roomy}
-
--- lengths that fit, and room for ten numbers
-abbrev pub wholeMove : List Float → ℕ → ℕ → Bool
-wholeMove mover ground places = ltb ground 2 && (eqb (length mover) 9 && leb 10 places)
 
 -- move_aabb: 1, 2, 3, 4 and 11 in order, before any cell is asked for; then 5 or 6
 unfoldable pub moveAt : List ℕ → List Float → List ℕ → Window → List Float → Float → ℕ → ℕ → MoveAnswer

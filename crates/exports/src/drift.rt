@@ -1,26 +1,15 @@
 // Currents, in lent numbers.
 use boxes::Aabb;
 use boxes::Vec3;
-use lent_boxes::flag_of;
-use lent_boxes::put;
-use lent_boxes::put_vec;
-use liquids::Current;
-use liquids::AskedCurrent;
+use currents::AskedCurrent;
 use flow::AskedLiquid;
+use lent_numbers::put_flagged;
 use window::Window;
 ghost use mathlib.Core.Path.{_≡_};
 ghost use Rattle.boxes.specs.Boxes.{vec};
 ghost use Rattle.window.specs.Look.{lookAt};
-ghost use Rattle.base.specs.Loop.{stored};
 ghost use Rattle.window.specs.Numbers.{windowOf};
-ghost use Rattle.exports.specs.Currents.{currentAt, currentNumbers, currentRefusal, currentWritten};
-
-fn put_current(out: &mut [f64], c: Current)
-    ensures { λ _. ⌜ now (out .exit) ≡ stored (now (out .entry)) 0 (currentNumbers c) ⌝ }
-{
-    put_vec(out, 0, c.flow);
-    put(out, 3, flag_of(c.water));
-}
+ghost use Rattle.exports.specs.Currents.{currentAt, currentRefusal, currentWritten};
 
 fn current_into(
     records: &[u32],
@@ -40,10 +29,10 @@ fn current_into(
         AskedLiquid::Is(s) => s,
     };
     let aabb = Aabb::from_feet(feet, width, height);
-    match liquids::item_current(records, cells, w, aabb, foot, state) {
+    match currents::item_current(records, cells, w, aabb, foot, state) {
         AskedCurrent::Refused(n) => n,
         AskedCurrent::Is(c) => {
-            put_current(out, c);
+            put_flagged(out, c.flow, c.water);
             0
         }
     }

@@ -16,8 +16,8 @@ pub use tick::boltjuniper_step;
 pub use tick::boltjuniper_step_checked;
 ghost use mathlib.Core.Path.{_≡_};
 ghost use Rattle.floats.specs.Numbers.{isFinite, answerWhere};
-ghost use Rattle.floats.specs.Whole.{floorOf, ceilOf, cellOf};
-ghost use Rattle.floats.specs.Root.{hasRoot, rootOf};
+ghost use Rattle.wholes.specs.Whole.{floorOf, ceilOf, cellOf};
+ghost use Rattle.roots.specs.Root.{hasRoot, rootOf};
 ghost use Rattle.table_check.specs.Check.{tableRefusal};
 
 // Floor, ceiling, root and cell, to be timed alone: a refusal hands back zero, as module 1 has it.
@@ -26,7 +26,7 @@ ghost use Rattle.table_check.specs.Check.{tableRefusal};
 pub extern "C" fn boltjuniper_floor(x: f64) -> f64
     ensures { λ r. ⌜ r ≡ answerWhere (isFinite x) (floorOf x) .value ⌝ }
 {
-    let a = floats::floor(x);
+    let a = wholes::floor(x);
     a.value
 }
 
@@ -34,7 +34,7 @@ pub extern "C" fn boltjuniper_floor(x: f64) -> f64
 pub extern "C" fn boltjuniper_ceil(x: f64) -> f64
     ensures { λ r. ⌜ r ≡ answerWhere (isFinite x) (ceilOf x) .value ⌝ }
 {
-    let a = floats::ceil(x);
+    let a = wholes::ceil(x);
     a.value
 }
 
@@ -42,7 +42,7 @@ pub extern "C" fn boltjuniper_ceil(x: f64) -> f64
 pub extern "C" fn boltjuniper_root(x: f64) -> f64
     ensures { λ r. ⌜ r ≡ answerWhere (hasRoot x) (rootOf x) .value ⌝ }
 {
-    let a = floats::sqrt(x);
+    let a = roots::sqrt(x);
     a.value
 }
 
@@ -50,7 +50,7 @@ pub extern "C" fn boltjuniper_root(x: f64) -> f64
 pub extern "C" fn boltjuniper_cell(x: f64) -> i32
     ensures { λ r. ⌜ r ≡ cellOf x ⌝ }
 {
-    floats::cell(x)
+    wholes::cell(x)
 }
 
 #[no_mangle]

@@ -1,7 +1,7 @@
 // The move over boxes of the host's own.
 ghost use mathlib.Core.Path.{_≡_};
 ghost use lib.ListN.{length};
-ghost use Rattle.lent_boxes.specs.Boxes.{writtenBy};
+ghost use Rattle.lent_numbers.specs.Written.{writtenBy};
 ghost use Rattle.lent_boxes.specs.Moves.{moveAnyOf, moveListOf};
 
 // For any numbers, to be timed beside the original: it looks at no limit, takes what is not there for 0 and drops what there is no room for.

@@ -3,14 +3,8 @@ use crate::room::short_of;
 ghost use mathlib.Core.Path.{_≡_};
 ghost use lib.ListN.{length};
 ghost use Rattle.window.specs.Numbers.{windowOf};
-ghost use Rattle.lent_boxes.specs.Boxes.{writtenBy};
-ghost use Rattle.exports.specs.Windows.{moveAt, wholeMove};
-
-fn whole_move(mover: &[f64], ground: u32, places: usize) -> bool
-    ensures { λ r. ⌜ r ≡ wholeMove (now (mover .entry)) ground places ⌝ }
-{
-    (ground < 2) & ((mover.len() == 9) & (places >= 10))
-}
+ghost use Rattle.lent_numbers.specs.Written.{writtenBy};
+ghost use Rattle.exports.specs.Windows.{moveAt};
 
 // The move of a box through a window, for a host: `mover` is the box and its delta, nine numbers, and `ground` is 1 where the body was on the
 // ground, else 0. It writes ten numbers and returns 0, or writes nothing and returns 1 to 4, 11, 5 or 6. Where lengths fit and there is room
@@ -38,13 +32,12 @@ pub extern "C" fn boltjuniper_move(
     ensures { λ _. ⌜ now (out .exit) ≡ writtenBy (now (out .entry)) (moveAt (now (records .entry)) (now (shapes .entry)) (now (cells .entry)) (windowOf ox oy oz sx sy sz lowest highest air) (now (mover .entry)) step ground (length (now (out .entry)))) ⌝ }
 {
     let w = window::window_of(ox, oy, oz, sx, sy, sz, lowest, highest, air);
-    if whole_move(mover, ground, out.len()) {
-        let aabb = lent_boxes::first_box(mover);
-        let delta = bodies::vec_from(mover, 6);
-        let a = view::move_window(records, shapes, cells, w, aabb, delta, step, ground == 1);
-        return lent_boxes::move_into(out, a);
+    if movers::whole_move(mover, ground, out.len()) {
+        let q = movers::request_of(mover, step, ground);
+        let a = view::move_window(records, shapes, cells, w, q.aabb, q.delta, q.step, q.ground);
+        return lent_numbers::move_into(out, a);
     }
     let first = lent::check_direct(records, shapes, cells, w);
-    let early = lent_boxes::mover_refusal(mover, step, ground, true);
+    let early = movers::mover_refusal(mover, step, ground, true);
     short_of(first, early)
 }

@@ -10,7 +10,7 @@ use native.Mathlib.Nat.{zero-lt-suc, mul-pos}
 use native.Mathlib.Omega.{arith}
 use Rattle.floats.specs.Numbers.{isFinite, sizeOf}
 use Rattle.base.proofs.Values.{zero-exp}
-use Rattle.floats.proofs.Rounding.{zeroF, is-zero, not-zero, below-zero, not-below-zero}
+use Rattle.floats.proofs.Zeros.{zeroF, is-zero, not-zero, below-zero, not-below-zero}
 
 pub size-below : (x : Float) → lt x zeroF ≡ true → neg x ≡ sizeOf x
 unfolding neg sizeOf lt

@@ -1,5 +1,2 @@
--- The definitions of module 1: what a number is held to, whole numbers, the square root.
+-- The definitions of module 1: what a number is held to.
 pub mod Numbers
-pub mod Whole
-pub mod Root
-pub mod Steps

@@ -9,7 +9,7 @@ use Rattle.floats.specs.Numbers.{zero64}
 use Rattle.boxes.specs.declared.Vec3.{Vec3}
 use Rattle.boxes.specs.declared.Aabb.{Aabb}
 use Rattle.boxes.specs.Boxes.{below0, above0}
-use Rattle.moves.specs.Answers.{sweptArea}
+use Rattle.collection.specs.Collect.{sweptArea}
 use Rattle.grid.proofs.Units.{At, add-at, at-same, le-is}
 use Rattle.grid.proofs.Axis.{Span}
 use Rattle.grid.proofs.Whole.{Box, reach}

@@ -29,8 +29,8 @@ use Rattle.window.specs.Window.{within, columnInside, isVoid, sizeFits, sizesFi
 use Rattle.window.specs.Look.{Block, none, some, lookAt}
 use Rattle.window.proofs.Offsets.{within-by}
 use Rattle.window.proofs.Cells.{fits, found-inside}
-use Rattle.moves.specs.Collect.{CellShape, cube, boxes, originOf, cubeAt, toAabb, aabbsOf, shapeAabbs, shapeOf, cellShape}
-use Rattle.moves.specs.Settled.{settled, settledBoxes}
+use Rattle.collection.specs.Collect.{CellShape, cube, boxes, originOf, cubeAt, toAabb, aabbsOf, shapeAabbs, shapeOf, cellShape}
+use Rattle.collection.specs.Settled.{settled, settledBoxes}
 use Rattle.grid.specs.Grid.{onGrid, isProper}
 use Rattle.grid.specs.Demand.{cellAndHalf, isInCell, shapeOnGrid, settledOnGrid, cellFrom, everyColumn, aboveWorld, belowWorld, deepBelow, everyHeight, shapesOnGrid}
 use Rattle.grid.proofs.Units.{At, add-at, at-same, le-at, lt-at}

@@ -15,9 +15,9 @@ use Rattle.base.specs.Choose.{choose}
 use Rattle.base.proofs.Values.{rescaled}
 use Rattle.base.proofs.Tests.{T-true}
 use Rattle.base.proofs.Differences.{subℕ-pos, subℕ-neg, subℕ-add, subℕ-le, plus-minus}
-use Rattle.floats.specs.Whole.{floorSize, floorInt, signedOf, cellOf}
-use Rattle.floats.proofs.Cells.{cell-within, bottom}
-use Rattle.floats.proofs.Cells as C
+use Rattle.wholes.specs.Whole.{floorSize, floorInt, signedOf, cellOf}
+use Rattle.wholes.proofs.Cells.{cell-within, bottom}
+use Rattle.wholes.proofs.Cells as C
 use Rattle.ranges.specs.declared.Axis.{Axis}
 use Rattle.ranges.specs.Ranges.{orZero, spanOf, onFrom, cellsBetween, layersBetween}
 use Rattle.grid.proofs.Units.{At, Signed, le-is}

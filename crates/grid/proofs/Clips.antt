@@ -13,7 +13,7 @@ use Rattle.base.specs.Choose.{choose}
 use Rattle.base.proofs.Tests.{and-is, or-is}
 use Rattle.base.proofs.Differences.{subℕ-pos, subℕ-neg, subℕ-sub, subℕ-lt, subℕ-leZ}
 use Rattle.floats.specs.Numbers.{zero64, isWithin, leastOf, greatestOf}
-use Rattle.floats.specs.Whole.{signedOf}
+use Rattle.wholes.specs.Whole.{signedOf}
 use Rattle.boxes.specs.declared.Aabb.{Aabb}
 use Rattle.boxes.specs.Boxes.{apart, stopAt}
 use Rattle.boxes.specs.Limits.{twoTo, areWithin, sidesOf, isBox}

@@ -13,11 +13,11 @@ use lib.Ieee.Back.{round-whole}
 use lib.Ieee.Order.{round-mono}
 use lib.Ieee.Positive.{above, positive-of-value, above-of-le, values-of-le}
 use Rattle.floats.specs.Numbers.{one64}
-use Rattle.floats.proofs.Rounding.{neg-round}
+use Rattle.wholes.proofs.Rounding.{neg-round}
 use Rattle.boxes.specs.declared.Aabb.{Aabb}
 use Rattle.boxes.specs.Boxes.{offsetBy, meet, overlap}
 use Rattle.window.specs.declared.Pos.{Pos}
-use Rattle.moves.specs.Collect.{originOf, cubeAt}
+use Rattle.collection.specs.Collect.{originOf, cubeAt}
 use Rattle.grid.proofs.Units.{At, Signed}
 use Rattle.grid.proofs.Axis.{Span}
 use Rattle.grid.proofs.Counted.{base, OnSpan}

@@ -20,9 +20,9 @@ use Rattle.window.specs.declared.Pos.{Pos}
 use Rattle.window.specs.declared.Window.{Window}
 use Rattle.window.specs.Window.{columnInside, heightInside, isVoid, indexOf, columnIndexOf}
 use Rattle.window.specs.Look.{Block, none, some, lookAt, stepped}
-use Rattle.connect.specs.declared.Joined.{Joined}
+use Rattle.joining.specs.declared.Joined.{Joined}
 use Rattle.connect.specs.Connect.{wayTo, upwards, connects, straight, raisedBy, connectKind, joins, post, transitions, postTransition, besideNeighbours, connectedState}
-use Rattle.moves.specs.Collect.{boxes, connectedShape, shapeOf, cellShape}
+use Rattle.collection.specs.Collect.{boxes, connectedShape, shapeOf, cellShape}
 use Rattle.grid.specs.Demand.{aboveWorld, belowWorld, deepBelow}
 
 -- ---- heights, as differences

@@ -11,7 +11,7 @@ use Rattle.base.specs.Loop as O
 use Rattle.base.specs.Ask as A
 use Rattle.base.specs.Every as Y
 use Rattle.floats.specs.Numbers as N
-use Rattle.floats.specs.Whole as H
+use Rattle.wholes.specs.Whole as H
 use Rattle.sweeps.specs.declared.MoveAnswer.{MoveAnswer}
 use Rattle.sweeps.specs.Move as M
 use Rattle.boxes.specs.Limits as L
@@ -24,8 +24,8 @@ use Rattle.lent.specs.Lent.{unless, lentRefusal, directRefusal}
 use Rattle.ranges.specs.Ranges as R
 use Rattle.ranges.specs.Walk as Q
 use Rattle.connect.specs.Connect as J
-use Rattle.moves.specs.Collect as P
-use Rattle.moves.specs.Settled as Z
+use Rattle.collection.specs.Collect as P
+use Rattle.collection.specs.Settled as Z
 use Rattle.moves.specs.Answers as X
 use Rattle.grid.specs.Grid as G
 use Rattle.grid.specs.Demand as D

@@ -31,11 +31,11 @@ use Rattle.window.proofs.Cells as N
 use Rattle.lent.specs.Lent.{unless, lentRefusal, directRefusal}
 use Rattle.ranges.specs.declared.Range.{Range}
 use Rattle.ranges.specs.Ranges.{placeAt}
-use Rattle.moves.specs.Collect.{rangeOf, collectBlockBoxes}
-use Rattle.moves.specs.Settled.{settledBoxes, overlapping, appended, inOrder}
-use Rattle.moves.specs.Answers.{sweptArea, moveAabb, moveAnswer, moveEntry}
-use Rattle.moves.proofs.Order.{keptOf, collected-is, is-collected}
-use Rattle.moves.proofs.Refuses.{FiveOrSix, collect-refuses}
+use Rattle.collection.specs.Collect.{rangeOf, collectBlockBoxes, sweptArea}
+use Rattle.collection.specs.Settled.{settledBoxes, overlapping, appended, inOrder}
+use Rattle.moves.specs.Answers.{moveAabb, moveAnswer, moveEntry}
+use Rattle.collection.proofs.Order.{keptOf, collected-is, is-collected}
+use Rattle.collection.proofs.Refuses.{FiveOrSix, collect-refuses}
 use Rattle.grid.specs.Grid.{onGrid, vecOnGrid, isProper, isFree}
 use Rattle.grid.specs.Demand.{Free, Demand3, keepsStep, IsSettled, shapesOnGrid, everyPlace, isFreeIn, windowOnGrid, keepsAmong, keepsStepIn, WindowDemand}
 use Rattle.grid.proofs.Whole.{Box, Solid}

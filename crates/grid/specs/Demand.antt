@@ -33,9 +33,9 @@ use Rattle.window.specs.declared.Window.{Window}
 use Rattle.window.specs.Look.{lookAt}
 use Rattle.ranges.specs.declared.Range.{Range}
 use Rattle.ranges.specs.Ranges.{placeAt}
-use Rattle.moves.specs.Collect.{CellShape, cube, boxes as ofState, toAabb, cellShape, rangeOf, collectBlockBoxes}
-use Rattle.moves.specs.Settled.{settledBoxes}
-use Rattle.moves.specs.Answers.{sweptArea, moveEntry}
+use Rattle.collection.specs.Collect.{CellShape, cube, boxes as ofState, toAabb, cellShape, rangeOf, collectBlockBoxes, sweptArea}
+use Rattle.collection.specs.Settled.{settledBoxes}
+use Rattle.moves.specs.Answers.{moveEntry}
 use Rattle.grid.specs.Grid.{onGrid, vecOnGrid, isProper, areProper, isFree}
 
 -- ---- what is demanded

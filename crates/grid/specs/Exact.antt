@@ -8,7 +8,7 @@ use lib.IntN.{ℤ, pos, _+ℤ_, _-ℤ_}
 use lib.Signed.{ltZ, leZ}
 use lib.Ieee.{Float, nan, inf, fin, up, down}
 use Rattle.base.specs.Choose.{choose}
-use Rattle.floats.specs.Whole.{signedOf}
+use Rattle.wholes.specs.Whole.{signedOf}
 use Rattle.boxes.specs.declared.Vec3.{Vec3}
 use Rattle.boxes.specs.declared.Aabb.{Aabb}
 use Rattle.boxes.specs.Boxes.{offsetBy, clipX, clipY, clipZ}

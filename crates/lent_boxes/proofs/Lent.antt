@@ -13,7 +13,7 @@ use Rattle.boxes.specs.Boxes.{vec, box}
 use Rattle.boxes.specs.Limits.{isBox, areBoxes}
 use Rattle.sweeps.specs.Move.{clipAll}
 use Rattle.tables.proofs.Lists.{getD-any}
-use Rattle.lent_boxes.specs.Boxes.{aabbAt}
+use Rattle.movers.specs.Movers.{aabbAt}
 
 -- all six numbers of a box are there
 pub there : (l : List Float) (i : ℕ) → i < length l / 6 → i * 6 + 5 < length l

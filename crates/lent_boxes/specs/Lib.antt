@@ -1,3 +1,3 @@
--- The definitions of boxes in lent numbers: how they are read, the move over them, and what is written back.
+-- The definitions of boxes in lent numbers, and of the move over them.
 pub mod Boxes
 pub mod Moves

@@ -1,30 +1,16 @@
-// Boxes in lent numbers, six to a box: they are read where they lie. moved.rt has the move over them, and written.rt what is written back.
+// Boxes in lent numbers, six to a box: they are read where they lie. moved.rt has the move over them.
 mod moved;
-mod written;
 
 pub use moved::move_over_any;
 pub use moved::move_over_lent;
-pub use moved::mover_refusal;
-pub use written::flag_of;
-pub use written::move_into;
-pub use written::put;
-pub use written::put_vec;
 use boxes::Aabb;
 use boxes::Vec3;
 ghost use mathlib.Core.Path.{_≡_};
 ghost use Prim.Native.Nat.{_+_, _<_};
 ghost use lib.ListN.{length};
 ghost use Rattle.boxes.specs.Limits.{areBoxes};
-ghost use Rattle.lent_boxes.specs.Boxes.{aabbAt, boxesOf, lentFit};
-
-// The box that the first six numbers are.
-pub fn first_box(numbers: &[f64]) -> Aabb
-    ensures { λ r. ⌜ r ≡ aabbAt (now (numbers .entry)) 0 ⌝ }
-{
-    let min = bodies::vec_from(numbers, 0);
-    let max = bodies::vec_from(numbers, 3);
-    Aabb { min, max }
-}
+ghost use Rattle.movers.specs.Movers.{aabbAt};
+ghost use Rattle.lent_boxes.specs.Boxes.{boxesOf, lentFit};
 
 // The box whose six numbers begin at a place; they are there, so that reading them takes no test.
 fn box_at(numbers: &[f64], at: usize) -> Aabb

@@ -1,62 +1,17 @@
 // The move over boxes in lent numbers.
 use crate::box_at;
-use crate::first_box;
 use crate::lent_fit;
-use crate::written::put_result;
+use lent_numbers::put_result;
+use movers::mover_refusal;
+use movers::request_of;
 use sweeps::MoveResult;
 use sweeps::Request;
 ghost use mathlib.Core.Path.{_≡_};
 ghost use lib.ListN.{length};
 ghost use Rattle.sweeps.specs.Move.{moveOver};
-ghost use Rattle.lent_boxes.specs.Boxes.{boxesOf, writtenBy};
-ghost use Rattle.lent_boxes.specs.Moves.{requestOf, moverFits, moverRefusal, listRefusal, moveListOf, moveAnyOf};
-
-// What a move in lent numbers is asked for.
-fn request_of(mover: &[f64], step: f64, ground: u32) -> Request
-    ensures { λ r. ⌜ r ≡ requestOf (now (mover .entry)) step ground ⌝ }
-{
-    let aabb = first_box(mover);
-    let delta = bodies::vec_from(mover, 6);
-    Request {
-        aabb,
-        delta,
-        step,
-        ground: ground == 1,
-    }
-}
-
-fn mover_fits(mover: &[f64], sound: bool) -> bool
-    ensures { λ r. ⌜ r ≡ moverFits (now (mover .entry)) sound ⌝ }
-{
-    if mover.len() == 9 {
-        if sound {
-            let aabb = first_box(mover);
-            if boxes::is_box(aabb) {
-                let way = bodies::vec_from(mover, 6);
-                return boxes::is_delta(way);
-            }
-            return false;
-        }
-        return false;
-    }
-    false
-}
-
-// 3, then 4, or 0; `sound` says whether what is moved over is.
-pub fn mover_refusal(mover: &[f64], step: f64, ground: u32, sound: bool) -> u32
-    ensures { λ r. ⌜ r ≡ moverRefusal (now (mover .entry)) step ground sound ⌝ }
-{
-    if ground < 2 {
-        if boxes::is_step(step) {
-            if mover_fits(mover, sound) {
-                return 0;
-            }
-            return 4;
-        }
-        return 3;
-    }
-    3
-}
+ghost use Rattle.lent_numbers.specs.Written.{writtenBy};
+ghost use Rattle.lent_boxes.specs.Boxes.{boxesOf};
+ghost use Rattle.lent_boxes.specs.Moves.{listRefusal, moveListOf, moveAnyOf};
 
 // 3, 4, 11 and 6 in order, or 0.
 fn list_refusal(boxes: &[f64], mover: &[f64], step: f64, ground: u32, places: usize) -> u32

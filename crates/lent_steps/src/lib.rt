@@ -1,6 +1,6 @@
 // What a step comes to, written into lent numbers.
-use lent_boxes::put;
-use lent_boxes::put_vec;
+use lent_numbers::put;
+use lent_numbers::put_vec;
 use step::StepAnswer;
 use tables::LiquidKind;
 ghost use mathlib.Core.Path.{_≡_};

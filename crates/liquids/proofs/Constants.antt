@@ -2,17 +2,8 @@
 use mathlib.Core.Bool.{false}
 use mathlib.Core.Path.{_≡_, refl}
 use lib.Ieee.{binary64, ofBits, round}
-use Rattle.liquids.specs.Current.{waterPush, lavaPush}
 use Rattle.liquids.specs.Flotation.{nine64}
 use Rattle.liquids.specs.Living.{thousandth}
-
-pub water-push-decimal : waterPush ≡ round binary64 false 14 1000
-unfolding ofBits round
-water-push-decimal = refl
-
-pub lava-push-decimal : lavaPush ≡ round binary64 false 35 10000
-unfolding ofBits round
-lava-push-decimal = refl
 
 pub nine-decimal : nine64 ≡ round binary64 false 9 1
 unfolding ofBits round

@@ -11,27 +11,12 @@ use Rattle.tables.specs.declared.LiquidKind.the-variants.{None}
 use Rattle.window.specs.declared.Window.{Window}
 use Rattle.window.specs.Look.{lookAt}
 use Rattle.lent.specs.Lent.{unless, direct}
-use Rattle.liquids.specs.declared.Streams.{Streams}
-use Rattle.liquids.specs.declared.Current.{Current}
-use Rattle.liquids.specs.declared.Gathered.{Gathered}
-use Rattle.liquids.specs.declared.Gathered.the-variants as gathers
-use Rattle.liquids.specs.declared.AskedCurrent.{AskedCurrent}
-use Rattle.liquids.specs.declared.AskedCurrent.the-variants as currents
 use Rattle.liquids.specs.declared.AskedKind.{AskedKind}
 use Rattle.liquids.specs.declared.AskedKind.the-variants as kinds
 use Rattle.liquids.specs.declared.Search.{Search}
 use Rattle.liquids.specs.declared.Search.the-variants as searches
 use Rattle.liquids.specs.declared.LiquidAnswer.{LiquidAnswer}
 use Rattle.liquids.specs.Living.{livingLiquid}
-
--- what one cell's turn says
-abbrev pub gatheredAsked : Gathered → Ask (Turn Streams Current)
-gatheredAsked (gathers.On s) = found (next s)
-gatheredAsked (gathers.Refused n) = refused n
-
-abbrev pub currentAsked : AskedCurrent → Ask Current
-currentAsked (currents.Is c) = found c
-currentAsked (currents.Refused n) = refused n
 
 abbrev pub kindAsked : AskedKind → Ask LiquidKind
 kindAsked (kinds.Is kind) = found kind

@@ -17,7 +17,7 @@ use Rattle.window.specs.declared.Pos.{Pos}
 use Rattle.window.specs.Look.{Block}
 use Rattle.ranges.specs.Cells.{cellHolding, cellUnder}
 use Rattle.flow.specs.Liquid.{isWater, isLava, isFalling, liquidHeld}
-use Rattle.liquids.specs.Current.{samePos, liquidKnown}
+use Rattle.currents.specs.Current.{samePos, liquidKnown}
 use Rattle.floats.specs.Numbers.{one64}
 
 -- position + DVec3::Y * d

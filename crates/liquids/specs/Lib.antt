@@ -1,5 +1,4 @@
--- The definitions of module 7, above `flow`: what liquids do to items and living bodies, and what the program's answers say.
-pub mod Current
+-- The definitions of module 7, what an item floats in and what a living body is in, and what the program's answers say.
 pub mod Flotation
 pub mod Living
 pub mod Answers

@@ -1,10 +1,10 @@
 // What liquid an item floats in.
 use crate::AskedKind;
-use crate::drift::liquid_known;
-use crate::drift::same_pos;
 use boxes::Vec3;
 use boxes::vectors::add_scaled;
 use boxes::vectors::unit_y;
+use currents::liquid_known;
+use currents::same_pos;
 use flow::AskedLiquid;
 use flow::is_lava;
 use flow::is_liquid;

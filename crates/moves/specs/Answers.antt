@@ -1,52 +1,23 @@
--- What the answers of collection and of the move say, and what a host is handed.
-use mathlib.Core.Bool.{Bool, true, false, not, _&&_}
-use mathlib.Core.List.{List, []}
+-- What a host is handed of collection and of the move. The move itself is passed on, since it is read beside what a host is handed of it.
+use mathlib.Core.Bool.{Bool, false, not, _&&_}
+use mathlib.Core.List.{List}
 use Prim.Native.Nat.{ℕ}
 use lib.Ieee.{Float}
-use Rattle.base.specs.Ask.{Ask, refused, found, _>>=_}
-use Rattle.floats.specs.Numbers.{zero64}
+use Rattle.base.specs.Ask.{Ask, refused, found}
 use Rattle.boxes.specs.declared.Vec3.{Vec3}
 use Rattle.boxes.specs.declared.Aabb.{Aabb}
+use Rattle.boxes.specs.Limits.{isBox, isDelta, isStep}
 use Rattle.sweeps.specs.declared.MoveResult.{MoveResult}
 use Rattle.sweeps.specs.declared.MoveAnswer.{MoveAnswer}
-use Rattle.boxes.specs.Boxes.{vec, expandTowards}
-use Rattle.sweeps.specs.Lists.{Held, held}
-use Rattle.sweeps.specs.Move.{moveOver}
-use Rattle.boxes.specs.Limits.{isBox, isDelta, isStep}
+use Rattle.sweeps.specs.Lists.{Held}
 use Rattle.sweeps.specs.Entry.{refusedMove}
-use Rattle.window.specs.declared.Pos.{Pos}
 use Rattle.window.specs.declared.Window.{Window}
-use Rattle.window.specs.Look.{Block, lookAt}
+use Rattle.window.specs.Look.{lookAt}
 use Rattle.lent.specs.Lent.{unless, direct}
-use Rattle.moves.specs.declared.AskedHit.{AskedHit}
-use Rattle.moves.specs.declared.AskedHit.the-variants.{Is, Refused}
-use Rattle.moves.specs.declared.AskedMove.{AskedMove}
-use Rattle.moves.specs.declared.AskedMove.the-variants.{To, Refused as MoveRefused}
+use Rattle.collection.specs.Collect.{collectBlockBoxes, collidesWithBlocks}
+use Rattle.collection.specs.Answers.{heldAsked}
 use Rattle.moves.specs.declared.HitAnswer.{HitAnswer}
-use Rattle.moves.specs.Collect.{collectBlockBoxes, collidesWithBlocks}
-
--- a refused collection is an empty list
-abbrev pub heldAsked : Ask (List Aabb) → Held
-heldAsked (refused n) = held n []
-heldAsked (found bs) = held 0 bs
-
-abbrev pub hitAsked : AskedHit → Ask Bool
-hitAsked (Is b) = found b
-hitAsked (Refused n) = refused n
-
--- ---- the move through a window, as the Rust's move_aabb: the swept area, collection, the move over what was collected
-
-abbrev pub sweptArea : Aabb → Vec3 → Float → Aabb
-sweptArea aabb delta stepHeight = expandTowards (expandTowards aabb delta) (vec zero64 stepHeight zero64)
-
-unfoldable pub moveAabb : (Pos → Ask Block) → List ℕ → List Float → Aabb → Vec3 → Float → Bool → Ask MoveResult
-moveAabb look records shapes aabb delta stepHeight wasOnGround = do
-  boxes ← collectBlockBoxes look records shapes (sweptArea aabb delta stepHeight)
-  found (moveOver boxes aabb delta stepHeight wasOnGround)
-
-abbrev pub movedAsked : AskedMove → Ask MoveResult
-movedAsked (To m) = found m
-movedAsked (MoveRefused n) = refused n
+unfoldable pub use Rattle.through.specs.Through.{moveAabb}
 
 -- a refused move returns its box, moved zero, ground false
 abbrev pub moveAnswer : Aabb → Ask MoveResult → MoveAnswer

@@ -1,4 +1,2 @@
--- The definitions of module 6 through a window: collection, and the move.
-pub mod Collect
+-- The definitions of module 6 as a host calls it.
 pub mod Answers
-pub mod Settled

@@ -1,127 +1,23 @@
-// Module 6 through a window: collection of block boxes, and the move of a box through them (through.rt).
-mod through;
-
-pub use through::move_through;
+// Module 6 as a host calls it: collection and the move, with all their refusals.
 use boxes::Aabb;
 use boxes::Vec3;
-use ranges::Range;
-use solids::AskedShape;
-use solids::Shape;
-use sweeps::BoxList;
+use collection::AskedHit;
 use sweeps::Collected;
 use sweeps::MoveAnswer;
 use sweeps::MoveResult;
-use window::Pos;
+use through::AskedMove;
 use window::Window;
 ghost use mathlib.Core.Path.{_≡_};
-ghost use Prim.Native.Nat.{_≤_};
-ghost use Rattle.sweeps.specs.Lists.{room, heldIn};
-ghost use Rattle.tables.specs.Tables.{boxesAt};
-ghost use Rattle.ranges.specs.Ranges.{trimmed};
-ghost use Rattle.solids.specs.Parts.{countOf, nthAabb};
-ghost use Rattle.window.specs.Look.{lookAt};
-ghost use Rattle.moves.specs.Collect.{rangeOf, collectUpTo, collectBlockBoxes, collidesWithBlocks};
-ghost use Rattle.moves.specs.Answers.{heldAsked, hitAsked, moveAnswer, collectEntry, collidesEntry, moveEntry};
 ghost use mathlib.Core.Bool.{_&&_};
 ghost use Rattle.base.specs.Ask.{refused};
 ghost use Rattle.boxes.specs.Limits.{isBox, isDelta};
-
-pub enum AskedHit {
-    Is(bool),
-    Refused(u32),
-}
-
-// A move, or the number of a refusal.
-pub enum AskedMove {
-    To(MoveResult),
-    Refused(u32),
-}
+ghost use Rattle.sweeps.specs.Lists.{heldIn};
+ghost use Rattle.moves.specs.Answers.{moveAnswer, collectEntry, collidesEntry, moveEntry};
 
 // Refusal 0 and whether a box was hit, or a refusal and no.
 pub struct HitAnswer {
     pub refusal: u32,
     pub hit: bool,
-}
-
-// The cells that the area reaches.
-fn range_of(area: Aabb) -> Range
-    ensures { λ r. ⌜ r ≡ trimmed (rangeOf area) ⌝ }
-{
-    let x = ranges::cells_between(area.min.x, area.max.x);
-    let y = ranges::layers_between(area.min.y, area.max.y);
-    let z = ranges::cells_between(area.min.z, area.max.z);
-    ranges::trim(Range { x, y, z })
-}
-
-// How many boxes a cell has of which `part_at` answered this.
-fn count_in(shapes: &[f32], part: Shape) -> u32
-    ensures { λ r. ⌜ r ≡ countOf (part .cube) (part .count) (boxesAt (now (shapes .entry)) (part .first) (part .count)) ⌝ }
-{
-    let shape = tables::boxes_at(shapes, part.first, part.count);
-    solids::count_of(part.cube, part.count, shape)
-}
-
-// Box k of the cell at p.
-fn box_in(shapes: &[f32], part: Shape, p: Pos, k: u32) -> Aabb
-    ensures { λ r. ⌜ r ≡ nthAabb (part .cube) (boxesAt (now (shapes .entry)) (part .first) (part .count)) p k ⌝ }
-{
-    let shape = tables::boxes_at(shapes, part.first, part.count);
-    solids::nth_aabb(part.cube, shape, p, k)
-}
-
-// The boxes of every cell that the area reaches, which strictly overlap it: as many as the cap says, and with one more it refuses 6. The list is
-// built in place.
-fn collect_up_to(cap: usize, records: &[u32], shapes: &[f32], cells: &[u32], w: Window, area: Aabb) -> Collected
-    requires { ⌜ cap ≤ room ⌝ }
-    ensures { λ r. ⌜ heldIn r ≡ heldAsked (collectUpTo cap (lookAt (now (cells .entry)) w) (now (records .entry)) (now (shapes .entry)) area) ⌝ }
-{
-    let r = range_of(area);
-    let mut list = BoxList::new();
-    let mut t = ranges::start(r);
-    while t.y < r.y.count {
-        let p = ranges::place(r, t);
-        let part = match solids::part_at(records, cells, w, p) {
-            AskedShape::Refused(n) => return Collected::refused(n),
-            AskedShape::Is(s) => s,
-        };
-        let n = count_in(shapes, part);
-        for k in 0..n {
-            let b = box_in(shapes, part, p, k);
-            if b.intersects(area) {
-                let i = list.count;
-                if i >= cap {
-                    return Collected::refused(6);
-                }
-                list.boxes[i] = b;
-                list.count = i + 1;
-            }
-        }
-        t = ranges::next(r, t);
-    }
-    Collected { list, refusal: 0 }
-}
-
-// Collection into the list. It refuses 5 and 6 alone.
-pub fn collect(records: &[u32], shapes: &[f32], cells: &[u32], w: Window, area: Aabb) -> Collected
-    ensures { λ r. ⌜ heldIn r ≡ heldAsked (collectBlockBoxes (lookAt (now (cells .entry)) w) (now (records .entry)) (now (shapes .entry)) area) ⌝ }
-{
-    collect_up_to(128, records, shapes, cells, w, area)
-}
-
-// Whether a block box strictly overlaps the area. It stops at its first hit: no cell after that is asked for. It refuses 5 alone.
-// A collection with room for no box does the same, and its 6 is the hit.
-pub fn collides(records: &[u32], shapes: &[f32], cells: &[u32], w: Window, area: Aabb) -> AskedHit
-    ensures { λ r. ⌜ hitAsked r ≡ collidesWithBlocks (lookAt (now (cells .entry)) w) (now (records .entry)) (now (shapes .entry)) area ⌝ }
-{
-    let none = collect_up_to(0, records, shapes, cells, w, area);
-    let refusal = none.refusal;
-    if refusal == 0 {
-        return AskedHit::Is(false);
-    }
-    if refusal == 6 {
-        return AskedHit::Is(true);
-    }
-    AskedHit::Refused(refusal)
 }
 
 // For hosts: collection, with tables, window and area checked before any cell is asked for.
@@ -133,7 +29,7 @@ pub fn collect_block_boxes(records: &[u32], shapes: &[f32], cells: &[u32], w: Wi
         return Collected::refused(bad);
     }
     if boxes::is_box(area) {
-        return collect(records, shapes, cells, w, area);
+        return collection::collect(records, shapes, cells, w, area);
     }
     Collected::refused(4)
 }
@@ -147,7 +43,7 @@ pub fn collides_with_blocks(records: &[u32], shapes: &[f32], cells: &[u32], w: W
         return HitAnswer { refusal: bad, hit: false };
     }
     if boxes::is_box(area) {
-        let told = collides(records, shapes, cells, w, area);
+        let told = collection::collides(records, shapes, cells, w, area);
         return match told {
             AskedHit::Refused(n) => HitAnswer { refusal: n, hit: false },
             AskedHit::Is(b) => HitAnswer { refusal: 0, hit: b },
@@ -189,7 +85,7 @@ pub fn move_aabb(records: &[u32], shapes: &[f32], cells: &[u32], w: Window, aabb
     }
     if boxes::is_step(step) {
         if is_fit(aabb, delta) {
-            let told = move_through(records, shapes, cells, w, aabb, delta, step, ground);
+            let told = through::move_through(records, shapes, cells, w, aabb, delta, step, ground);
             return match told {
                 AskedMove::Refused(n) => refused_move(n, aabb),
                 AskedMove::To(m) => MoveAnswer {

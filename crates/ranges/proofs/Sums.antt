@@ -12,8 +12,8 @@ use mir.Val.{SFits, Fits, toZ, ofZ}
 use mir.ValLaws.{toZ-ofZ, toZ-pos}
 use borrow.Author.Tests.{ltb-true, ltb-false, leb-true}
 use Rattle.base.specs.Choose.{choose}
-use Rattle.floats.specs.Whole.{cellOf}
-use Rattle.floats.proofs.Cells.{cell-reach}
+use Rattle.wholes.specs.Whole.{cellOf}
+use Rattle.wholes.proofs.Cells.{cell-reach}
 use Rattle.window.proofs.Signs.{mag-add, mag-neg, widens32, wide, wide-is}
 use Rattle.ranges.specs.declared.Axis.{Axis}
 use Rattle.ranges.specs.Ranges.{orZero, spanOf, onFrom}

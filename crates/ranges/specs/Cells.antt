@@ -1,6 +1,6 @@
 -- The cell that a point lies in.
 use lib.IntN.{pos, _-ℤ_}
-use Rattle.floats.specs.Whole.{cellOf}
+use Rattle.wholes.specs.Whole.{cellOf}
 use Rattle.boxes.specs.declared.Vec3.{Vec3}
 use Rattle.window.specs.declared.Pos.{Pos}
 

@@ -6,7 +6,7 @@ use lib.IntN.{ℤ, pos, negsuc, _+ℤ_, _-ℤ_}
 use lib.Signed.{leZ}
 use lib.Ieee.{Float}
 use Rattle.base.specs.Choose.{choose}
-use Rattle.floats.specs.Whole.{cellOf}
+use Rattle.wholes.specs.Whole.{cellOf}
 use Rattle.window.specs.declared.Pos.{Pos}
 use Rattle.ranges.specs.declared.Axis.{Axis}
 use Rattle.ranges.specs.declared.Range.{Range}

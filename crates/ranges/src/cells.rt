@@ -7,9 +7,9 @@ ghost use Rattle.ranges.specs.Cells.{cellHolding, cellUnder};
 pub fn cell_holding(v: Vec3) -> Pos
     ensures { λ r. ⌜ r ≡ cellHolding v ⌝ }
 {
-    let x = floats::cell(v.x);
-    let y = floats::cell(v.y);
-    let z = floats::cell(v.z);
+    let x = wholes::cell(v.x);
+    let y = wholes::cell(v.y);
+    let z = wholes::cell(v.z);
     Pos { x, y, z }
 }
 
@@ -17,8 +17,8 @@ pub fn cell_holding(v: Vec3) -> Pos
 pub fn cell_under(v: Vec3) -> Pos
     ensures { λ r. ⌜ r ≡ cellUnder v ⌝ }
 {
-    let x = floats::cell(v.x);
-    let y = floats::cell(v.y) - 1;
-    let z = floats::cell(v.z);
+    let x = wholes::cell(v.x);
+    let y = wholes::cell(v.y) - 1;
+    let z = wholes::cell(v.z);
     Pos { x, y, z }
 }

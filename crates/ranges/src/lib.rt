@@ -45,8 +45,8 @@ fn span(a: i32, b: i32) -> u32
 pub fn cells_between(lo: f64, hi: f64) -> Axis
     ensures { λ r. ⌜ r ≡ cellsBetween lo hi ⌝ }
 {
-    let first = floats::cell(lo);
-    let last = floats::cell(hi);
+    let first = wholes::cell(lo);
+    let last = wholes::cell(hi);
     let count = span(first, last);
     Axis { first, count }
 }
@@ -55,8 +55,8 @@ pub fn cells_between(lo: f64, hi: f64) -> Axis
 pub fn layers_between(lo: f64, hi: f64) -> Axis
     ensures { λ r. ⌜ r ≡ layersBetween lo hi ⌝ }
 {
-    let first = floats::cell(lo) - 1;
-    let last = floats::cell(hi);
+    let first = wholes::cell(lo) - 1;
+    let last = wholes::cell(hi);
     let count = span(first, last);
     Axis { first, count }
 }

@@ -43,7 +43,7 @@ fn answer(line: &[u8]) -> MoveAnswer {
     let delta = vec3(line, 7);
     let step = crate::text::float(line, 10);
     let ground = crate::text::number(line, 11) == 1;
-    sweeps::move_over_list(list(line), mover, delta, step, ground)
+    list_moves::move_over_list(list(line), mover, delta, step, ground)
 }
 
 fn put_vec3(v: Vec3) {

@@ -4,13 +4,13 @@ use floats::Answer;
 fn answer(line: &[u8]) -> Answer {
     let x = crate::text::float(line, 1);
     if crate::text::begins(line, b"floor") {
-        return floats::floor(x);
+        return wholes::floor(x);
     }
     if crate::text::begins(line, b"ceil") {
-        return floats::ceil(x);
+        return wholes::ceil(x);
     }
     if crate::text::begins(line, b"sqrt") {
-        return floats::sqrt(x);
+        return roots::sqrt(x);
     }
     if crate::text::begins(line, b"size") {
         return floats::size(x);

@@ -12,12 +12,11 @@ use Rattle.base.specs.Loop.{stored}
 use Rattle.boxes.specs.declared.Aabb.{Aabb}
 use Rattle.sweeps.specs.Lists.{Held, noBox}
 use Rattle.lent.specs.Lent.{direct, unless}
-use Rattle.lent_boxes.specs.Boxes.{vecAt, aabbAt}
-use Rattle.lent_boxes.specs.Moves.{moverRefusal}
+use Rattle.movers.specs.Movers.{vecAt, aabbAt, moverRefusal}
 use Rattle.window.specs.declared.Window.{Window}
 use Rattle.window.specs.Look.{lookAt}
-use Rattle.moves.specs.Collect.{collectBlockBoxes}
-use Rattle.moves.specs.Answers.{heldAsked, sweptArea}
+use Rattle.collection.specs.Collect.{collectBlockBoxes, sweptArea}
+use Rattle.collection.specs.Answers.{heldAsked}
 
 -- the area that the move sweeps: its delta, and up by the step height
 abbrev pub sweptBy : List Float → Float → Aabb

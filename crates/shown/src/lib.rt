@@ -4,8 +4,8 @@ use boxes::Aabb;
 use sweeps::BoxList;
 use sweeps::Collected;
 use boxes::Vec3;
-use lent_boxes::put;
-use lent_boxes::put_vec;
+use lent_numbers::put;
+use lent_numbers::put_vec;
 use window::Window;
 ghost use mathlib.Core.Path.{_≡_};
 ghost use lib.ListN.{length, getD};
@@ -18,9 +18,9 @@ ghost use Rattle.shown.specs.Shown.{sweptBy, collectedAt, numbersAt, box
 fn swept_by(mover: &[f64], step: f64) -> Aabb
     ensures { λ r. ⌜ r ≡ sweptBy (now (mover .entry)) step ⌝ }
 {
-    let aabb = lent_boxes::first_box(mover);
+    let aabb = movers::first_box(mover);
     let delta = bodies::vec_from(mover, 6);
-    aabb.expand_towards(delta).expand_towards(Vec3::new(0.0, step, 0.0))
+    collection::swept_area(aabb, delta, step)
 }
 
 // What the move collects, or its refusal: 1 to 4 and 11 before any cell is asked for.
@@ -31,14 +31,14 @@ fn collected(records: &[u32], shapes: &[f32], cells: &[u32], w: Window, mover: &
     if bad != 0 {
         return Collected::refused(bad);
     }
-    let early = lent_boxes::mover_refusal(mover, step, 0, true);
+    let early = movers::mover_refusal(mover, step, 0, true);
     if early != 0 {
         return Collected::refused(early);
     }
     if places < 7 {
         return Collected::refused(11);
     }
-    moves::collect(records, shapes, cells, w, swept_by(mover, step))
+    collection::collect(records, shapes, cells, w, swept_by(mover, step))
 }
 
 // How many boxes a list has: a count above its room is the room.

@@ -5,8 +5,8 @@ use Rattle.base.specs.Choose as C
 use Rattle.base.specs.Ask as A
 use Rattle.base.specs.Every as EV
 use Rattle.floats.specs.Numbers as N
-use Rattle.floats.specs.Whole as H
-use Rattle.floats.specs.Root as R
+use Rattle.wholes.specs.Whole as H
+use Rattle.roots.specs.Root as R
 use Rattle.sweeps.specs.Move as M
 use Rattle.boxes.specs.Limits as L
 use Rattle.sweeps.specs.Entry as E

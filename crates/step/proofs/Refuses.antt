@@ -15,7 +15,7 @@ use Rattle.table_check.specs.Check.{tablesFit}
 use Rattle.window.specs.Window.{windowFits, windowRefusal}
 use Rattle.window.specs.Numbers.{withAir}
 use Rattle.lent.specs.Lent.{unless, lentRefusal}
-use Rattle.moves.proofs.Refuses.{Refuses, wider, finds, names, either, after}
+use Rattle.collection.proofs.Refuses.{Refuses, wider, finds, names, either, after}
 use Rattle.bodies.specs.declared.BodyNumbers.{BodyNumbers}
 use Rattle.bodies.specs.declared.Rules.{Rules}
 use Rattle.bodies.specs.declared.MotionNumbers.{MotionNumbers}

@@ -2,5 +2,4 @@
 pub mod Lists
 pub mod Turns
 pub mod Shape
-pub mod Limits
 pub mod Beyond

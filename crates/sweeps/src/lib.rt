@@ -1,17 +1,13 @@
-// The move of a box over a list of boxes: its records. list.rt has the capped list, passes.rt the move, and entry.rt the move that a host calls.
-mod entry;
+// The move of a box over boxes: its records. list.rt has the capped list, and passes.rt what a pass is made of.
 mod list;
 mod passes;
 
-pub use entry::move_over_list;
-pub use entry::refusal_of;
+pub use list::counted;
 pub use passes::axis_of;
 pub use passes::begun;
 pub use passes::clip_along;
-pub use passes::clip_sequence;
 pub use passes::ended;
 pub use passes::gone;
-pub use passes::move_over;
 pub use passes::next;
 pub use passes::wanted;
 use boxes::Aabb;

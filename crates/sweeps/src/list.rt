@@ -27,7 +27,7 @@ fn no_box() -> Aabb
 }
 
 // How many boxes of a list count: a count above the room counts as the room.
-pub(crate) fn counted(count: usize) -> usize
+pub fn counted(count: usize) -> usize
     ensures { λ r. ⌜ r ≡ min count room ⌝ }
 {
     if count < 128 { count } else { 128 }

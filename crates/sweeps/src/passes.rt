@@ -1,18 +1,15 @@
-// The move over a list. All passes of a move stand in one loop of one function: a list goes by value, and each call that takes it
-// may copy it. What a pass is made of is public: the move through a window and the move over lent boxes
-// make their passes where their boxes lie.
+// What a pass of a move is made of. It is public: the moves over a capped list, through a window and over lent boxes make their passes where
+// their boxes lie.
 use boxes::Aabb;
-use crate::BoxList;
 use crate::MoveResult;
 use crate::Request;
 use crate::Sweep;
 use crate::Swept;
 use boxes::Vec3;
-use crate::list::counted;
 ghost use mathlib.Core.Path.{_≡_};
-ghost use Rattle.sweeps.specs.Lists.{listOf};
-ghost use Rattle.sweeps.specs.Move.{flatSquare, longer, stoppedFalling, blockedHorizontally, clipSequence, moveOver};
-ghost use Rattle.sweeps.specs.Passes.{axisOf, clipAlong, wantedOf, goneOf, tries, nextSweep, firstSweep, sweepOf, endOfMove};
+ghost use Rattle.sweeps.specs.Entry.{refusedMove};
+ghost use Rattle.sweeps.specs.Move.{flatSquare, longer, stoppedFalling, blockedHorizontally};
+ghost use Rattle.sweeps.specs.Passes.{axisOf, clipAlong, wantedOf, goneOf, tries, nextSweep, firstSweep, endOfMove};
 
 // The axes in the order of the passes: y, x, z. 0 is x, 1 is y, 2 is z.
 const ORDER: [u32; 3] = [1, 0, 2];
@@ -194,59 +191,19 @@ pub fn ended(q: Request, s: Sweep) -> MoveResult
     }
 }
 
-// All passes of a move over a list. The axis is fixed while the boxes are gone through.
-fn swept_over(list: BoxList, q: Request) -> Sweep
-    ensures { λ r. ⌜ r ≡ sweepOf (listOf list) q ⌝ }
-{
-    let n = counted(list.count);
-    let mut s = begun(q);
-    let mut pass = 0u32;
-    while pass < 7 {
-        let axis = axis_of(pass);
-        let now = s.now;
-        let mover = now.aabb;
-        let mut d = wanted(pass, axis, q, now);
-        let mut i = 0usize;
-        while i < n {
-            let b = list.boxes[i];
-            d = clip_along(axis, b, mover, d);
-            i += 1;
-        }
-        let first = s.first;
-        s = next(pass, q, first, gone(pass, axis, now, d));
-        if s.over {
-            return s;
-        }
-        pass += 1;
-    }
-    s
-}
-
-// The move of a box over a list, for any boxes and any numbers: step is the step height, ground whether the body was on the ground.
-pub fn move_over(list: BoxList, aabb: Aabb, delta: Vec3, step: f64, ground: bool) -> MoveResult
-    ensures { λ r. ⌜ r ≡ moveOver (listOf list) aabb delta step ground ⌝ }
-{
-    let q = Request {
-        aabb,
-        delta,
-        step,
-        ground,
-    };
-    ended(q, swept_over(list, q))
-}
-
-// One attempt: y, then x, then z. It is the move that may not step up.
-pub fn clip_sequence(list: BoxList, aabb: Aabb, delta: Vec3) -> Swept
-    ensures { λ r. ⌜ r ≡ clipSequence (listOf list) aabb delta ⌝ }
-{
-    let s = swept_over(
-        list,
-        Request {
+impl MoveResult {
+    // What a refused move returns: its box, moved zero, ground false.
+    pub fn refused(aabb: Aabb) -> MoveResult
+        ensures { λ r. ⌜ r ≡ refusedMove aabb ⌝ }
+    {
+        MoveResult {
             aabb,
-            delta,
-            step: 0.0,
+            moved: Vec3 {
+                x: 0.0,
+                y: 0.0,
+                z: 0.0,
+            },
             ground: false,
-        },
-    );
-    s.now
+        }
+    }
 }

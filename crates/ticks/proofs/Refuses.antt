@@ -16,10 +16,11 @@ use Rattle.tables.specs.declared.LiquidState.{LiquidState}
 use Rattle.window.specs.declared.Pos.{Pos}
 use Rattle.window.specs.declared.Window.{Window}
 use Rattle.window.specs.Look.{Block, none, some, lookAt}
-use Rattle.moves.proofs.Refuses.{Refuses, FiveOrSix, wider, finds, names, either, after, walks, asks, resumes, look-refuses, move-refuses}
+use Rattle.collection.proofs.Refuses.{Refuses, FiveOrSix, wider, finds, names, either, after, walks, asks, resumes, look-refuses}
+use Rattle.through.proofs.Moved.{move-refuses}
 use Rattle.flow.specs.Liquid.{liquidHeld, stopsFlow, blocksLiquidFlow}
 use Rattle.flow.specs.Flow.{FlowSoFar, difference, walledBy, sideFlow, liquidFlow}
-use Rattle.liquids.specs.Current.{liquidKnown, currentTurn, itemCurrent}
+use Rattle.currents.specs.Current.{liquidKnown, currentTurn, itemCurrent}
 use Rattle.liquids.specs.Flotation.{waterState, itemFlotation}
 use Rattle.liquids.specs.Living.{livingTurn, livingLiquid}
 use Rattle.bodies.specs.declared.Ground.{Ground}

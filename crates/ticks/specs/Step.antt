@@ -17,11 +17,11 @@ use Rattle.tables.specs.declared.LiquidKind.the-variants.{None}
 use Rattle.tables.specs.declared.LiquidState.{LiquidState}
 use Rattle.window.specs.declared.Pos.{Pos}
 use Rattle.window.specs.Look.{Block}
-use Rattle.moves.specs.Answers.{moveAabb}
-use Rattle.liquids.specs.declared.Current.{Current}
+use Rattle.through.specs.Through.{moveAabb}
+use Rattle.currents.specs.declared.Current.{Current}
 use Rattle.boxes.specs.Vectors.{zeroVec}
 use Rattle.flow.specs.Liquid.{liquidHeld}
-use Rattle.liquids.specs.Current.{itemCurrent}
+use Rattle.currents.specs.Current.{itemCurrent}
 use Rattle.ranges.specs.Cells.{cellHolding}
 use Rattle.liquids.specs.Flotation.{itemFlotation}
 use Rattle.liquids.specs.Living.{livingLiquid}

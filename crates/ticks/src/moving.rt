@@ -12,11 +12,11 @@ use crate::Begun;
 use crate::tick_after;
 use crate::tick_to;
 use drags::Support;
-use liquids::AskedCurrent;
+use currents::AskedCurrent;
 use flow::AskedLiquid;
 use liquids::AskedKind;
 use ranges::cell_holding;
-use moves::AskedMove;
+use through::AskedMove;
 use samples::AskedSupport;
 use tables::LiquidKind;
 use window::Window;
@@ -67,7 +67,7 @@ fn move_on(
     ensures { λ r. ⌜ tickAsked r ≡ moveOn (lookAt (now (cells .entry)) w) (now (records .entry)) (now (shapes .entry)) rules body aabb ground flotation liquid v ⌝ }
 {
     let velocity = drags::pulled(body, flotation, v);
-    let told = moves::move_through(records, shapes, cells, w, aabb, velocity, body.step, ground);
+    let told = through::move_through(records, shapes, cells, w, aabb, velocity, body.step, ground);
     match told {
         AskedMove::Refused(n) => AskedTick::Refused(n),
         AskedMove::To(m) => {
@@ -106,7 +106,7 @@ fn item_begins(
         AskedLiquid::Refused(n) => return AskedBegun::Refused(n),
         AskedLiquid::Is(s) => s,
     };
-    let current = match liquids::item_current(records, cells, w, aabb, foot, state) {
+    let current = match currents::item_current(records, cells, w, aabb, foot, state) {
         AskedCurrent::Refused(n) => return AskedBegun::Refused(n),
         AskedCurrent::Is(c) => c,
     };

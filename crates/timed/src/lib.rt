@@ -1,14 +1,14 @@
 // What bench/ times of collection: the move through a window as a step makes it, of which one number is handed back.
 use boxes::Aabb;
 use boxes::Vec3;
-use moves::AskedMove;
+use through::AskedMove;
 ghost use mathlib.Core.Path.{_≡_};
 ghost use mathlib.Core.Bool.{not};
 ghost use lib.Dec.{eqb};
 ghost use Rattle.boxes.specs.Boxes.{vec};
 ghost use Rattle.window.specs.Look.{lookAt};
 ghost use Rattle.window.specs.Numbers.{windowOf};
-ghost use Rattle.moves.specs.Answers.{moveAabb};
+ghost use Rattle.through.specs.Through.{moveAabb};
 ghost use Rattle.timed.specs.Ways.{boxBetween, alongOf, wayOf};
 
 fn along(v: Vec3, k: u32) -> f64
@@ -59,7 +59,7 @@ pub extern "C" fn boltjuniper_way(
         max: Vec3 { x: x1, y: y1, z: z1 },
     };
     let d = Vec3 { x: dx, y: dy, z: dz };
-    let told = moves::move_through(records, shapes, cells, w, a, d, step, ground != 0);
+    let told = through::move_through(records, shapes, cells, w, a, d, step, ground != 0);
     match told {
         AskedMove::Refused(_) => 0.0,
         AskedMove::To(m) => {

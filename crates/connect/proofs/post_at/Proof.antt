@@ -1,5 +1,6 @@
 -- `connect::post_at` meets its contract. Assumes nothing.
-use Rattle.connect.specs.Connect.{post, raisedBy}
+use Rattle.joining.specs.Joining.{raisedBy}
+use Rattle.connect.specs.Connect.{post}
 use Rattle.base.specs.Choose.{choose}
 use borrow.Author.Needs.{needs}
 use Rattle.connect.proofs.post_at.Statement.{statement}

@@ -36,8 +36,8 @@ enum-known-n-2 c = search needs
 enum-known-c : tie.Need-enum-known-c
 enum-known-c c = search needs
 
-put-current-requires : tie.Need-put-current-requires
-put-current-requires c κs = search needs
+put-flagged-requires : tie.Need-put-flagged-requires
+put-flagged-requires c κs = search needs
 
 returns-2 : tie.Need-returns-2
 unfolding currentAt
@@ -55,14 +55,14 @@ same-length c = search needs
 returns-3 : tie.Need-returns-3
 unfolding currentAt
 returns-3 c =
-    let at-put-current = c .before .before in
-    let at-c = at-put-current .before .before .before in
+    let at-put-flagged = c .before .before in
+    let at-c = at-put-flagged .before .before .before in
     let at-item-current = at-c .before .before in
     let at-from-feet = at-item-current .before in
     let at-s = at-from-feet .before .before in
     let at-liquid-at = at-s .before .before in
     let at-cell-holding = at-liquid-at .before in
-    rw (← at-cell-holding .cell-holding .ensures, ← at-liquid-at .liquid-at .ensures, at-s .s .given .1, ← at-from-feet .from-feet .ensures, ← at-item-current .item-current .ensures, at-c .c .given .1, at-put-current .put-current .ensures) (refl, refl)
+    rw (← at-cell-holding .cell-holding .ensures, ← at-liquid-at .liquid-at .ensures, at-s .s .given .1, ← at-from-feet .from-feet .ensures, ← at-item-current .item-current .ensures, at-c .c .given .1, at-put-flagged .put-flagged .ensures) (refl, refl)
 
 pub current-into-spec : {M : Type 1} → statement M
 current-into-spec =
@@ -77,7 +77,7 @@ current-into-spec =
     item-current-requires
     enum-known-n-2
     enum-known-c
-    put-current-requires
+    put-flagged-requires
     returns-2
     same-length
     returns-3)

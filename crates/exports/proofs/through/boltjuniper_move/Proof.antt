@@ -15,11 +15,8 @@ window-of-requires c κs = search needs
 whole-move-requires : tie.Need-whole-move-requires
 whole-move-requires c κs = search needs
 
-first-box-requires : tie.Need-first-box-requires
-first-box-requires c κs = search needs
-
-vec-from-requires : tie.Need-vec-from-requires
-vec-from-requires c κs = search needs
+request-of-requires : tie.Need-request-of-requires
+request-of-requires c κs = search needs
 
 move-window-requires : tie.Need-move-window-requires
 move-window-requires c κs = search needs
@@ -32,10 +29,15 @@ same-length c = search needs
 
 returns : tie.Need-returns
 returns c =
-    let s = c .before .before .before .before .before .before .before .before .before .before .before .before .before .before .before in
+    let asked = c .before .before .before .before in
+    let wanted = asked .before in
+    let tested = wanted .before in
+    let whole-at = tested .before in
+    let window-at = whole-at .before in
+    let s = window-at .before .before .before .before .before .before in
     let a = s .args in
-    let whole = sym (c .before .before .before .before .before .before .before .before .whole-move .ensures) ∙ c .before .before .before .before .before .before .before .if1 .taken in
-    rw (c .before .before .before .before .move-window .ensures, c .before .before .before .before .before .before .before .before .before .window-of .ensures, c .before .before .before .before .before .before .first-box .ensures, c .before .before .before .before .before .vec-from .ensures, toZ-ofZ w32 (s .args .ox) (s .fits .ox), toZ-ofZ w32 (s .args .oy) (s .fits .oy), toZ-ofZ w32 (s .args .oz) (s .fits .oz), toZ-ofZ w32 (s .args .lowest) (s .fits .lowest), toZ-ofZ w32 (s .args .highest) (s .fits .highest), move-whole (a .records .now) (a .shapes .now) (a .cells .now) (windowOf (a .ox) (a .oy) (a .oz) (a .sx) (a .sy) (a .sz) (a .lowest) (a .highest) (a .air)) (a .mover .now) (a .step) (a .ground) (length (a .out .now)) whole) at (c .before .before .move-into .ensures)
+    let whole = sym (whole-at .whole-move .ensures) ∙ tested .if1 .taken in
+    rw (asked .move-window .ensures, window-at .window-of .ensures, wanted .request-of .ensures, toZ-ofZ w32 (s .args .ox) (s .fits .ox), toZ-ofZ w32 (s .args .oy) (s .fits .oy), toZ-ofZ w32 (s .args .oz) (s .fits .oz), toZ-ofZ w32 (s .args .lowest) (s .fits .lowest), toZ-ofZ w32 (s .args .highest) (s .fits .highest), move-whole (a .records .now) (a .shapes .now) (a .cells .now) (windowOf (a .ox) (a .oy) (a .oz) (a .sx) (a .sy) (a .sz) (a .lowest) (a .highest) (a .air)) (a .mover .now) (a .step) (a .ground) (length (a .out .now)) whole) at (c .before .before .move-into .ensures)
 
 check-direct-requires : tie.Need-check-direct-requires
 check-direct-requires c κs = search needs
@@ -59,8 +61,7 @@ boltjuniper-move-spec =
     (tie.spec
     window-of-requires
     whole-move-requires
-    first-box-requires
-    vec-from-requires
+    request-of-requires
     move-window-requires
     move-into-requires
     same-length

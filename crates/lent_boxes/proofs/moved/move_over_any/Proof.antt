@@ -2,7 +2,7 @@
 use mathlib.Core.Path.{refl}
 use borrow.Author.Tests.{lt-ltb, le-ltb}
 use Rattle.base.specs.Choose.{choose}
-use Rattle.lent_boxes.specs.Boxes.{writtenBy}
+use Rattle.lent_numbers.specs.Written.{writtenBy}
 use Rattle.lent_boxes.specs.Moves.{moveAnyOf}
 use Rattle.lent_boxes.proofs.Answers.{goes}
 use borrow.Author.Needs.{needs}

@@ -1,5 +1,5 @@
 -- `liquids::flotation::surface_at` meets its contract. Assumes nothing.
-use Rattle.liquids.proofs.Cells.{read}
+use Rattle.currents.proofs.Cells.{read}
 use Rattle.liquids.specs.Flotation.{surfaceAt}
 use borrow.Author.Needs.{needs}
 use Rattle.liquids.proofs.flotation.surface_at.Statement.{statement}

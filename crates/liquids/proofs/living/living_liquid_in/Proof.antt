@@ -1,5 +1,5 @@
 -- `liquids::living::living_liquid_in` meets its contract. Assumes nothing.
-use Rattle.liquids.proofs.Walking.{Walked, walked-start, walked-end, walked-stop, walked-done, walked-next, walked-less}
+use Rattle.ranges.proofs.Walking.{Walked, walked-start, walked-end, walked-stop, walked-done, walked-next, walked-less}
 use Rattle.ranges.proofs.Walks.{left}
 use Rattle.window.specs.Look.{lookAt}
 use mathlib.Core.Path.{ap}

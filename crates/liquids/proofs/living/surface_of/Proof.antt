@@ -1,5 +1,5 @@
 -- `liquids::living::surface_of` meets its contract. Assumes nothing.
-use Rattle.liquids.proofs.Cells.{read}
+use Rattle.currents.proofs.Cells.{read}
 use Rattle.liquids.specs.Living.{surfaceOf}
 use Rattle.base.specs.Choose.{choose}
 use borrow.Author.Tests.{le-leb, lt-leb}

@@ -1,0 +1,17 @@
+-- What the answers of collection say.
+use mathlib.Core.Bool.{Bool}
+use mathlib.Core.List.{List, []}
+use Rattle.base.specs.Ask.{Ask, refused, found}
+use Rattle.boxes.specs.declared.Aabb.{Aabb}
+use Rattle.sweeps.specs.Lists.{Held, held}
+use Rattle.collection.specs.declared.AskedHit.{AskedHit}
+use Rattle.collection.specs.declared.AskedHit.the-variants.{Is, Refused}
+
+-- a refused collection is an empty list
+abbrev pub heldAsked : Ask (List Aabb) → Held
+heldAsked (refused n) = held n []
+heldAsked (found bs) = held 0 bs
+
+abbrev pub hitAsked : AskedHit → Ask Bool
+hitAsked (Is b) = found b
+hitAsked (Refused n) = refused n

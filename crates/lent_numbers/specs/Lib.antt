@@ -1,0 +1,2 @@
+-- The definitions of what is written into lent numbers.
+pub mod Written

@@ -1,0 +1,2 @@
+-- A law of the loop that checks a list.
+pub mod Limits

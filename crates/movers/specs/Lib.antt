@@ -1,0 +1,2 @@
+-- The definitions of what moves, in lent numbers.
+pub mod Movers

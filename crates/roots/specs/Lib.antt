@@ -1,0 +1,3 @@
+-- The definitions of module 1: the square root.
+pub mod Root
+pub mod Steps

@@ -1,0 +1,2 @@
+-- The definition of module 6: the move through a window.
+pub mod Through

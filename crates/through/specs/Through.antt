@@ -1,0 +1,24 @@
+-- The move through a window, as the Rust's move_aabb: the swept area, collection, the move over what was collected.
+use mathlib.Core.Bool.{Bool}
+use mathlib.Core.List.{List}
+use Prim.Native.Nat.{ℕ}
+use lib.Ieee.{Float}
+use Rattle.base.specs.Ask.{Ask, refused, found, _>>=_}
+use Rattle.boxes.specs.declared.Vec3.{Vec3}
+use Rattle.boxes.specs.declared.Aabb.{Aabb}
+use Rattle.sweeps.specs.declared.MoveResult.{MoveResult}
+use Rattle.sweeps.specs.Move.{moveOver}
+use Rattle.window.specs.declared.Pos.{Pos}
+use Rattle.window.specs.Look.{Block}
+use Rattle.collection.specs.Collect.{sweptArea, collectBlockBoxes}
+use Rattle.through.specs.declared.AskedMove.{AskedMove}
+use Rattle.through.specs.declared.AskedMove.the-variants.{To, Refused}
+
+unfoldable pub moveAabb : (Pos → Ask Block) → List ℕ → List Float → Aabb → Vec3 → Float → Bool → Ask MoveResult
+moveAabb look records shapes aabb delta stepHeight wasOnGround = do
+  boxes ← collectBlockBoxes look records shapes (sweptArea aabb delta stepHeight)
+  found (moveOver boxes aabb delta stepHeight wasOnGround)
+
+abbrev pub movedAsked : AskedMove → Ask MoveResult
+movedAsked (To m) = found m
+movedAsked (Refused n) = refused n

@@ -1,0 +1,81 @@
+// Module 6: the move of a box through the blocks of a window.
+use boxes::Aabb;
+use boxes::Vec3;
+use ranges::At;
+use solids::AskedShape;
+use sweeps::BoxList;
+use sweeps::MoveResult;
+use sweeps::Request;
+use window::Window;
+ghost use mathlib.Core.Path.{_≡_};
+ghost use Rattle.window.specs.Look.{lookAt};
+ghost use Rattle.through.specs.Through.{movedAsked, moveAabb};
+
+// A move, or the number of a refusal.
+pub enum AskedMove {
+    To(MoveResult),
+    Refused(u32),
+}
+
+// Collection and passes stand in one function, so that the list is read where it was built: handed on by value, it would be copied.
+fn swept_through(records: &[u32], shapes: &[f32], cells: &[u32], w: Window, q: Request) -> AskedMove
+    ensures { λ r. ⌜ movedAsked r ≡ moveAabb (lookAt (now (cells .entry)) w) (now (records .entry)) (now (shapes .entry)) (q .aabb) (q .delta) (q .step) (q .ground) ⌝ }
+{
+    let area = collection::swept_area(q.aabb, q.delta, q.step);
+    let r = collection::range_of(area);
+    let mut list = BoxList::new();
+    for y in 0..r.y.count {
+        for x in 0..r.x.count {
+            for z in 0..r.z.count {
+                let p = ranges::place(r, At { x, y, z });
+                let part = match solids::part_at(records, cells, w, p) {
+                    AskedShape::Refused(n) => return AskedMove::Refused(n),
+                    AskedShape::Is(s) => s,
+                };
+                let shape = tables::boxes_at(shapes, part.first, part.count);
+                let n = solids::count_of(part.cube, part.count, shape);
+                for k in 0..n {
+                    let b = solids::nth_aabb(part.cube, shape, p, k);
+                    if b.intersects(area) {
+                        let i = list.count;
+                        if i >= 128 {
+                            return AskedMove::Refused(6);
+                        }
+                        list.boxes[i] = b;
+                        list.count = i + 1;
+                    }
+                }
+            }
+        }
+    }
+    let mut s = sweeps::begun(q);
+    for pass in 0..7u32 {
+        let axis = sweeps::axis_of(pass);
+        let now = s.now;
+        let mover = now.aabb;
+        let mut d = sweeps::wanted(pass, axis, q, now);
+        for i in 0..list.count {
+            let b = list.boxes[i];
+            d = sweeps::clip_along(axis, b, mover, d);
+        }
+        let first = s.first;
+        s = sweeps::next(pass, q, first, sweeps::gone(pass, axis, now, d));
+        if s.over {
+            return AskedMove::To(sweeps::ended(q, s));
+        }
+    }
+    AskedMove::To(sweeps::ended(q, s))
+}
+
+// The move: step is the step height, ground whether the body was on the ground. It refuses 5 and 6 alone.
+pub fn move_through(records: &[u32], shapes: &[f32], cells: &[u32], w: Window, aabb: Aabb, delta: Vec3, step: f64, ground: bool) -> AskedMove
+    ensures { λ r. ⌜ movedAsked r ≡ moveAabb (lookAt (now (cells .entry)) w) (now (records .entry)) (now (shapes .entry)) aabb delta step ground ⌝ }
+{
+    let q = Request {
+        aabb,
+        delta,
+        step,
+        ground,
+    };
+    swept_through(records, shapes, cells, w, q)
+}

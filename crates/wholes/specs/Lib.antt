@@ -1,0 +1,2 @@
+-- The definitions of module 1: whole numbers.
+pub mod Whole
