@@ -66,6 +66,15 @@ uint32_t boltjuniper_step_checked(const uint32_t *records, size_t records_len, c
                                   int32_t lowest, int32_t highest, const double *numbers, size_t numbers_len, const uint32_t *words,
                                   size_t words_len, uint64_t age, double *out, size_t out_len);
 
+/* One tick of a body with its fall record: takes what boltjuniper_step does, and of the record the falling sum and the landed number, both 0 in a
+   fresh one. Writes ten numbers to `out`: the eight of boltjuniper_step, then the record after the tick, sum and landed. Returns what
+   boltjuniper_step does; 3 also for a sum or a landed number that is negative, not finite or above 2^30. A refusal writes nothing, so the record
+   that you handed in is still yours as it is. */
+uint32_t boltjuniper_step_falling(const uint32_t *records, size_t records_len, const float *shapes, size_t shapes_len, const uint32_t *cells,
+                                  size_t cells_len, int32_t ox, int32_t oy, int32_t oz, uint32_t sx, uint32_t sy, uint32_t sz,
+                                  int32_t lowest, int32_t highest, const double *numbers, size_t numbers_len, const uint32_t *words,
+                                  size_t words_len, uint64_t age, double sum, double landed, double *out, size_t out_len);
+
 /* One tick of the scene in `file` (blocks of 512 bytes, as onetick reads them; no alignment is asked for). Writes the same eight numbers to `out`.
    Returns 0; or 8 where the file is no scene, 1, 2, 3, 4, 11, then 5, 6 or 7 at the first such event, then 9. It keeps three arrays of 15,744
    words of the file on the stack, some 190 KB: call it from a thread that has them. */

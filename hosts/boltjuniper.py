@@ -4,6 +4,7 @@
     tables = b.Tables(records, shapes)                          # 20 words to a state, six numbers to a box
     window = b.Window(cells, (0, -1, 0), (2, 4, 2), -64, 319)   # its cells and columns, origin and sizes, the world's lowest and highest y
     b.step(tables, window, b.Body(numbers, words, age))         # Tick(feet=.., velocity=.., ground=True, liquid='none'), or raises Refused
+    b.step_falling(tables, window, body, b.Fall())              # the Tick, and the fall record after it
     b.steps(tables, window, bodies)                             # a list: for each body its Tick, or its Refused as a value
 
 An array of the type that is asked for (numpy's uint32, float32 and float64; array.array's I, f and d) is lent as it is, without a copy, and is only
@@ -22,7 +23,8 @@ SENTENCES = {
     2: "The window or the world's heights break a limit, the lowest cell is over the highest, a column's word is above 1, or cells and columns are not "
        "as many as the sizes say.",
     3: "A number of the body or of the rules is not finite or beyond its limit, an enum number is unknown, a yes or no is above 1, or the air state "
-       "has no registered record. In a direct call also: not 19 numbers and 6 words.",
+       "has no registered record. In a direct call also: not 19 numbers and 6 words, or a number of a fall record that is negative, not finite or "
+       "above 2^30.",
     4: "A position or velocity (in direct calls also a box or a delta) is not finite or beyond its limit. In a direct call also: not nine "
        "numbers to a mover, or boxes that are not six numbers each.",
     5: "The rules ask for a cell that the window does not hold.",
@@ -89,6 +91,12 @@ class Tick(NamedTuple):
     liquid: str
 
 
+class Fall(NamedTuple):
+    """A fall record: how far a body has fallen since the last reset, and how far it fell to its last landing. Fall() is a fresh one."""
+    sum: float = 0.0
+    landed: float = 0.0
+
+
 class Moved(NamedTuple):
     """The box after a move, the way that it went, and whether it came to stand on the ground."""
     aabb: tuple
@@ -105,6 +113,7 @@ DECLARED = {
     "check_tables": TABLES,
     "step": TABLES + WINDOW + BODY + SLICE,
     "step_checked": TABLES + WINDOW + BODY + SLICE,
+    "step_falling": TABLES + WINDOW + BODY + [ctypes.c_double] * 2 + SLICE,
     "move": TABLES + WINDOW + AIR + SLICE + STEP + SLICE,
     "move_over_list": SLICE * 2 + STEP + SLICE,
     "collected": TABLES + WINDOW + AIR + SLICE + STEP + SLICE,
@@ -199,6 +208,10 @@ class _Lent:
         self.arguments += _whole([body.age], 0, 2**64)
         return self
 
+    def fall(self, fall):
+        self.arguments += [fall.sum, fall.landed]
+        return self
+
     def swept(self, mover):
         self.slice("mover", [*mover.aabb, *mover.delta], "d")
         self.arguments.append(mover.step)
@@ -228,6 +241,10 @@ def _tick(out):
     return out if isinstance(out, Refused) else Tick(tuple(out[:3]), tuple(out[3:6]), out[6] != 0, ("none", "water", "lava")[int(out[7])])
 
 
+def _fallen(out):
+    return out if isinstance(out, Refused) else (_tick(out[:8]), Fall(*out[8:]))
+
+
 def _moved(out):
     return out if isinstance(out, Refused) else Moved(tuple(out[:6]), tuple(out[6:9]), out[9] != 0)
 
@@ -253,6 +270,11 @@ def step(tables, window, body):
 def step_checked(tables, window, body):
     """The same for tables and a window that were checked before: it looks for neither 1 nor 2, and is as safe."""
     return _judged(_tick(_Lent().tables(tables).window(window).body(body).answer("step_checked", 8)))
+
+
+def step_falling(tables, window, body, fall=Fall()):
+    """One tick of a body with its fall record: the Tick, and the record after it. Where it is refused, the record that was handed in still holds."""
+    return _judged(_fallen(_Lent().tables(tables).window(window).body(body).fall(fall).answer("step_falling", 10)))
 
 
 def tick(file):

@@ -15,6 +15,11 @@ mod linked {
             oz: i32, sx: u32, sy: u32, sz: u32, lowest: i32, highest: i32, numbers: *const f64, numbers_len: usize, words: *const u32,
             words_len: usize, age: u64, out: *mut f64, out_len: usize,
         ) -> u32;
+        pub fn boltjuniper_step_falling(
+            records: *const u32, records_len: usize, shapes: *const f32, shapes_len: usize, cells: *const u32, cells_len: usize, ox: i32, oy: i32,
+            oz: i32, sx: u32, sy: u32, sz: u32, lowest: i32, highest: i32, numbers: *const f64, numbers_len: usize, words: *const u32,
+            words_len: usize, age: u64, sum: f64, landed: f64, out: *mut f64, out_len: usize,
+        ) -> u32;
         pub fn boltjuniper_tick(file: *const u8, file_len: usize, out: *mut f64, out_len: usize) -> u32;
         pub fn boltjuniper_move(
             records: *const u32, records_len: usize, shapes: *const f32, shapes_len: usize, cells: *const u32, cells_len: usize, ox: i32, oy: i32,
@@ -69,6 +74,13 @@ pub struct Tick {
     pub velocity: [f64; 3],
     pub ground: bool,
     pub liquid: Liquid,
+}
+
+/// A fall record: how far a body has fallen since the last reset, and how far it fell to its last landing. The default is a fresh one.
+#[derive(Clone, Copy, Debug, Default, PartialEq)]
+pub struct Fall {
+    pub sum: f64,
+    pub landed: f64,
 }
 
 /// A box, min x y z and max x y z, with its delta, the step height, and whether the body was on the ground.
@@ -138,6 +150,20 @@ pub fn step_checked(t: Tables, w: Window, b: &Body) -> Result<Tick, Refusal> {
         )
     };
     ticked(refusal, out)
+}
+
+/// One tick of a body with its fall record, and the record after it. Where it is refused, the record that was handed in stays as it is.
+pub fn step_falling(t: Tables, w: Window, b: &Body, fall: Fall) -> Result<(Tick, Fall), Refusal> {
+    let ([ox, oy, oz], [sx, sy, sz], mut out) = (w.origin, w.sizes, [0.0; 10]);
+    let refusal = unsafe {
+        linked::boltjuniper_step_falling(
+            t.records.as_ptr(), t.records.len(), t.shapes.as_ptr(), t.shapes.len(), w.cells.as_ptr(), w.cells.len(), ox, oy, oz, sx, sy, sz,
+            w.lowest, w.highest, b.numbers.as_ptr(), b.numbers.len(), b.words.as_ptr(), b.words.len(), b.age, fall.sum, fall.landed,
+            out.as_mut_ptr(), out.len(),
+        )
+    };
+    let [a, b, c, x, y, z, ground, liquid, sum, landed] = out;
+    ticked(refusal, [a, b, c, x, y, z, ground, liquid]).map(|tick| (tick, Fall { sum, landed }))
 }
 
 /// The tick of a scene file. It keeps some 190 KB of the file on the stack: call it from a thread that has them.

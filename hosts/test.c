@@ -16,7 +16,8 @@ static size_t block;
 struct count { const char *what; int agree, differ; };
 static struct count ticks = {"tick", 0, 0}, steps = {"step", 0, 0}, checked = {"step_checked", 0, 0}, tables = {"check_tables", 0, 0},
                     moves = {"move", 0, 0}, lists = {"move_over_list", 0, 0}, collects = {"collected", 0, 0},
-                    lengths = {"lengths, ground and room", 0, 0}, windows = {"heights, columns and air", 0, 0};
+                    lengths = {"lengths, ground and room", 0, 0}, windows = {"heights, columns and air", 0, 0},
+                    falling = {"step_falling", 0, 0}, records_kept = {"fall records", 0, 0};
 
 static void add(struct count *c, const char *ours, const char *theirs) {
     if (strcmp(ours, theirs) == 0) {
@@ -110,6 +111,20 @@ static void step(struct count *c, step_function *f, const char *theirs) {
     add(c, ours, theirs);
 }
 
+/* The scene's step with a fresh fall record: the same tick, or what the record is after it. A refusal writes nothing. */
+static void step_with_fall(struct count *c, int record, const char *theirs) {
+    double numbers[19], out[10] = {-1, -1, -1, -1, -1, -1, -1, -1, -1, -1};
+    uint64_t age;
+    char ours[512];
+    memcpy(numbers, body, sizeof numbers);
+    memcpy(&age, body + 38, 8);
+    uint32_t refusal = boltjuniper_step_falling(records, 20 * (size_t)body[46], shapes, 6 * (size_t)body[47], WINDOW, numbers, 19, body + 40, 6, age,
+                                                0, 0, out, 10);
+    if (record) put(ours, "fall", out + 8, 2);
+    else tick_text(ours, refusal, out);
+    add(c, ours, theirs);
+}
+
 static void tick(size_t bytes, size_t room, struct count *c, const char *theirs) {
     double out[8] = {-1, -1, -1, -1, -1, -1, -1, -1};
     char ours[512];
@@ -131,6 +146,7 @@ static void one_scene(char *theirs) {
     int bad = !strcmp(theirs, "refused 1"), early = bad || !strcmp(theirs, "refused 2");
     size_t n = 20 * (size_t)body[46], m = 6 * (size_t)body[47];
     step(&steps, boltjuniper_step, theirs);
+    step_with_fall(&falling, 0, theirs);
     if (!early) step(&checked, boltjuniper_step_checked, theirs);
     sprintf(ours, "%" PRIu32, boltjuniper_check_tables(records, n, shapes, m));
     add(&tables, ours, bad ? "1" : "0");
@@ -138,6 +154,15 @@ static void one_scene(char *theirs) {
     double mover[9] = {0}, out[10];
     sprintf(ours, "refused %" PRIu32, boltjuniper_move(records, n, shapes, m, WINDOW, body[45], mover, 9, 5, 0, out, 10));
     add(&moves, ours, early ? theirs : "refused 3");
+}
+
+/* after NUMBER fall SUM LANDED */
+static void one_record(const char *stored) {
+    char path[64];
+    snprintf(path, sizeof path, "crates/replay/data/%.4s.scn", stored + 6);
+    read_file(path);
+    parts();
+    step_with_fall(&records_kept, 1, stored + 11);
 }
 
 /* movelist box6 delta3 step ground n box6*n => answer */
@@ -295,6 +320,33 @@ static void beyond(double y) {
     add(&windows, ours, halted);
 }
 
+/* Case A's step with a record: what is refused, and what the record is after a landing and after a fall through the sky. */
+static void a_record(uint32_t theirs, double sum, double landed, double gravity, size_t numbers_len, size_t state_words, size_t room) {
+    double numbers[19] = {0.5, 1.25, 0.5, 0.25, 0, 0, 1, 1, 0, gravity, 0.5, 0.5}, out[10] = {-1, -1, -1, -1, -1, -1, -1, -1, -1, -1};
+    static const uint32_t words[6] = {0, 3};
+    refuses(&falling, boltjuniper_step_falling(states, state_words, cube, 6, CASE_A, numbers, numbers_len, words, 6, 0, sum, landed, out, room), theirs,
+            out);
+}
+
+static void a_fall(double y, double sum, double landed, double sum_after, double landed_after) {
+    double numbers[19] = {0.5, y, 0.5, 0.25, 0, 0, 1, 1, 0, 0.5, 0.5, 0.5}, out[10], theirs[2] = {sum_after, landed_after};
+    static const uint32_t words[6] = {0, 3};
+    char a[64], b[64];
+    if (boltjuniper_step_falling(states, 40, cube, 6, CASE_A, numbers, 19, words, 6, 0, sum, landed, out, 10)) out[8] = out[9] = -1;
+    put(a, "fall", out + 8, 2), put(b, "fall", theirs, 2);
+    add(&records_kept, a, b);
+}
+
+static void all_records(void) {
+    const double most = 1073741824, more = nextafter(most, INFINITY);
+    a_record(0, most, most, 0.5, 19, 40, 10), a_record(0, -0.0, -0.0, 0.5, 19, 40, 10);
+    a_record(3, more, 0, 0.5, 19, 40, 10), a_record(3, 0, more, 0.5, 19, 40, 10), a_record(3, -4.9e-324, 0, 0.5, 19, 40, 10);
+    a_record(3, NAN, 0, 0.5, 19, 40, 10), a_record(3, 0, INFINITY, 0.5, 19, 40, 10), a_record(3, 0, -1, 0.5, 18, 40, 0);
+    a_record(11, 0, 0, 0.5, 19, 40, 9), a_record(3, -1, 0, 0.5, 19, 40, 9), a_record(3, 0, 0, 17, 19, 40, 9), a_record(1, -1, 0, 0.5, 18, 39, 0);
+    a_fall(1.25, 2, 9, 0, 2.25), a_fall(1.25, most, 0, 0, most); /* a drop of 0.25 to the ground */
+    a_fall(400.25, 1.5, 9, 2, 9), a_fall(400.25, most, 9, most, 9), a_fall(400.25, 0, 0, 0.5, 0); /* a drop of 0.5 in the sky */
+}
+
 int main(void) {
     FILE *f = fopen("crates/replay/stdout", "r");
     if (!f) return 2;
@@ -302,6 +354,7 @@ int main(void) {
         line[strcspn(line, "\n")] = 0;
         if (line[0] >= '0' && line[0] <= '9') one_scene(line);
         if (!strncmp(line, "movelist ", 9)) one_list(line);
+        if (!strncmp(line, "after ", 6)) one_record(line);
     }
     fclose(f);
     case_a();
@@ -310,7 +363,8 @@ int main(void) {
     all_windows();
     beyond(400.25);
     beyond(-100.75);
-    const struct count *all[] = {&ticks, &steps, &checked, &tables, &moves, &lists, &collects, &lengths, &windows};
+    all_records();
+    const struct count *all[] = {&ticks, &steps, &checked, &tables, &moves, &lists, &collects, &lengths, &windows, &falling, &records_kept};
     int bad = 0;
     for (size_t k = 0; k < sizeof all / sizeof *all; k++) bad |= tell(all[k]);
     return bad;

@@ -74,7 +74,7 @@ def as_numpy(a):
 
 COUNTS = {name: Count(name) for name in ("tick", "ticks", "step", "step_checked", "steps", "check_tables", "move", "move_over_list", "collected",
                                          "move over what it collects", "step of numpy's arrays", "heights, columns and air", "two ticks at a door",
-                                         "arrays as they are")}
+                                         "arrays as they are", "step_falling", "fall records")}
 
 
 def one_scene(name, theirs):
@@ -87,6 +87,8 @@ def one_scene(name, theirs):
     scene = scenefile.unpacked(data)
     tables, window, body = parts(scene)
     COUNTS["step"].add(name, tick_text(asked(b.step, tables, window, body)), theirs)
+    fallen = asked(b.step_falling, tables, window, body)
+    COUNTS["step_falling"].add(name, tick_text(fallen if isinstance(fallen, b.Refused) else fallen[0]), theirs)
     COUNTS["steps"].add(name, [tick_text(t) for t in b.steps(tables, window, [body] * 3)], [theirs] * 3)
     COUNTS["check_tables"].add(name, asked(b.check_tables, tables), b.Refused(1) if theirs == "refused 1" else None)
     early = theirs in ("refused 1", "refused 2")
@@ -120,6 +122,13 @@ def one_list(call, theirs):
     numbers = [number(w) for w in words[:10] + words[12:]]
     mover = b.Mover(tuple(numbers[:6]), tuple(numbers[6:9]), numbers[9], int(words[10]))
     COUNTS["move_over_list"].add(call, move_text(mover, asked(b.move_over_list, numbers[10:], mover)), theirs)
+
+
+def one_record(name, theirs):
+    """after NUMBER fall SUM LANDED: the record after the scene's tick, from a fresh one"""
+    with open("crates/replay/data/%s.scn" % name, "rb") as f:
+        _, record = b.step_falling(*parts(scenefile.unpacked(f.read())))
+    COUNTS["fall records"].add(name, "fall" + bits(record), theirs)
 
 
 def example(name):
@@ -186,6 +195,23 @@ def windows():
             count.add("a height beyond a word", "ValueError", "ValueError")
 
 
+def records():
+    """Case A's step with a record: what is refused, and what the record is after a landing and after a fall through the sky."""
+    count, most, nan, inf = COUNTS["fall records"], 2.0**30, float("nan"), float("inf")
+    tables, window, body = parts(example("case-a"))
+    window = window._replace(lowest=-64, highest=319)
+    sky = body._replace(numbers=[0.5, 400.25, *body.numbers[2:]])
+    for bad in number("41d0000000000001"), -5e-324, -1.0, nan, inf, -inf:
+        for fall in b.Fall(bad), b.Fall(0.0, bad):
+            count.add("a 3", asked(b.step_falling, tables, window, body, fall), b.Refused(3))
+            count.add("before 4", asked(b.step_falling, tables, window, body._replace(numbers=[nan, *body.numbers[1:]]), fall), b.Refused(3))
+            count.add("after 1", asked(b.step_falling, b.Tables([], []), window, body, fall), b.Refused(1))
+    for what, given, fall, after in (("landed", body, (2.0, 9.0), (0.0, 2.25)), ("landed, at the cap", body, (most, 0.0), (0.0, most)),
+                                     ("fell", sky, (1.5, 9.0), (2.0, 9.0)), ("fell, at the cap", sky, (most, 9.0), (most, 9.0)),
+                                     ("negative zeros", sky, (-0.0, -0.0), (0.5, -0.0))):
+        count.add(what, bits(b.step_falling(tables, window, given, b.Fall(*fall))[1]), bits(after))
+
+
 def doors():
     """What docs/MODERATORS.md says of two ticks at a door: the first ends one rounding inside it, the second behind it."""
     first, second = example("door-1"), example("door-2")
@@ -229,8 +255,11 @@ def main():
                 one_scene(*line.split(" ", 1))
             elif line.startswith("movelist "):
                 one_list(*line.split("=> ", 1))
+            elif line.startswith("after "):
+                one_record(*line[6:].split(" ", 1))
     case_a()
     windows()
+    records()
     doors()
     arrays()
     if not numpy:

@@ -74,6 +74,44 @@ impl Count {
     }
 }
 
+fn fall_text(a: Result<(Tick, Fall), Refusal>) -> String {
+    a.map_or_else(|n| format!("refused {n}"), |(_, f)| format!("fall{}", bits(&[f.sum, f.landed])))
+}
+
+// Case A's step with a record: what is refused, and what the record is after a landing and after a fall through the sky.
+fn fall_records(falls: &mut Count) {
+    let mut records = [0; 40];
+    (records[0], records[20], records[28], records[39]) = (1, 3, 1, 15);
+    let t = Tables { records: &records, shapes: &[0.0, 0.0, 0.0, 1.0, 1.0, 1.0] };
+    let cells: [u32; 20] = std::array::from_fn(|k| !(8..16).contains(&k) as u32);
+    let w = Window { cells: &cells, origin: [0, -1, 0], sizes: [2, 4, 2], lowest: -64, highest: 319 };
+    let mut after = |y: f64, gravity: f64, sum: f64, landed: f64, theirs: Result<(f64, f64), Refusal>| {
+        let mut numbers = [0.0; 19];
+        numbers[..12].copy_from_slice(&[0.5, y, 0.5, 0.25, 0.0, 0.0, 1.0, 1.0, 0.0, gravity, 0.5, 0.5]);
+        let body = Body { numbers, words: [0, 3, 0, 0, 0, 0], age: 0 };
+        let theirs = theirs.map_or_else(|n| format!("refused {n}"), |(s, l)| format!("fall{}", bits(&[s, l])));
+        falls.add("fall record", &fall_text(step_falling(t, w, &body, Fall { sum, landed })), &theirs);
+    };
+    let most = 1_073_741_824.0_f64;
+    let more = f64::from_bits(most.to_bits() + 1);
+    for bad in [more, -5e-324, -1.0, f64::NAN, f64::INFINITY, f64::NEG_INFINITY] {
+        after(1.25, 0.5, bad, 0.0, Err(3));
+        after(1.25, 0.5, 0.0, bad, Err(3));
+        after(f64::NAN, 0.5, bad, 0.0, Err(3));
+    }
+    after(f64::NAN, 0.5, 0.0, 0.0, Err(4));
+    after(1.25, 17.0, 0.0, 0.0, Err(3));
+    for (y, (sum, landed), theirs) in [
+        (1.25, (2.0, 9.0), (0.0, 2.25)), // a drop of 0.25 to the ground
+        (1.25, (most, 0.0), (0.0, most)),
+        (400.25, (1.5, 9.0), (2.0, 9.0)), // a drop of 0.5 in the sky
+        (400.25, (most, 9.0), (most, 9.0)),
+        (400.25, (-0.0, -0.0), (0.5, -0.0)),
+    ] {
+        after(y, 0.5, sum, landed, Ok(theirs));
+    }
+}
+
 // Case A of the requirements: what its step does to the box; its window with other words, sizes, heights and air; and its body beyond the world.
 fn case_a(moves: &mut Count, windows: &mut Count) {
     let mut records = [0; 40];
@@ -130,7 +168,9 @@ fn case_a(moves: &mut Count, windows: &mut Count) {
 fn main() {
     let stored = std::fs::read_to_string("crates/replay/stdout").unwrap();
     let (scenes, calls): (Vec<&str>, Vec<&str>) = stored.lines().partition(|l| l.starts_with(|c: char| c.is_ascii_digit()));
-    let [mut ticks, mut steps, mut checked, mut tables, mut moves, mut lists, mut windows] = std::array::from_fn(|_| Count::default());
+    let [mut ticks, mut steps, mut checked, mut tables, mut moves, mut lists, mut windows, mut falls] = std::array::from_fn(|_| Count::default());
+    // after NUMBER fall SUM LANDED: the record after the scene's tick, from a fresh one
+    let after: std::collections::HashMap<&str, &str> = calls.iter().filter_map(|l| l.strip_prefix("after ")?.split_once(' ')).collect();
     for line in scenes {
         let (name, theirs) = line.split_once(' ').unwrap();
         let file = std::fs::read(format!("crates/replay/data/{name}.scn")).unwrap();
@@ -142,6 +182,11 @@ fn main() {
         let t = Tables { records: &s.records, shapes: &s.shapes };
         let w = Window { cells: &s.cells, origin: s.origin, sizes: s.sizes, lowest: s.lowest, highest: s.highest };
         steps.add(name, &tick_text(step(t, w, &s.body)), theirs);
+        let fallen = step_falling(t, w, &s.body, Fall::default());
+        falls.add(name, &tick_text(fallen.map(|(tick, _)| tick)), theirs);
+        if let Some(record) = after.get(name) {
+            falls.add(name, &fall_text(fallen), record);
+        }
         let early = theirs == "refused 1" || theirs == "refused 2";
         tables.add(name, &check_tables(t).err().unwrap_or(0).to_string(), if theirs == "refused 1" { "1" } else { "0" });
         // A move through the window meets 1 and 2 as the step does; its step height is then 3.
@@ -166,6 +211,7 @@ fn main() {
         lists.add(call, &move_text(m, move_over_list(&boxes, m)), theirs);
     }
     case_a(&mut moves, &mut windows);
+    fall_records(&mut falls);
 
     let fine = [
         ticks.tell("tick"),
@@ -175,6 +221,7 @@ fn main() {
         moves.tell("move"),
         lists.tell("move_over_list"),
         windows.tell("heights, columns and air"),
+        falls.tell("step_falling"),
     ];
     std::process::exit(fine.contains(&false) as i32);
 }

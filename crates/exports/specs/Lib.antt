@@ -2,4 +2,5 @@
 pub mod Room
 pub mod Windows
 pub mod Ticks
+pub mod Falling
 pub mod Currents

@@ -1,6 +1,7 @@
 // What a host in another language links: functions on numbers and lent slices of them. Here are the order of their parameters, what is refused
 // of these, and how an answer is written; what they do stands in the crates below.
 mod drift;
+mod falling;
 mod file;
 mod over;
 mod room;
@@ -8,6 +9,7 @@ mod through;
 mod tick;
 
 pub use drift::boltjuniper_item_current;
+pub use falling::boltjuniper_step_falling;
 pub use file::boltjuniper_tick;
 pub use over::boltjuniper_move_over;
 pub use over::boltjuniper_move_over_list;

@@ -14,7 +14,7 @@ fn whole_body(numbers: &[f64], words: &[u32], places: usize) -> bool
 }
 
 // 3, then 4, or 0.
-fn body_refusal(records: &[u32], numbers: &[f64], words: &[u32]) -> u32
+pub(crate) fn body_refusal(records: &[u32], numbers: &[f64], words: &[u32]) -> u32
     ensures { λ r. ⌜ r ≡ bodyRefusal (now (records .entry)) (now (numbers .entry)) (now (words .entry)) ⌝ }
 {
     if bodies::lengths_fit(numbers, words) {

@@ -1,2 +1,3 @@
 -- The definitions of what a step comes to in lent numbers.
 pub mod Steps
+pub mod Falling

@@ -1,4 +1,7 @@
-// What a step comes to, written into lent numbers.
+// What a step comes to, written into lent numbers; falling.rt has the same for a step with a fall record.
+mod falling;
+
+pub use falling::falling_into;
 use lent_numbers::put;
 use lent_numbers::put_vec;
 use step::StepAnswer;

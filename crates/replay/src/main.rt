@@ -1,5 +1,6 @@
 // Runs stored calls, one to a line of standard input, and writes each with our answer. Its stdout holds the original Rust's answers
 // (docs/VECTORS.md), so that a bit of difference anywhere fails the gate.
+mod fallen;
 mod moves;
 mod names;
 mod numbers;
@@ -25,6 +26,10 @@ fn answer(line: &[u8]) {
     }
     if text::begins(line, b"cover") {
         shapes::run(line);
+        return;
+    }
+    if text::begins(line, b"fall") {
+        fallen::run(line);
         return;
     }
     numbers::run(line);
@@ -63,4 +68,5 @@ fn main() {
     let n = io::read_full(0, &mut space);
     run_all(text::part(&space, 0, n));
     scenes::run_all();
+    fallen::run_scenes();
 }

@@ -15,14 +15,14 @@ fn digits(n: u32) -> [u8; 4]
     [digit(n / 1000), digit(n / 100), digit(n / 10), digit(n)]
 }
 
-fn name(n: u32) -> [u8; 8]
+pub(crate) fn name(n: u32) -> [u8; 8]
     ensures { λ r. ⌜ 8 ≡ length r ⌝ }
 {
     [digit(n / 1000), digit(n / 100), digit(n / 10), digit(n), b'.', b's', b'c', b'n']
 }
 
 // Room for the longest scene and one byte more, and for every answer.
-fn file_room() -> [u8; 65537]
+pub(crate) fn file_room() -> [u8; 65537]
     ensures { λ r. ⌜ 65537 ≡ length r ⌝ }
 {
     [0; 65537]
@@ -56,15 +56,20 @@ fn put_answer(fd: i32) {
     put_joined(crate::text::part(&out, 0, m));
 }
 
+// What a scene's line begins with: its number, and a space.
+pub(crate) fn put_label(n: u32) {
+    let label = digits(n);
+    crate::text::put(&label);
+    crate::text::put(b" ");
+}
+
 fn run(n: u32) {
     let path = name(n);
     let fd = os::open_read(&path);
     if fd < 0 {
         return;
     }
-    let label = digits(n);
-    crate::text::put(&label);
-    crate::text::put(b" ");
+    put_label(n);
     put_answer(fd);
     libc::close(fd);
     crate::text::put(b"\n");

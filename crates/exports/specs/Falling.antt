@@ -1,0 +1,33 @@
+-- The step with a fall record, in lent numbers: a body as `Ticks` has it, and the record.
+use mathlib.Core.Bool.{Bool, _&&_}
+use mathlib.Core.List.{List}
+use Prim.Native.Nat.{ℕ}
+use lib.Dec.{leb}
+use lib.Ieee.{Float}
+use Rattle.base.specs.Choose.{choose}
+use Rattle.bodies.specs.Numbers.{lengthsFit}
+use Rattle.window.specs.declared.Window.{Window}
+use Rattle.lent.specs.Lent.{lentRefusal}
+use Rattle.step.specs.Answers.{stepAnswer}
+use Rattle.falls.specs.declared.Fall.{Fall}
+use Rattle.falls.specs.declared.FallingAnswer.{FallingAnswer}
+use Rattle.falls.specs.Rule.{fallFits}
+use Rattle.falls.specs.Answers.{withFall}
+use Rattle.exports.specs.Room.{roomy}
+use Rattle.exports.specs.Ticks.{motionAt, bodyRefusal, tickAt}
+
+-- lengths that fit, and room for ten numbers
+abbrev pub wholeFalling : List Float → List ℕ → ℕ → Bool
+wholeFalling numbers words places = lengthsFit numbers words && leb 10 places
+
+-- 3 also for the record
+unfoldable pub fallingRefusal : List ℕ → List Float → List ℕ → Fall → ℕ
+fallingRefusal records numbers words fall = choose (fallFits fall) (bodyRefusal records numbers words) 3
+
+-- 1 and 2, 3, 4 and 11 in order, before any cell is asked for; then as the step
+unfoldable pub fallingAt : List ℕ → List Float → List ℕ → Window → List Float → List ℕ → ℕ → Fall → ℕ → FallingAnswer
+fallingAt records shapes cells w numbers words age fall places =
+    withFall fall (motionAt numbers words)
+    (stepAnswer (motionAt numbers words)
+    (roomy (lentRefusal records shapes cells w) (fallingRefusal records numbers words fall) (leb 10 places)
+    (tickAt records shapes cells w numbers words age)))

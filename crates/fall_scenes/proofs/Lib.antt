@@ -1,0 +1,2 @@
+-- What the run leaves.
+pub mod Run

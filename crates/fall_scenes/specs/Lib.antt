@@ -1,0 +1,2 @@
+-- A run of steps.
+pub mod Run

@@ -1,0 +1,1 @@
+// No code: the steps behind the list of moves that the fall record's theorem is computed on.

@@ -1,0 +1,16 @@
+-- `falls::rule::is_fallen` meets its contract. Assumes nothing.
+use Rattle.falls.specs.Rule.{isFallen}
+use lib.Ieee.{ofBits}
+use borrow.Author.Needs.{needs}
+use Rattle.falls.proofs.rule.is_fallen.Statement.{statement}
+use Rattle.falls.proofs.rule.is_fallen.Tie as tie
+
+is-within-requires : tie.Need-is-within-requires
+is-within-requires c κs = search needs
+
+returns : tie.Need-returns
+unfolding isFallen ofBits
+returns c = rw (← c .is-within .ensures)
+
+pub is-fallen-spec : {M : Type 1} → statement M
+is-fallen-spec = tie.close (tie.spec is-within-requires returns)

@@ -1,0 +1,31 @@
+-- `falls::step_falling` meets its contract. Assumes nothing.
+use Rattle.falls.specs.Answers.{fallingChecked, fallingEntry, withFall}
+use Rattle.base.specs.Choose.{choose}
+use borrow.Author.Tests.{eq-eqb, ne-eqb}
+use borrow.Author.Needs.{needs}
+use Rattle.falls.proofs.step_falling.Statement.{statement}
+use Rattle.falls.proofs.step_falling.Tie as tie
+
+check-lent-requires : tie.Need-check-lent-requires
+check-lent-requires c κs = search needs
+
+refused-falling-requires : tie.Need-refused-falling-requires
+refused-falling-requires c κs = search needs
+
+returns : tie.Need-returns
+unfolding fallingEntry withFall choose
+returns c =
+    let refuses = ne-eqb _ _ (c .before .if1 .taken) in
+    rw (← c .before .before .check-lent .ensures, refuses, refuses, ← c .refused-falling .ensures)
+
+step-falling-checked-requires : tie.Need-step-falling-checked-requires
+step-falling-checked-requires c κs = search needs
+
+returns-2 : tie.Need-returns-2
+unfolding fallingChecked fallingEntry choose
+returns-2 c = rw (← c .before .before .check-lent .ensures, eq-eqb _ _ (c .before .if1 .left), ← c .step-falling-checked .ensures)
+
+pub step-falling-spec : {M : Type 1} → statement M
+step-falling-spec =
+    tie.close
+    (tie.spec check-lent-requires refused-falling-requires returns step-falling-checked-requires returns-2)

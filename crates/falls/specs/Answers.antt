@@ -1,0 +1,55 @@
+-- The step with a fall record beside it: the step's own refusals and answers, a 3 more, and the record after it.
+use mathlib.Core.Bool.{not}
+use mathlib.Core.List.{List}
+use mathlib.Core.Path.{_≡_}
+use Prim.Native.Nat.{ℕ}
+use lib.Dec.{eqb}
+use lib.Ieee.{Float}
+use Rattle.base.specs.Choose.{choose}
+use Rattle.base.specs.Ask.{Ask, refused}
+use Rattle.tables.specs.declared.LiquidKind.the-variants.{None}
+use Rattle.window.specs.declared.Window.{Window}
+use Rattle.lent.specs.Lent.{unless, sound}
+use Rattle.bodies.specs.declared.BodyNumbers.{BodyNumbers}
+use Rattle.bodies.specs.declared.Rules.{Rules}
+use Rattle.bodies.specs.declared.MotionNumbers.{MotionNumbers}
+use Rattle.bodies.specs.Body.{isYes}
+use Rattle.ticks.specs.declared.Tick.{Tick}
+use Rattle.step.specs.declared.StepAnswer.{StepAnswer}
+use Rattle.step.specs.Answers.{stepAnswer, checkedAsked}
+use Rattle.falls.specs.declared.Fall.{Fall}
+use Rattle.falls.specs.declared.FallingAnswer.{FallingAnswer}
+use Rattle.falls.specs.Rule.{fallAfter, fallFits}
+
+-- the record after a step that was accepted: from the feet given to the feet answered, with the ground and the liquid that the step answers
+abbrev pub fallOver : Fall → MotionNumbers → StepAnswer → Fall
+fallOver fall given a = fallAfter fall (given .feet .y) (a .motion .feet .y) (isYes (a .motion .ground)) (a .liquid)
+
+-- "a refused step hands the record back unchanged"
+unfoldable pub withFall : Fall → MotionNumbers → StepAnswer → FallingAnswer
+withFall fall given a = record { step = a; fall = choose (eqb (a .refusal) 0) (fallOver fall given a) fall }
+
+-- what a refusal before the step hands back: position, velocity and ground flag as given, liquid none, and the record as given
+abbrev pub refusedFalling : ℕ → MotionNumbers → Fall → FallingAnswer
+refusedFalling n given fall = record { step = stepAnswer given (refused n); fall = fall }
+
+-- the record's 3 is among the 3s: then the step's own 3, and 4, before any cell is asked for
+abbrev pub fallingAsked : List ℕ → List Float → List ℕ → Window → Rules → BodyNumbers → MotionNumbers → ℕ → Fall → Ask Tick
+fallingAsked records shapes cells w rules body given age fall =
+    unless (not (fallFits fall)) 3 (checkedAsked records shapes cells w rules body given age)
+
+-- step_falling_checked: over tables and a window that were checked before
+unfoldable pub fallingChecked : List ℕ → List Float → List ℕ → Window → Rules → BodyNumbers → MotionNumbers → ℕ → Fall → FallingAnswer
+fallingChecked records shapes cells w rules body given age fall =
+    withFall fall given (stepAnswer given (fallingAsked records shapes cells w rules body given age fall))
+
+-- step_falling: 1 and 2 before all that
+unfoldable pub fallingEntry : List ℕ → List Float → List ℕ → Window → Rules → BodyNumbers → MotionNumbers → ℕ → Fall → FallingAnswer
+fallingEntry records shapes cells w rules body given age fall =
+    withFall fall given (stepAnswer given (sound records shapes cells w (fallingAsked records shapes cells w rules body given age fall)))
+
+-- what a refusal hands back: "position, velocity and ground flag as given and liquid none", and the record unchanged
+pub record HandedBack (given : MotionNumbers) (before : Fall) (r : FallingAnswer) : Type 0 where
+  pub motion : r .step .motion ≡ given
+  pub liquid : r .step .liquid ≡ None
+  pub fall : r .fall ≡ before

@@ -1,0 +1,104 @@
+// A fall record beside each body: how far it has fallen, and how far it fell to its last landing. rule.rt has the record's rule, and here is the
+// step with a record. From a fresh record, any list of such steps leaves the drops since the last reset (proofs/Steps.antt, `steps-fallen`).
+mod rule;
+
+use bodies::BodyNumbers;
+use bodies::MotionNumbers;
+use bodies::Rules;
+use lent::check_lent;
+pub use rule::fall_after;
+pub use rule::fall_fits;
+use step::StepAnswer;
+use tables::LiquidKind;
+use window::Window;
+ghost use mathlib.Core.Path.{_≡_};
+ghost use Rattle.falls.specs.Answers.{withFall, refusedFalling, fallingChecked, fallingEntry};
+
+// The falling sum, since the last reset; and the landed number, of the last landing.
+pub struct Fall {
+    pub sum: f64,
+    pub landed: f64,
+}
+
+// What a host is handed: the step's answer, and the record after it. A refused step hands the record back.
+pub struct FallingAnswer {
+    pub step: StepAnswer,
+    pub fall: Fall,
+}
+
+// A refusal before the step: all as given, and liquid none.
+pub fn refused_falling(refusal: u32, given: MotionNumbers, fall: Fall) -> FallingAnswer
+    ensures { λ r. ⌜ r ≡ refusedFalling refusal given fall ⌝ }
+{
+    FallingAnswer {
+        step: StepAnswer {
+            motion: given,
+            liquid: LiquidKind::None,
+            refusal,
+        },
+        fall,
+    }
+}
+
+// A step's answer, and the record after it.
+fn with_fall(fall: Fall, given: MotionNumbers, a: StepAnswer) -> FallingAnswer
+    ensures { λ r. ⌜ r ≡ withFall fall given a ⌝ }
+{
+    if a.refusal == 0 {
+        let liquid = a.liquid;
+        let after = fall_after(
+            fall,
+            given.feet.y,
+            a.motion.feet.y,
+            a.motion.ground == 1,
+            liquid,
+        );
+        return FallingAnswer {
+            step: a,
+            fall: after,
+        };
+    }
+    FallingAnswer { step: a, fall }
+}
+
+// For hosts that checked tables and window before, once for many bodies: 3 also for the record; then all as `step::step_checked` has it.
+pub fn step_falling_checked(
+    records: &[u32],
+    shapes: &[f32],
+    cells: &[u32],
+    w: Window,
+    rules: Rules,
+    body: BodyNumbers,
+    given: MotionNumbers,
+    age: u64,
+    fall: Fall,
+) -> FallingAnswer
+    ensures { λ r. ⌜ r ≡ fallingChecked (now (records .entry)) (now (shapes .entry)) (now (cells .entry)) w rules body given age fall ⌝ }
+{
+    if fall_fits(fall) {
+        let a = view::checked_window(records, shapes, cells, w, rules, body, given, age);
+        return with_fall(fall, given, a);
+    }
+    refused_falling(3, given, fall)
+}
+
+// For hosts: one tick of a body with its fall record, 1 and 2 before all that.
+pub fn step_falling(
+    records: &[u32],
+    shapes: &[f32],
+    cells: &[u32],
+    w: Window,
+    rules: Rules,
+    body: BodyNumbers,
+    given: MotionNumbers,
+    age: u64,
+    fall: Fall,
+) -> FallingAnswer
+    ensures { λ r. ⌜ r ≡ fallingEntry (now (records .entry)) (now (shapes .entry)) (now (cells .entry)) w rules body given age fall ⌝ }
+{
+    let refusal = check_lent(records, shapes, cells, w);
+    if refusal != 0 {
+        return refused_falling(refusal, given, fall);
+    }
+    step_falling_checked(records, shapes, cells, w, rules, body, given, age, fall)
+}

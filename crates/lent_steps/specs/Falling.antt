@@ -1,0 +1,16 @@
+-- What a step with a fall record comes to, written into lent numbers.
+use mathlib.Core.List.{List, [], _∷_, _++_}
+use lib.Dec.{eqb}
+use lib.Ieee.{Float}
+use Rattle.base.specs.Choose.{choose}
+use Rattle.base.specs.Loop.{stored}
+use Rattle.falls.specs.declared.FallingAnswer.{FallingAnswer}
+use Rattle.lent_steps.specs.Steps.{stepNumbers}
+
+-- the step's eight numbers, then the record after it, sum and landed: ten numbers
+abbrev pub fallingNumbers : FallingAnswer → List Float
+fallingNumbers a = stepNumbers (a .step) ++ (a .fall .sum ∷ a .fall .landed ∷ [])
+
+-- a refusal writes nothing: what the host has stays as it is, its record too
+unfoldable pub fallingWritten : List Float → FallingAnswer → List Float
+fallingWritten out a = choose (eqb (a .step .refusal) 0) (stored out 0 (fallingNumbers a)) out
