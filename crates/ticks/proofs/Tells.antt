@@ -63,7 +63,7 @@ module _ (look : Pos → Ask Block) (records : List ℕ) (rules : Rules) (body :
   by-model : (m : Model) (liquid : LiquidKind) (onGround block : Bool) (s : Support) (feet u v w : Vec3)
       → isAsked s ≡ (onGround && choose (isLiving m) (isDry liquid) (not (isFallingBlock m) && block))
       → let t : Tick = choose (isFallingBlock m && onGround) (tickTo feet u onGround None s) (choose (isLiving m) (tickTo feet v onGround liquid s) (tickTo feet w onGround None s)) in
-        isAsked (t .support) ≡ (t .motion .ground && choose (isLiving m) (isDry (t .liquid)) (not (isFallingBlock m) && block))
+      isAsked (t .support) ≡ (t .motion .ground && choose (isLiving m) (isDry (t .liquid)) (not (isFallingBlock m) && block))
   unfolding choose
   by-model Item liquid onGround block s feet u v w e = e
   by-model Living liquid onGround block s feet u v w e = e
