@@ -1,7 +1,7 @@
 -- The cells of a window: in a window that passes its check each inside cell and each column has a place of its own among the lent words, and
 -- what the look-up says follows from the column, the world's ends and the window's height. Assumes nothing.
 use mathlib.Core.Path.{_≡_, refl, sym, ap, _∙_, subst}
-use mathlib.Core.Bool.{Bool, true, false, _&&_, false≢true}
+use mathlib.Core.Bool.{Bool, true, false}
 use mathlib.Core.List.{List}
 use Prim.Native.Nat.{ℕ, _+_, _*_, _/_, _%_, _<_}
 use native.Mathlib.Nat.{mul-comm}
@@ -19,7 +19,7 @@ use Rattle.window.specs.declared.Sizes.{Sizes}
 use Rattle.window.specs.declared.Window.{Window}
 use Rattle.window.specs.Window.{within, columnInside, heightInside, isVoid, indexAt, cellCount, columnCount, indexOf, columnIndexOf, sizesFit, originFits, heightsFit, columnsFit, windowFits, windowRefusal}
 use Rattle.window.specs.Look.{Block, none, some, lookAt}
-use Rattle.window.proofs.Offsets.{Ahead, ahead, below-size, place-below}
+use Rattle.window.proofs.Offsets.{ahead, below-size, place-below}
 
 same-coordinate : (o : ℤ) (n : ℕ) (c d : ℤ) → within o n c ≡ true → within o n d ≡ true → natAbs (c -ℤ o) ≡ natAbs (d -ℤ o) → c ≡ d
 same-coordinate o n c d t u e =

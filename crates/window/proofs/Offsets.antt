@@ -1,16 +1,18 @@
 -- The program's offsets come to the look-up as it is defined. Assumes nothing.
-use mathlib.Core.Path.{_≡_, refl, sym, ap, _∙_, subst}
+use mathlib.Core.Path.{_≡_, refl, sym, _∙_, subst}
 use mathlib.Core.Bool.{Bool, true, false, not, _&&_, false≢true}
 use mathlib.Core.List.{List}
 use Prim.Native.Nat.{ℕ, _+_, _*_, _<_, _^_}
 use native.Mathlib.Nat.{mul-comm, mul-assoc}
 use native.Mathlib.Omega.{arith}
 use lib.Arith.{digits-lt}
-use lib.Dec.{T, leb, ltb, eqb, leb·zero}
+use lib.Dec.{T, leb, ltb, eqb}
 use lib.IntN.{ℤ, pos, negsuc, natAbs, _+ℤ_, _-ℤ_, +ℤ-idl, +ℤ-comm, -ℤ-+ℤ-cancel}
 use lib.ListN.{length, getD}
-use lib.Signed.{ltZ, leZ}
-use borrow.Author.Tests.{le-ltb, ltb-true}
+use lib.Signed.{ltZ, leZ, nonNeg}
+use mir.Syntax.{w64}
+use mir.Val.{Fits}
+use borrow.Author.Tests.{ltb-true}
 use Rattle.base.proofs.Every.{both}
 use Rattle.base.specs.Choose.{choose}
 use Rattle.base.specs.Ask.{refused, found}
@@ -20,11 +22,11 @@ use Rattle.window.specs.declared.Window.{Window}
 use Rattle.window.specs.declared.Cell.the-variants.{Outside, Unloaded, State}
 use Rattle.window.specs.Window.{within, isVoid, indexAt, cellCount, columnCount, indexOf, columnIndexOf}
 use Rattle.window.specs.Look.{none, some, lookAt, asked}
-use Rattle.window.specs.Offsets.{offsetOf, inColumn, lookDown, lookIn}
+use Rattle.window.specs.Offsets.{isAhead, inColumn, lookDown, lookIn}
 use Rattle.window.proofs.Order.{lt-moved, le-moved}
 
 -- on one axis, by the difference to the origin
-pub within-by : (o : ℤ) (n : ℕ) (c : ℤ) → within o n c ≡ (leZ (pos 0) (c -ℤ o) && ltZ (c -ℤ o) (pos n))
+pub within-by : (o : ℤ) (n : ℕ) (c : ℤ) → within o n c ≡ isAhead (c -ℤ o) n
 within-by o n c = λ i. low i && high i
   where
     low : leZ o c ≡ leZ (pos 0) (c -ℤ o)
@@ -33,39 +35,28 @@ within-by o n c = λ i. low i && high i
     high : ltZ c (o +ℤ pos n) ≡ ltZ (c -ℤ o) (pos n)
     high = (λ i. ltZ (sym (-ℤ-+ℤ-cancel c o) i) (+ℤ-comm o (pos n) i)) ∙ lt-moved o (c -ℤ o) (pos n)
 
--- the offset is below the size just where the coordinate is within
-pub offset-within : (o : ℤ) (n : ℕ) (c : ℤ) → n < 2 ^ 32 → ltb (offsetOf (c -ℤ o)) n ≡ within o n c
-unfolding offsetOf
-offset-within o n c h = go (c -ℤ o) ∙ sym (within-by o n c)
-  where
-    go : (d : ℤ) → ltb (offsetOf d) n ≡ (leZ (pos 0) d && ltZ d (pos n))
-    go (pos k) = ap (λ (b : Bool). b && ltb k n) (sym (leb·zero k))
-    go (negsuc k) = le-ltb 18446744073709551615 n (omega arith)
-
--- and is then the difference
-pub offset-is : (o : ℤ) (n : ℕ) (c : ℤ) → T (within o n c) → offsetOf (c -ℤ o) ≡ natAbs (c -ℤ o)
-unfolding offsetOf
-offset-is o n c t = go (c -ℤ o) (subst T (within-by o n c) t)
-  where
-    go : (d : ℤ) → T (leZ (pos 0) d && ltZ d (pos n)) → offsetOf d ≡ natAbs d
-    go (pos k) t = refl
-    go (negsuc k) t = absurd t
-
 -- ---- on one axis: the difference to the origin is not below zero and below the size, and tells the coordinate
 pub record Ahead (d : ℤ) (n : ℕ) : Type 0 where
   pub size : ℕ
   pub is : d ≡ pos size
   pub small : size < n
 
+pub ahead-of : (d : ℤ) (n : ℕ) → isAhead d n ≡ true → Ahead d n
+ahead-of (pos k) n e = record { size = k; is = refl; small = ltb-true k n (both (leb 0 k) (ltb k n) e .two) }
+ahead-of (negsuc k) n e = absurd (false≢true e)
+
+pub ahead-below : (d : ℤ) (n : ℕ) → isAhead d n ≡ true → natAbs d < n
+ahead-below d n e = let a = ahead-of d n e in subst (λ (d : ℤ). natAbs d < n) (sym (a .is)) (a .small)
+
+pub ahead-casts : (d : ℤ) (n : ℕ) → isAhead d n ≡ true → n < 2 ^ 32 → T (nonNeg d) × Fits w64 (natAbs d)
+ahead-casts (pos k) n e h = let b = ahead-below (pos k) n e in (tt, record { fits = omega arith })
+ahead-casts (negsuc k) n e h = absurd (false≢true e)
+
 pub ahead : (o : ℤ) (n : ℕ) (c : ℤ) → within o n c ≡ true → Ahead (c -ℤ o) n
-ahead o n c e = go (c -ℤ o) (sym (within-by o n c) ∙ e)
-  where
-    go : (d : ℤ) → (leZ (pos 0) d && ltZ d (pos n)) ≡ true → Ahead d n
-    go (pos k) e = record { size = k; is = refl; small = ltb-true k n (both (leb 0 k) (ltb k n) e .two) }
-    go (negsuc k) e = absurd (false≢true e)
+ahead o n c e = ahead-of (c -ℤ o) n (sym (within-by o n c) ∙ e)
 
 pub below-size : (o : ℤ) (n : ℕ) (c : ℤ) → within o n c ≡ true → natAbs (c -ℤ o) < n
-below-size o n c e = let a = ahead o n c e in subst (λ (d : ℤ). natAbs d < n) (sym (a .is)) (a .small)
+below-size o n c e = ahead-below (c -ℤ o) n (sym (within-by o n c) ∙ e)
 
 -- ---- places: a place is a number of three digits
 pub place-below : (s : Sizes) (x y z : ℕ) → x < s .x → y < s .y → z < s .z → indexAt s x y z < cellCount s
@@ -80,38 +71,30 @@ pub column-place : (s : Sizes) (x z : ℕ) → s .y * columnCount s + (z * s .x 
 column-place s x z = omega arith
 
 -- ---- the look-up, where a, b and c say whether a cell is within on each axis; the column's word stands at k, and the cell's at j
-looked-in : (words : List ℕ) (a b c void : Bool) (air i k m j : ℕ) → (T a → T c → i ≡ k) → (T a → T b → T c → m ≡ j)
+looked-in : (words : List ℕ) (a b c void : Bool) (air i k m j : ℕ) → i ≡ k → m ≡ j
     → asked (choose a (choose c (choose (ltb i (length words)) (inColumn (getD words i 0) air void (choose b (State (getD words m 0)) Outside)) Outside) Outside) Outside)
     ≡ choose (not ((a && c) && ltb k (length words))) (refused 5)
     (choose (eqb (getD words k 0) 0) (found none) (choose void (found (some air)) (choose (not b) (refused 5) (found (some (getD words j 0))))))
 unfolding choose
 looked-in words false b c void air i k m j e f = refl
 looked-in words true b false void air i k m j e f = refl
-looked-in words true b true void air i k m j e f = rw (e tt tt) (column (ltb k (length words)) (eqb (getD words k 0) 0) void b (f tt))
+looked-in words true b true void air i k m j e f = rw (e, f) (column (ltb k (length words)) (eqb (getD words k 0) 0) void b)
   where
-    column : (t u v b : Bool) → (T b → T true → m ≡ j)
-        → asked (choose t (choose u Unloaded (choose v (State air) (choose b (State (getD words m 0)) Outside))) Outside)
+    column : (t u v b : Bool)
+        → asked (choose t (choose u Unloaded (choose v (State air) (choose b (State (getD words j 0)) Outside))) Outside)
         ≡ choose (not t) (refused 5) (choose u (found none) (choose v (found (some air)) (choose (not b) (refused 5) (found (some (getD words j 0))))))
-    column false u v b f = refl
-    column true true v b f = refl
-    column true false true b f = refl
-    column true false false false f = refl
-    column true false false true f = rw (f tt tt)
-
-pub record Narrow (s : Sizes) : Type 0 where
-  pub x : s .x < 2 ^ 32
-  pub y : s .y < 2 ^ 32
-  pub z : s .z < 2 ^ 32
+    column false u v b = refl
+    column true true v b = refl
+    column true false true b = refl
+    column true false false false = refl
+    column true false false true = refl
 
 -- the cell at the offsets of p is the look-up at p
-pub looked : (words : List ℕ) (w : Window) (p : Pos) → Narrow (w .sizes)
-    → asked (lookIn words (w .sizes) (w .air) (isVoid w p) (offsetOf (p .x -ℤ w .origin .x)) (offsetOf (p .y -ℤ w .origin .y)) (offsetOf (p .z -ℤ w .origin .z)))
-    ≡ lookAt words w p
+pub looked : (words : List ℕ) (w : Window) (p : Pos)
+    → asked (lookIn words (w .sizes) (w .air) (isVoid w p) (p .x -ℤ w .origin .x) (p .y -ℤ w .origin .y) (p .z -ℤ w .origin .z)) ≡ lookAt words w p
 unfolding lookIn lookDown lookAt indexOf columnIndexOf
-looked words w p n =
+looked words w p =
     let o = w .origin in
     let s = w .sizes in
-    rw (offset-within (o .x) (s .x) (p .x) (n .x), offset-within (o .y) (s .y) (p .y) (n .y), offset-within (o .z) (s .z) (p .z) (n .z))
-    (looked-in words _ _ _ (isVoid w p) (w .air) _ _ _ _
-    (λ a c. rw (offset-is (o .x) (s .x) (p .x) a, offset-is (o .z) (s .z) (p .z) c) (column-place s _ _))
-    (λ a b c. rw (offset-is (o .x) (s .x) (p .x) a, offset-is (o .y) (s .y) (p .y) b, offset-is (o .z) (s .z) (p .z) c) (cell-place s _ _ _)))
+    rw (within-by (o .x) (s .x) (p .x), within-by (o .y) (s .y) (p .y), within-by (o .z) (s .z) (p .z))
+    (looked-in words _ _ _ (isVoid w p) (w .air) _ _ _ _ (column-place s _ _) (cell-place s _ _ _))

@@ -1,16 +1,14 @@
 -- Signed numbers: the sums and differences that the look-up works out fit an i64. Assumes nothing.
-use mathlib.Core.Path.{_≡_, refl, subst}
+use mathlib.Core.Path.{_≡_}
 use mathlib.Core.Bool.{Bool, true, false, cond}
 use Prim.Native.Nat.{ℕ, zero, suc, _+_, _-_, _≤_, _<_, _^_}
 use native.Mathlib.Omega.{arith}
-use lib.Dec.{T, ltb}
-use lib.IntN.{ℤ, pos, negsuc, negℤ, subℕ, _+ℤ_, _-ℤ_, natAbs}
-use lib.Signed.{mag, ltZ, nonNeg}
+use lib.Dec.{ltb}
+use lib.IntN.{ℤ, pos, negsuc, negℤ, subℕ, _+ℤ_, _-ℤ_}
+use lib.Signed.{mag}
 use mir.Syntax.{Width, w8, w32, w64}
-use mir.Val.{SFits, Fits, toZ, ofZ}
+use mir.Val.{SFits, toZ, ofZ}
 use mir.ValLaws.{toZ-ofZ}
-use borrow.Author.Tests.{ltb-true}
-use Rattle.window.specs.Offsets.{offsetOf}
 
 either : (t : Bool) (u v k : ℕ) → u < k → v < k → mag (cond t (negsuc u) (pos v)) < k
 either true u v k hu hv = hu
@@ -87,18 +85,3 @@ summed y d f g =
     let wy = wide-is w32 y f (widens32 f) in
     let wd = wide-is w8 d g (widens8 g) in
     record { sum = rw (wy, wd) whole; value = rw (wy, wd, toZ-ofZ w64 (y +ℤ d) whole) }
-
--- the two answers of `offset`
-pub below : (z : ℤ) → ltZ z (pos 0) ≡ true → 18446744073709551615 ≡ offsetOf z
-unfolding offsetOf
-below (pos n) h = let l : n < 0 = ltb-true n 0 h in absurd (omega arith)
-below (negsuc n) h = refl
-
-pub above : (z : ℤ) → ltZ z (pos 0) ≡ false → natAbs z ≡ offsetOf z
-unfolding offsetOf
-above (pos n) h = refl
-above (negsuc n) h = absurd (subst T h tt)
-
-pub casts : (z : ℤ) → ltZ z (pos 0) ≡ false → SFits w64 z → T (nonNeg z) × Fits w64 (natAbs z)
-casts (pos n) h f = let l = f .sfits in (tt, record { fits = omega arith })
-casts (negsuc n) h f = absurd (subst T h tt)

@@ -10,7 +10,7 @@ ghost use lib.IntN.{_+ℤ_, _-ℤ_};
 ghost use lib.Signed.{ltZ};
 ghost use Rattle.window.specs.Window.{sizeFits, sizesFit, coordinateFits, originFits, heightsFit, columnFits, columnsFit, windowRefusal};
 ghost use Rattle.window.specs.Look.{lookAt, asked, stepped};
-ghost use Rattle.window.specs.Offsets.{offsetOf, placeIn, lookDown, lookIn};
+ghost use Rattle.window.specs.Offsets.{isAhead, placeIn, lookDown, lookIn};
 
 pub struct Pos {
     pub x: i32,
@@ -47,19 +47,18 @@ pub enum Cell {
     State(u32),
 }
 
-// How far x and d together are above o, in i64, where no i32 wraps; the largest number where they are below.
-fn offset(x: i32, d: i8, o: i32) -> u64
-    ensures { λ r. ⌜ r ≡ offsetOf (x +ℤ d -ℤ o) ⌝ }
+// How far x and d together are above o, in i64, where no i32 wraps.
+fn offset(x: i32, d: i8, o: i32) -> i64
+    ensures { λ r. ⌜ r ≡ x +ℤ d -ℤ o ⌝ }
 {
-    let a = x as i64;
-    let b = d as i64;
-    let c = o as i64;
-    let n = a + b - c;
-    if n < 0 {
-        18446744073709551615
-    } else {
-        n as u64
-    }
+    (x as i64) + (d as i64) - (o as i64)
+}
+
+// Whether an offset is one of so many from the origin on.
+fn is_ahead(n: i64, size: u32) -> bool
+    ensures { λ r. ⌜ r ≡ isAhead n size ⌝ }
+{
+    (0 <= n) & (n < size as i64)
 }
 
 // Where a word stands that is the word `at` of its layer, so many layers up: any number from n on where it is not one of n words. Only where a
@@ -91,7 +90,7 @@ fn is_void(y: i32, d: i8, lowest: i32, highest: i32) -> bool
 
 // The column decides, then the world's ends, then the window's height. The column's word stands where that of a cell above the highest would, so
 // that where it was lent the cells below it were.
-fn look_down(words: &[u32], layer: u64, at: u64, height: u32, air: u32, void: bool, y: u64) -> Cell
+fn look_down(words: &[u32], layer: u64, at: u64, height: u32, air: u32, void: bool, y: i64) -> Cell
     requires { ⌜ at < layer ⌝ }
     ensures { λ r. ⌜ r ≡ lookDown (now (words .entry)) layer at height air void y ⌝ }
 {
@@ -103,8 +102,8 @@ fn look_down(words: &[u32], layer: u64, at: u64, height: u32, air: u32, void: bo
         if void {
             return Cell::State(air);
         }
-        if y < height as u64 {
-            let k = (y * layer + at) as usize;
+        if is_ahead(y, height) {
+            let k = ((y as u64) * layer + at) as usize;
             return Cell::State(words[k]);
         }
         return Cell::Outside; // beyond on y
@@ -113,14 +112,14 @@ fn look_down(words: &[u32], layer: u64, at: u64, height: u32, air: u32, void: bo
 }
 
 // The cell at three offsets.
-fn look_in(words: &[u32], s: Sizes, air: u32, void: bool, x: u64, y: u64, z: u64) -> Cell
+fn look_in(words: &[u32], s: Sizes, air: u32, void: bool, x: i64, y: i64, z: i64) -> Cell
     ensures { λ r. ⌜ r ≡ lookIn (now (words .entry)) s air void x y z ⌝ }
 {
-    let sx = s.x as u64;
-    let sz = s.z as u64;
-    if x < sx {
-        if z < sz {
-            return look_down(words, sx * sz, z * sx + x, s.y, air, void, y);
+    if is_ahead(x, s.x) {
+        if is_ahead(z, s.z) {
+            let sx = s.x as u64;
+            let at = (z as u64) * sx + (x as u64);
+            return look_down(words, sx * (s.z as u64), at, s.y, air, void, y);
         }
         return Cell::Outside; // beyond on z
     }
