@@ -75,6 +75,35 @@ uint32_t boltjuniper_step_falling(const uint32_t *records, size_t records_len, c
                                   int32_t lowest, int32_t highest, const double *numbers, size_t numbers_len, const uint32_t *words,
                                   size_t words_len, uint64_t age, double sum, double landed, double *out, size_t out_len);
 
+/* The midnight run: one tick of each of many bodies over one table and a few windows, in one call. Tables are checked once, and each window once,
+   however many bodies name it. Windows, bodies and answers stand in rows, one row behind the other.
+
+   A window has ten words; its own words, cells then columns, lie anywhere among `cells`, which is lent once for all windows:
+      0  1  2   origin x y z, as int32_t            6   lowest, as int32_t          8   where its words begin in `cells`
+      3  4  5   sizes x y z                         7   highest, as int32_t         9   how many they are
+   A body has 21 numbers: the 19 of boltjuniper_step, then its fall record, the sum (19) and the landed number (20). And nine words:
+      0   the number of its window, from 0          1  2   its age, the low word first          3 to 8   the six words of boltjuniper_step
+   For each body eleven numbers are written, row i for body i:
+      0   its refusal, or 0                         1 to 8   the eight of boltjuniper_step      9  10   the fall record after it, sum and landed
+   A refused body has its own number there, its motion and fall record as they were handed in, and liquid 0: 3 for a row that is not there whole, 10
+   for naming no window, 2 for a window that breaks a limit or whose row or words are not there whole, then 3 to 9 as boltjuniper_step_falling. So one
+   bad row costs its body the tick, and no other.
+
+   It takes tables, `windows_count` windows in rows, `cells`, `bodies_count` bodies in rows, and writes bodies_count * 11 numbers to `out`; the rest of
+   `out` stays. Returns 0; or 1, then 14 (more than 16 windows or 4,096 bodies), then 11, and writes nothing. Each answer is that of the body's single
+   step, and bodies may stand in any order.
+
+   From several threads: what is handed in is only read, so that all threads may be lent the same tables, windows and cells. Hand each thread its own
+   part of the bodies' rows, its own count, and its own part of `out`: the answers are those of one call. Each call checks tables and windows anew, so
+   give a thread some hundreds of bodies at once. */
+#define BOLTJUNIPER_WINDOW_WORDS 10
+#define BOLTJUNIPER_BODY_NUMBERS 21
+#define BOLTJUNIPER_BODY_WORDS 9
+#define BOLTJUNIPER_ANSWER_NUMBERS 11
+uint32_t boltjuniper_midnight(const uint32_t *records, size_t records_len, const float *shapes, size_t shapes_len, const uint32_t *windows,
+                              size_t windows_len, uint32_t windows_count, const uint32_t *cells, size_t cells_len, const double *numbers,
+                              size_t numbers_len, const uint32_t *words, size_t words_len, uint32_t bodies_count, double *out, size_t out_len);
+
 /* One tick of the scene in `file` (blocks of 512 bytes, as onetick reads them; no alignment is asked for). Writes the same eight numbers to `out`.
    Returns 0; or 8 where the file is no scene, 1, 2, 3, 4, 11, then 5, 6 or 7 at the first such event, then 9. It keeps three arrays of 15,744
    words of the file on the stack, some 190 KB: call it from a thread that has them. */

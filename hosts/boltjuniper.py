@@ -6,6 +6,7 @@
     b.step(tables, window, b.Body(numbers, words, age))         # Tick(feet=.., velocity=.., ground=True, liquid='none'), or raises Refused
     b.step_falling(tables, window, body, b.Fall())              # the Tick, and the fall record after it
     b.steps(tables, window, bodies)                             # a list: for each body its Tick, or its Refused as a value
+    b.midnight(tables, *b.window_rows(windows), *b.body_rows(bodies, named, falls))     # thousands of bodies over up to 16 windows, in one call
 
 An array of the type that is asked for (numpy's uint32, float32 and float64; array.array's I, f and d) is lent as it is, without a copy, and is only
 read; it must not be changed by another thread while the call runs. A list or a tuple of numbers is copied. Another type of array is a TypeError and
@@ -24,7 +25,7 @@ SENTENCES = {
        "as many as the sizes say.",
     3: "A number of the body or of the rules is not finite or beyond its limit, an enum number is unknown, a yes or no is above 1, or the air state "
        "has no registered record. In a direct call also: not 19 numbers and 6 words, or a number of a fall record that is negative, not finite or "
-       "above 2^30.",
+       "above 2^30; in the midnight run, a row that is not there whole.",
     4: "A position or velocity (in direct calls also a box or a delta) is not finite or beyond its limit. In a direct call also: not nine "
        "numbers to a mover, or boxes that are not six numbers each.",
     5: "The rules ask for a cell that the window does not hold.",
@@ -32,7 +33,9 @@ SENTENCES = {
     7: "The flow test meets a state that is not registered. The original program would have ended there.",
     8: "The file is no scene: a mark, number, check, kind, count or unused word is wrong, or blocks are missing or left over.",
     9: "The computed motion is not finite.",
+    10: "In the midnight run: the body names no window.",
     11: "In a direct call: the memory lent for the answer is too short.",
+    14: "In the midnight run: more than 16 windows, or more than 4,096 bodies.",
 }
 
 
@@ -114,6 +117,7 @@ DECLARED = {
     "step": TABLES + WINDOW + BODY + SLICE,
     "step_checked": TABLES + WINDOW + BODY + SLICE,
     "step_falling": TABLES + WINDOW + BODY + [ctypes.c_double] * 2 + SLICE,
+    "midnight": TABLES + SLICE + [ctypes.c_uint32] + SLICE * 3 + [ctypes.c_uint32] + SLICE,
     "move": TABLES + WINDOW + AIR + SLICE + STEP + SLICE,
     "move_over_list": SLICE * 2 + STEP + SLICE,
     "collected": TABLES + WINDOW + AIR + SLICE + STEP + SLICE,
@@ -320,3 +324,69 @@ def steps(tables, window, bodies):
 def ticks(files):
     """The tick of each scene file: a list of Tick or Refused."""
     return [_tick(_Lent().slice("file", file, "B").answer("tick", 8)) for file in files]
+
+
+# ---- the midnight run: rows in, rows out
+
+WINDOW_WORDS, BODY_NUMBERS, BODY_WORDS = 10, 21, 9
+# an answer: the names of its numbers, and how many there are of each
+ANSWER = (("refusal", 1), ("feet", 3), ("velocity", 3), ("ground", 1), ("liquid", 1), ("sum", 1), ("landed", 1))
+ANSWER_NUMBERS = sum(count for _, count in ANSWER)
+
+
+def window_rows(windows):
+    """The rows of windows, and the words of all of them, each window's behind the one's before: what `midnight` takes. It copies the words."""
+    rows, words = array.array("I"), array.array("I")
+    for window in windows:
+        own = array.array("I", window.cells)
+        signed = [n % 2**32 for n in _whole([*window.origin, window.lowest, window.highest], -2**31, 2**31)]
+        rows.extend([*signed[:3], *_whole(window.sizes, 0, 2**32), *signed[3:], len(words), len(own)])
+        words.extend(own)
+    return rows, words
+
+
+def body_rows(bodies, named, falls=None):
+    """The numbers and the words of bodies in rows, each with the number of its window and its fall record, a fresh one where none is given."""
+    numbers, words = array.array("d"), array.array("I")
+    for k, body in enumerate(bodies):
+        age, = _whole([body.age], 0, 2**64)
+        numbers.extend([*body.numbers, *(falls[k] if falls else Fall())])
+        words.extend([named[k], age % 2**32, age >> 32, *body.words])
+    return numbers, words
+
+
+def midnight(tables, windows, cells, numbers, words, out=None):
+    """One tick of each body, over rows as hosts/boltjuniper.h has them: ten words to a window over `cells`, 21 numbers and nine words to a body; as many
+    windows and bodies as there are words for. With numpy the answer is one structured array with the fields of ANSWER, a row for each body; without it,
+    a list of rows. `answered` has a row as a Tick or a Refused. Refused by 1, 14 or 11 is raised. `out`, an array of float64 with room for
+    eleven numbers a body, is written to where it is given, and what lies beyond the last row stays.
+
+    From several threads: the call lets other threads run meanwhile. Lend each the same tables, windows and cells, and its own part of numbers, words and
+    out, as numbers[a * 21:b * 21]."""
+    lent = _Lent().tables(tables).slice("windows", windows, "I")
+    lent.arguments.append(lent.arguments[-1] // WINDOW_WORDS)
+    lent.slice("cells", cells, "I").slice("numbers", numbers, "d").slice("words", words, "I")
+    bodies = lent.arguments[-1] // BODY_WORDS
+    lent.arguments.append(bodies)
+    mine = out if out is not None else array.array("d", bytes(8 * ANSWER_NUMBERS * bodies))
+    if memoryview(mine).readonly:
+        raise ValueError("out: the array may only be read")
+    lent.slice("out", mine, "d")
+    if lent.arguments[-1] and lent.arguments[-2] != _address(memoryview(mine)):
+        raise ValueError("out: the array is not aligned")
+    refusal = _function("midnight")(*lent.arguments)
+    if refusal:
+        raise Refused(refusal)
+    numbers = memoryview(mine).cast("B").cast("d")[:ANSWER_NUMBERS * bodies]
+    try:
+        import numpy
+    except ImportError:
+        return [tuple(numbers[k:k + ANSWER_NUMBERS]) for k in range(0, len(numbers), ANSWER_NUMBERS)]
+    row = numpy.dtype([(name, "f8") if count == 1 else (name, "f8", (count,)) for name, count in ANSWER])
+    return numpy.frombuffer(numbers, dtype=row) if bodies else numpy.zeros(0, dtype=row)
+
+
+def answered(row):
+    """A row of the midnight run as its Tick, or its Refused as a value; and its fall record, as it was where the body is refused."""
+    refusal, x, y, z, u, v, w, ground, liquid, *fall = (float(n) for part in row for n in (part if hasattr(part, "__len__") else (part,)))
+    return Refused(int(refusal)) if refusal else _tick([x, y, z, u, v, w, ground, liquid]), Fall(*fall)

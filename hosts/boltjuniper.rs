@@ -1,6 +1,6 @@
 //! Boltjuniper for hosts in Rust: safe wrappers around what hosts/boltjuniper.h declares of crates/exports. Link target/staticlib/libexports.a.
 //! An answer is what was written, or the number of the refusal (docs/REFUSALS.md). The lengths of bodies, movers and answers, and flags, are right
-//! by their types, so neither they nor 11 are ever the reason; those of tables and windows are for the library to refuse.
+//! by their types, so neither they nor 11 are ever the reason (but 11 of the midnight run, whose buffer is the host's); those of tables and windows are for the library to refuse.
 
 mod linked {
     unsafe extern "C" {
@@ -19,6 +19,11 @@ mod linked {
             records: *const u32, records_len: usize, shapes: *const f32, shapes_len: usize, cells: *const u32, cells_len: usize, ox: i32, oy: i32,
             oz: i32, sx: u32, sy: u32, sz: u32, lowest: i32, highest: i32, numbers: *const f64, numbers_len: usize, words: *const u32,
             words_len: usize, age: u64, sum: f64, landed: f64, out: *mut f64, out_len: usize,
+        ) -> u32;
+        pub fn boltjuniper_midnight(
+            records: *const u32, records_len: usize, shapes: *const f32, shapes_len: usize, windows: *const u32, windows_len: usize,
+            windows_count: u32, cells: *const u32, cells_len: usize, numbers: *const f64, numbers_len: usize, words: *const u32, words_len: usize,
+            bodies_count: u32, out: *mut f64, out_len: usize,
         ) -> u32;
         pub fn boltjuniper_tick(file: *const u8, file_len: usize, out: *mut f64, out_len: usize) -> u32;
         pub fn boltjuniper_move(
@@ -82,6 +87,25 @@ pub struct Fall {
     pub sum: f64,
     pub landed: f64,
 }
+
+/// A window of the midnight run: its own words are `count` of those that are lent for all windows, from `first` on.
+#[repr(C)]
+#[derive(Clone, Copy)]
+pub struct WindowRow {
+    pub origin: [i32; 3],
+    pub sizes: [u32; 3],
+    pub lowest: i32,
+    pub highest: i32,
+    pub first: u32,
+    pub count: u32,
+}
+
+/// A body of the midnight run: 21 numbers and nine words, as hosts/boltjuniper.h has them. Both are lent row by row.
+pub type BodyNumbers = [f64; 21];
+pub type BodyWords = [u32; 9];
+
+/// What is written for a body: its refusal, its tick and its fall record, as hosts/boltjuniper.h has them.
+pub type AnswerNumbers = [f64; 11];
 
 /// A box, min x y z and max x y z, with its delta, the step height, and whether the body was on the ground.
 #[derive(Clone, Copy)]
@@ -164,6 +188,38 @@ pub fn step_falling(t: Tables, w: Window, b: &Body, fall: Fall) -> Result<(Tick,
     };
     let [a, b, c, x, y, z, ground, liquid, sum, landed] = out;
     ticked(refusal, [a, b, c, x, y, z, ground, liquid]).map(|tick| (tick, Fall { sum, landed }))
+}
+
+impl Body {
+    /// The rows of a body with its fall record in window number `window`.
+    pub fn row(&self, fall: Fall, window: u32) -> (BodyNumbers, BodyWords) {
+        let numbers = std::array::from_fn(|k| if k < 19 { self.numbers[k] } else { [fall.sum, fall.landed][k - 19] });
+        let [a, b, c, d, e, f] = self.words;
+        (numbers, [window, self.age as u32, (self.age >> 32) as u32, a, b, c, d, e, f])
+    }
+}
+
+/// An answer's tick, or the body's own refusal; and its fall record after the tick, which a refusal hands back as it was.
+pub fn answered(row: &AnswerNumbers) -> (Result<Tick, Refusal>, Fall) {
+    let [refusal, a, b, c, x, y, z, ground, liquid, sum, landed] = *row;
+    (ticked(refusal as u32, [a, b, c, x, y, z, ground, liquid]), Fall { sum, landed })
+}
+
+/// The midnight run: one tick of each body, its answer in the row of its own number; rows of `out` beyond the bodies stay. `numbers` has a row for
+/// each body, and so has `words`: a body without its words is refused with 3 in its own answer. Err is 1, 14 or 11, and nothing is written.
+/// Several threads may share tables, windows and cells, each with its own part of the bodies and of `out`.
+pub fn midnight(
+    t: Tables, windows: &[WindowRow], cells: &[u32], numbers: &[BodyNumbers], words: &[BodyWords], out: &mut [AnswerNumbers],
+) -> Result<(), Refusal> {
+    let count = |n: usize| u32::try_from(n).unwrap_or(u32::MAX);
+    let (n, w, o) = (numbers.as_flattened(), words.as_flattened(), out.as_flattened_mut());
+    let refusal = unsafe {
+        linked::boltjuniper_midnight(
+            t.records.as_ptr(), t.records.len(), t.shapes.as_ptr(), t.shapes.len(), windows.as_ptr().cast(), windows.len() * 10, count(windows.len()),
+            cells.as_ptr(), cells.len(), n.as_ptr(), n.len(), w.as_ptr(), w.len(), count(numbers.len()), o.as_mut_ptr(), o.len(),
+        )
+    };
+    if refusal == 0 { Ok(()) } else { Err(refusal) }
 }
 
 /// The tick of a scene file. It keeps some 190 KB of the file on the stack: call it from a thread that has them.

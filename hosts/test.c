@@ -17,7 +17,7 @@ struct count { const char *what; int agree, differ; };
 static struct count ticks = {"tick", 0, 0}, steps = {"step", 0, 0}, checked = {"step_checked", 0, 0}, tables = {"check_tables", 0, 0},
                     moves = {"move", 0, 0}, lists = {"move_over_list", 0, 0}, collects = {"collected", 0, 0},
                     lengths = {"lengths, ground and room", 0, 0}, windows = {"heights, columns and air", 0, 0},
-                    falling = {"step_falling", 0, 0}, records_kept = {"fall records", 0, 0};
+                    falling = {"step_falling", 0, 0}, records_kept = {"fall records", 0, 0}, nights = {"midnight", 0, 0};
 
 static void add(struct count *c, const char *ours, const char *theirs) {
     if (strcmp(ours, theirs) == 0) {
@@ -125,6 +125,44 @@ static void step_with_fall(struct count *c, int record, const char *theirs) {
     add(c, ours, theirs);
 }
 
+/* The scene's body three times, the second time in a window that is not there: the others' answers are as alone, and a refusal hands back. */
+enum { N = BOLTJUNIPER_BODY_NUMBERS, W = BOLTJUNIPER_BODY_WORDS, A = BOLTJUNIPER_ANSWER_NUMBERS };
+
+static void midnight(const char *theirs) {
+    double numbers[3 * N] = {0}, out[3 * A + 1];
+    uint32_t words[3 * W], row[BOLTJUNIPER_WINDOW_WORDS] = {0};
+    char ours[512];
+    memcpy(row, window, sizeof window);
+    row[9] = (uint32_t)cells_len();
+    for (int k = 0; k < 3; k++) {
+        memcpy(numbers + k * N, body, 19 * sizeof *numbers);
+        words[k * W] = k == 1;
+        memcpy(words + k * W + 1, body + 38, 8 * sizeof *words);
+    }
+    for (int k = 0; k <= 3 * A; k++) out[k] = -1;
+    uint32_t refusal = boltjuniper_midnight(records, 20 * (size_t)body[46], shapes, 6 * (size_t)body[47], row, 10, 1, cells, cells_len(), numbers, 3 * N,
+                                            words, 3 * W, 3, out, 3 * A);
+    if (refusal) {
+        tick_text(ours, refusal, out);
+        add(&nights, ours, theirs);
+        return;
+    }
+    for (int k = 0; k < 3; k++) {
+        double *answer = out + k * A, given[8];
+        char back[512];
+        memcpy(given, numbers, 6 * sizeof *given), given[6] = words[3], given[7] = 0;
+        if (answer[0] == 0) {
+            tick_text(ours, 0, answer + 1);
+        } else {
+            put(ours, "given", answer + 1, 8), put(back, "given", given, 8);
+            add(&nights, ours, back);
+            sprintf(ours, "refused %d", (int)answer[0]);
+        }
+        add(&nights, ours, k == 1 ? "refused 10" : theirs);
+    }
+    add(&nights, out[3 * A] == -1 ? "kept" : "written", "kept");
+}
+
 static void tick(size_t bytes, size_t room, struct count *c, const char *theirs) {
     double out[8] = {-1, -1, -1, -1, -1, -1, -1, -1};
     char ours[512];
@@ -147,6 +185,7 @@ static void one_scene(char *theirs) {
     size_t n = 20 * (size_t)body[46], m = 6 * (size_t)body[47];
     step(&steps, boltjuniper_step, theirs);
     step_with_fall(&falling, 0, theirs);
+    midnight(theirs);
     if (!early) step(&checked, boltjuniper_step_checked, theirs);
     sprintf(ours, "%" PRIu32, boltjuniper_check_tables(records, n, shapes, m));
     add(&tables, ours, bad ? "1" : "0");
@@ -347,6 +386,29 @@ static void all_records(void) {
     a_fall(400.25, 1.5, 9, 2, 9), a_fall(400.25, most, 9, most, 9), a_fall(400.25, 0, 0, 0.5, 0); /* a drop of 0.5 in the sky */
 }
 
+/* Case A's body many times over: calls that are refused whole write nothing. */
+static void a_night(uint32_t theirs, size_t state_words, uint32_t windows_count, uint32_t bodies_count, size_t room) {
+    static double numbers[4097 * N], out[4097 * A];
+    static uint32_t words[4097 * W], rows[17 * BOLTJUNIPER_WINDOW_WORDS];
+    static const double one[12] = {0.5, 1.25, 0.5, 0.25, 0, 0, 1, 1, 0, 0.5, 0.5, 0.5};
+    static const uint32_t row[BOLTJUNIPER_WINDOW_WORDS] = {0, UINT32_MAX, 0, 2, 4, 2, (uint32_t)-64, 319, 0, 20};
+    char a[64], b[64];
+    int kept = 1;
+    for (size_t k = 0; k < 17; k++) memcpy(rows + k * BOLTJUNIPER_WINDOW_WORDS, row, sizeof row);
+    for (size_t k = 0; k < 4097; k++) memcpy(numbers + k * N, one, sizeof one), words[k * W] = k % 16, words[k * W + 4] = 3;
+    for (size_t k = 0; k < 4097 * A; k++) out[k] = -1;
+    uint32_t ours = boltjuniper_midnight(states, state_words, cube, 6, rows, 17 * BOLTJUNIPER_WINDOW_WORDS, windows_count, ground, 20, numbers, 4097 * N,
+                                         words, 4097 * W, bodies_count, out, room);
+    for (size_t k = 0; k < 4097 * A; k++) kept &= out[k] == -1;
+    sprintf(a, "refused %" PRIu32 ", kept %d", ours, kept), sprintf(b, "refused %" PRIu32 ", kept %d", theirs, theirs != 0 || bodies_count == 0);
+    add(&nights, a, b);
+}
+
+static void all_nights(void) {
+    a_night(0, 40, 16, 4096, 4096 * A), a_night(0, 40, 0, 0, 0), a_night(14, 40, 16, 4097, 4097 * A), a_night(14, 40, 17, 4096, 4096 * A);
+    a_night(11, 40, 16, 4096, 4096 * A - 1), a_night(14, 40, 17, 4096, 0), a_night(1, 39, 16, 4096, 4096 * A), a_night(1, 39, 17, 4097, 0);
+}
+
 int main(void) {
     FILE *f = fopen("crates/replay/stdout", "r");
     if (!f) return 2;
@@ -364,7 +426,9 @@ int main(void) {
     beyond(400.25);
     beyond(-100.75);
     all_records();
-    const struct count *all[] = {&ticks, &steps, &checked, &tables, &moves, &lists, &collects, &lengths, &windows, &falling, &records_kept};
+    all_nights();
+    const struct count *all[] = {&ticks, &steps, &checked, &tables, &moves, &lists, &collects, &lengths, &windows, &falling, &records_kept,
+                                 &nights};
     int bad = 0;
     for (size_t k = 0; k < sizeof all / sizeof *all; k++) bad |= tell(all[k]);
     return bad;

@@ -1,8 +1,10 @@
 #!/usr/bin/env python3
 """Holds the functions of hosts/boltjuniper.py to the stored answers of the original Rust (docs/VECTORS.md). Run by hosts/run."""
+import array
 import os
 import struct
 import sys
+import threading
 
 sys.dont_write_bytecode = True
 HERE = os.path.dirname(os.path.abspath(__file__))
@@ -74,7 +76,7 @@ def as_numpy(a):
 
 COUNTS = {name: Count(name) for name in ("tick", "ticks", "step", "step_checked", "steps", "check_tables", "move", "move_over_list", "collected",
                                          "move over what it collects", "step of numpy's arrays", "heights, columns and air", "two ticks at a door",
-                                         "arrays as they are", "step_falling", "fall records")}
+                                         "arrays as they are", "step_falling", "fall records", "midnight", "midnight's refusals")}
 
 
 def one_scene(name, theirs):
@@ -89,6 +91,7 @@ def one_scene(name, theirs):
     COUNTS["step"].add(name, tick_text(asked(b.step, tables, window, body)), theirs)
     fallen = asked(b.step_falling, tables, window, body)
     COUNTS["step_falling"].add(name, tick_text(fallen if isinstance(fallen, b.Refused) else fallen[0]), theirs)
+    one_midnight(name, tables, window, body, theirs)
     COUNTS["steps"].add(name, [tick_text(t) for t in b.steps(tables, window, [body] * 3)], [theirs] * 3)
     COUNTS["check_tables"].add(name, asked(b.check_tables, tables), b.Refused(1) if theirs == "refused 1" else None)
     early = theirs in ("refused 1", "refused 2")
@@ -100,6 +103,24 @@ def one_scene(name, theirs):
     over_collected(name, tables, window, body)
     if numpy:
         COUNTS["step of numpy's arrays"].add(name, tick_text(asked(b.step, *parts(scene, as_numpy))), theirs)
+
+
+def one_midnight(name, tables, window, body, theirs):
+    """The scene's body three times, the second time in a window that is not there: the others' answers are as alone, and a refusal hands back."""
+    rows = asked(b.midnight, tables, *b.window_rows([window]), *b.body_rows([body] * 3, [0, 1, 0]))
+    if theirs == "refused 1":
+        COUNTS["midnight"].add(name, rows, b.Refused(1))
+        return
+    answers = [b.answered(row) for row in rows]
+    COUNTS["midnight"].add(name, [tick_text(tick) for tick, _ in answers], [theirs, "refused 10", theirs])
+    given = bits([*body.numbers[:6], float(body.words[0]), 0.0, 0.0, 0.0])
+    for row, (tick, fall) in zip(rows, answers):
+        if isinstance(tick, b.Refused):
+            COUNTS["midnight"].add(name, bits([*numbers_in(row)[1:9], *fall]), given)
+
+
+def numbers_in(row):
+    return [float(n) for part in row for n in (part if hasattr(part, "__len__") else (part,))]
 
 
 def over_collected(name, tables, window, body):
@@ -212,6 +233,56 @@ def records():
         count.add(what, bits(b.step_falling(tables, window, given, b.Fall(*fall))[1]), bits(after))
 
 
+def midnight():
+    """Case A many times over: calls that are refused whole write nothing; the rest of the buffer stays; two threads answer as one."""
+    count = COUNTS["midnight's refusals"]
+    tables, window, body = parts(example("case-a"))
+    rows, cells = b.window_rows([window] * 17)
+    numbers, words = b.body_rows([body._replace(age=k) for k in range(4097)], [k % 16 for k in range(4097)])
+    wrong = array.array("I", tables.records)
+    wrong[39] = 14
+
+    def called(windows, bodies, room, records=tables.records):
+        out = array.array("d", [7.0]) * room
+        told = asked(b.midnight, b.Tables(records, tables.shapes), rows[:windows * 10], cells, numbers[:bodies * 21], words[:bodies * 9], out)
+        return (told.number if isinstance(told, b.Refused) else 0), out
+
+    def refused(what, theirs, *call):
+        told, out = called(*call)
+        count.add(what, (told, all(x == 7 for x in out)), (theirs, True))
+
+    refused("4,097 bodies", 14, 16, 4097, 4097 * 11)
+    refused("17 windows", 14, 17, 4096, 4096 * 11)
+    refused("a number short", 11, 16, 4096, 4096 * 11 - 1)
+    refused("14 before 11", 14, 17, 4097, 0)
+    refused("a wrong word", 1, 16, 4096, 4096 * 11, wrong)
+    refused("1 before 14", 1, 17, 4097, 0, wrong)
+    refused("nothing at all", 0, 0, 0, 5)
+    told, out = called(16, 4096, 4096 * 11 + 5)
+    alone = bits([0.0, 0.75, 1.0, 0.5, 0.125, 0.0, 0.0, 1.0, 0.0, 0.0, 0.25])
+    count.add("4,096 bodies", (told, {bits(out[k:k + 11]) for k in range(0, 4096 * 11, 11)}, list(out[4096 * 11:])), (0, {alone}, [7.0] * 5))
+    short = asked(b.midnight, tables, rows[:10], cells, numbers[:41], words[:18])
+    count.add("a row cut short", [b.answered(row)[0] for row in short], [b.step(tables, window, body), b.Refused(3)])
+    halves, both = memoryview(array.array("d", [7.0]) * (4096 * 11)), []
+    for first, last in (0, 2048), (2048, 4096):
+        part = (rows[:160], cells, numbers[first * 21:last * 21], words[first * 9:last * 9], halves[first * 11:last * 11])
+        both.append(threading.Thread(target=b.midnight, args=(tables, *part)))
+    for thread in both:
+        thread.start()
+    for thread in both:
+        thread.join()
+    count.add("two threads", bits(halves), bits(out[:4096 * 11]))
+    if numpy:
+        lent = [as_numpy(a) for a in (rows[:160], cells, numbers[:4096 * 21], words[:4096 * 9])]
+        told = b.midnight(tables, lent[0].reshape(16, 10), lent[1], lent[2].reshape(4096, 21), lent[3].reshape(4096, 9))
+        count.add("numpy's arrays", (told["feet"][4095].tolist(), set(told["landed"]), told["refusal"].sum()), ([0.75, 1.0, 0.5], {0.25}, 0))
+    try:
+        b.midnight(tables, rows[:10], cells, numbers[:21], words[:9], memoryview(bytes(88)).cast("d"))
+        count.add("a buffer that may only be read", "taken", "ValueError")
+    except ValueError:
+        count.add("a buffer that may only be read", "ValueError", "ValueError")
+
+
 def doors():
     """What docs/MODERATORS.md says of two ticks at a door: the first ends one rounding inside it, the second behind it."""
     first, second = example("door-1"), example("door-2")
@@ -260,6 +331,7 @@ def main():
     case_a()
     windows()
     records()
+    midnight()
     doors()
     arrays()
     if not numpy:

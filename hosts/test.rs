@@ -112,6 +112,60 @@ fn fall_records(falls: &mut Count) {
     }
 }
 
+// The scene's body three times, the second time in a window that is not there: the others' answers are as alone, and a refusal hands back.
+fn nights(count: &mut Count, name: &str, t: Tables, w: Window, body: &Body, theirs: &str) {
+    let row = WindowRow { origin: w.origin, sizes: w.sizes, lowest: w.lowest, highest: w.highest, first: 0, count: w.cells.len() as u32 };
+    let fall = Fall { sum: 1.5, landed: 2.5 };
+    let (numbers, words): (Vec<_>, Vec<_>) = [0, 1, 0].iter().map(|&k| body.row(fall, k)).unzip();
+    let mut out = [[7.0; 11]; 4];
+    let told = midnight(t, &[row], w.cells, &numbers, &words, &mut out);
+    if theirs == "refused 1" {
+        count.add(name, &format!("{told:?} {}", out == [[7.0; 11]; 4]), "Err(1) true");
+        return;
+    }
+    count.add(name, &format!("{told:?} {}", out[3] == [7.0; 11]), "Ok(()) true");
+    for (k, row) in out[..3].iter().enumerate() {
+        let (tick, after) = answered(row);
+        count.add(name, &tick_text(tick), if k == 1 { "refused 10" } else { theirs });
+        if tick.is_err() {
+            let given = [&body.numbers[..6], &[f64::from(body.words[0]), 0.0, 1.5, 2.5]].concat();
+            count.add(name, &bits(&row[1..]), &bits(&given));
+        } else {
+            let alone = step_falling(t, w, body, fall).map(|(_, fall)| fall);
+            count.add(name, &format!("{alone:?}"), &format!("{:?}", Ok::<Fall, Refusal>(after)));
+        }
+    }
+}
+
+// Calls that are refused whole: nothing is written.
+fn whole_nights(count: &mut Count) {
+    let mut records = [0; 40];
+    (records[0], records[20], records[28], records[39]) = (1, 3, 1, 15);
+    let mut wrong = records;
+    wrong[39] = 14;
+    let shapes = [0.0, 0.0, 0.0, 1.0, 1.0, 1.0];
+    let cells: [u32; 20] = std::array::from_fn(|k| !(8..16).contains(&k) as u32);
+    let row = WindowRow { origin: [0, -1, 0], sizes: [2, 4, 2], lowest: -64, highest: 319, first: 0, count: 20 };
+    let mut numbers = [0.0; 19];
+    numbers[..12].copy_from_slice(&[0.5, 1.25, 0.5, 0.25, 0.0, 0.0, 1.0, 1.0, 0.0, 0.5, 0.5, 0.5]);
+    let (numbers, words) = Body { numbers, words: [0, 3, 0, 0, 0, 0], age: 0 }.row(Fall::default(), 0);
+    let mut refused = |what: &str, records: &[u32], windows: usize, bodies: usize, room: usize, theirs: Result<(), Refusal>| {
+        let mut out = vec![[7.0; 11]; room];
+        let t = Tables { records, shapes: &shapes };
+        let told = midnight(t, &vec![row; windows], &cells, &vec![numbers; bodies], &vec![words; bodies], &mut out);
+        let kept = out.iter().all(|r| *r == [7.0; 11]);
+        count.add(what, &format!("{told:?} {kept}"), &format!("{theirs:?} {}", theirs.is_err() || bodies == 0));
+    };
+    refused("4,096 bodies", &records, 16, 4096, 4096, Ok(()));
+    refused("4,097 bodies", &records, 16, 4097, 4097, Err(14));
+    refused("17 windows", &records, 17, 4096, 4096, Err(14));
+    refused("a row short", &records, 16, 4096, 4095, Err(11));
+    refused("14 before 11", &records, 17, 4096, 0, Err(14));
+    refused("a wrong word", &wrong, 16, 4096, 4096, Err(1));
+    refused("1 before 14", &wrong, 17, 4097, 0, Err(1));
+    refused("nothing at all", &records, 0, 0, 1, Ok(()));
+}
+
 // Case A of the requirements: what its step does to the box; its window with other words, sizes, heights and air; and its body beyond the world.
 fn case_a(moves: &mut Count, windows: &mut Count) {
     let mut records = [0; 40];
@@ -168,7 +222,7 @@ fn case_a(moves: &mut Count, windows: &mut Count) {
 fn main() {
     let stored = std::fs::read_to_string("crates/replay/stdout").unwrap();
     let (scenes, calls): (Vec<&str>, Vec<&str>) = stored.lines().partition(|l| l.starts_with(|c: char| c.is_ascii_digit()));
-    let [mut ticks, mut steps, mut checked, mut tables, mut moves, mut lists, mut windows, mut falls] = std::array::from_fn(|_| Count::default());
+    let [mut ticks, mut steps, mut checked, mut tables, mut moves, mut lists, mut windows, mut falls, mut night] = std::array::from_fn(|_| Count::default());
     // after NUMBER fall SUM LANDED: the record after the scene's tick, from a fresh one
     let after: std::collections::HashMap<&str, &str> = calls.iter().filter_map(|l| l.strip_prefix("after ")?.split_once(' ')).collect();
     for line in scenes {
@@ -187,6 +241,7 @@ fn main() {
         if let Some(record) = after.get(name) {
             falls.add(name, &fall_text(fallen), record);
         }
+        nights(&mut night, name, t, w, &s.body, theirs);
         let early = theirs == "refused 1" || theirs == "refused 2";
         tables.add(name, &check_tables(t).err().unwrap_or(0).to_string(), if theirs == "refused 1" { "1" } else { "0" });
         // A move through the window meets 1 and 2 as the step does; its step height is then 3.
@@ -212,6 +267,7 @@ fn main() {
     }
     case_a(&mut moves, &mut windows);
     fall_records(&mut falls);
+    whole_nights(&mut night);
 
     let fine = [
         ticks.tell("tick"),
@@ -222,6 +278,7 @@ fn main() {
         lists.tell("move_over_list"),
         windows.tell("heights, columns and air"),
         falls.tell("step_falling"),
+        night.tell("midnight"),
     ];
     std::process::exit(fine.contains(&false) as i32);
 }

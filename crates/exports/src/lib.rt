@@ -3,6 +3,7 @@
 mod drift;
 mod falling;
 mod file;
+mod night;
 mod over;
 mod room;
 mod through;
@@ -11,6 +12,7 @@ mod tick;
 pub use drift::boltjuniper_item_current;
 pub use falling::boltjuniper_step_falling;
 pub use file::boltjuniper_tick;
+pub use night::boltjuniper_midnight;
 pub use over::boltjuniper_move_over;
 pub use over::boltjuniper_move_over_list;
 pub use through::boltjuniper_move;

@@ -1,3 +1,2 @@
 -- Laws of this crate's definitions, on plain values.
 pub mod Scenes
-pub mod Signs

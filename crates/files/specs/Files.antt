@@ -1,16 +1,15 @@
 -- Which files are scenes, and the counts and the window that a scene holds. Document 01's words stand in quotes.
 use mathlib.Core.Bool.{Bool, not, _&&_, _||_}
 use mathlib.Core.List.{List}
-use Prim.Native.Nat.{ℕ, _+_, _-_, _*_}
-use lib.Dec.{eqb, leb, ltb}
-use lib.IntN.{ℤ, pos, negsuc}
+use Prim.Native.Nat.{ℕ, _+_, _*_}
+use lib.Dec.{eqb, leb}
 use lib.ListN.{length}
 use Rattle.base.specs.Choose.{choose}
 use Rattle.base.specs.Ask.{Ask, refused, found}
 use Rattle.window.specs.declared.Sizes.{Sizes}
 use Rattle.window.specs.declared.Window.{Window}
 use Rattle.window.specs.Window.{cellCount, columnCount, sizesFit}
-use Rattle.window.specs.Numbers.{windowOf}
+use Rattle.lent_words.specs.Words.{windowFrom}
 use Rattle.blocks.specs.declared.Part.{Part}
 use Rattle.blocks.specs.Blocks.{partWord, partFits, endOf, bodyPart, recordPart, boxPart, windowPart, cellPart}
 use Rattle.files.specs.declared.Counts.{Counts}
@@ -26,18 +25,10 @@ bodyWord file i = partWord file bodyPart i
 unfoldable pub flapFits : List ℕ → Bool
 flapFits file = not (eqb (bodyWord file 44) 0) || (eqb (bodyWord file 24) 0 && eqb (bodyWord file 25) 0)
 
--- ---- the window: "signed origin, sizes", then the two heights; its air state is the body's
-
--- a word as a signed number: two's complement
-unfoldable pub signedWord : ℕ → ℤ
-signedWord w = choose (ltb w 2147483648) (pos w) (negsuc (4294967295 - w))
+-- ---- the window, whose air state is the body's
 
 unfoldable pub windowIn : List ℕ → Part → Window
-windowIn file p =
-    windowOf
-    (signedWord (partWord file p 0)) (signedWord (partWord file p 1)) (signedWord (partWord file p 2))
-    (partWord file p 3) (partWord file p 4) (partWord file p 5)
-    (signedWord (partWord file p 6)) (signedWord (partWord file p 7)) (bodyWord file 45)
+windowIn file p = windowFrom (partWord file p) (bodyWord file 45)
 
 -- ---- "counts and sizes within limits": "States: 1 to 4,096. Boxes: at most 16,384", "Window sizes: 1 to 64 each"
 

@@ -15,7 +15,7 @@ ghost use mathlib.Core.Bool.{_&&_};
 ghost use Rattle.base.specs.Choose.{choose};
 ghost use Rattle.base.specs.Ask.{refused, found};
 ghost use Rattle.blocks.specs.Blocks.{partFits, bodyPart, recordPart, boxPart, windowPart, cellPart};
-ghost use Rattle.files.specs.Files.{bodyWord, flapFits, signedWord, windowIn, countsFit, countsOf, countsAsked, partsFit, blocksFor, blocksFit, isScene};
+ghost use Rattle.files.specs.Files.{bodyWord, flapFits, windowIn, countsFit, countsOf, countsAsked, partsFit, blocksFor, blocksFit, isScene};
 
 // How many states, boxes and cells a scene has.
 pub struct Counts {
@@ -50,30 +50,19 @@ fn flap_fits(file: &[u8]) -> bool
     false
 }
 
-// A word as a signed number: two's complement.
-fn signed_of(w: u32) -> i32
-    ensures { λ r. ⌜ r ≡ signedWord w ⌝ }
-{
-    if w < 2147483648 {
-        return w as i32;
-    }
-    let n = (4294967295 - w) as i32;
-    -1 - n
-}
-
 fn window_at(file: &[u8], p: Part) -> Window
     ensures { λ r. ⌜ r ≡ windowIn (now (file .entry)) p ⌝ }
 {
-    let ox = signed_of(part_word(file, p, 0));
-    let oy = signed_of(part_word(file, p, 1));
-    let oz = signed_of(part_word(file, p, 2));
+    let ox = part_word(file, p, 0);
+    let oy = part_word(file, p, 1);
+    let oz = part_word(file, p, 2);
     let sx = part_word(file, p, 3);
     let sy = part_word(file, p, 4);
     let sz = part_word(file, p, 5);
-    let lowest = signed_of(part_word(file, p, 6));
-    let highest = signed_of(part_word(file, p, 7));
+    let lowest = part_word(file, p, 6);
+    let highest = part_word(file, p, 7);
     let air = body_word(file, 45);
-    window::window_of(ox, oy, oz, sx, sy, sz, lowest, highest, air)
+    lent_words::window_from(ox, oy, oz, sx, sy, sz, lowest, highest, air)
 }
 
 fn sizes_at(file: &[u8], p: Part) -> Sizes

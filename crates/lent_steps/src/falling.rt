@@ -7,7 +7,7 @@ ghost use Rattle.base.specs.Loop.{stored};
 ghost use Rattle.lent_steps.specs.Falling.{fallingNumbers, fallingWritten};
 
 // Ten numbers, as `fallingNumbers` has them; one whose place is not there is dropped.
-fn put_falling(out: &mut [f64], a: FallingAnswer)
+pub fn put_falling(out: &mut [f64], a: FallingAnswer)
     ensures { λ _. ⌜ now (out .exit) ≡ stored (now (out .entry)) 0 (fallingNumbers a) ⌝ }
 {
     put_step(out, a.step);

@@ -2,6 +2,7 @@
 mod falling;
 
 pub use falling::falling_into;
+pub use falling::put_falling;
 use lent_numbers::put;
 use lent_numbers::put_vec;
 use step::StepAnswer;
@@ -24,7 +25,7 @@ fn kind_number(kind: LiquidKind) -> u32
     }
 }
 
-fn float_of(n: u32) -> f64
+pub fn float_of(n: u32) -> f64
     ensures { λ r. ⌜ r ≡ ofInt binary64 (pos n) ⌝ }
 {
     n as f64

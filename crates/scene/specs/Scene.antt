@@ -14,16 +14,13 @@ use Rattle.bodies.specs.Numbers.{motionFrom, bodyFrom, rulesFrom}
 use Rattle.step.specs.declared.StepAnswer.{StepAnswer}
 use Rattle.step.specs.Answers.{stepEntry}
 use Rattle.text.specs.Text.{textOf}
+use Rattle.lent_words.specs.Words.{wideOf}
 use Rattle.blocks.specs.declared.Part.{Part}
 use Rattle.blocks.specs.Blocks.{partWord, recordPart, boxPart, windowPart, cellPart}
 use Rattle.files.specs.declared.Counts.{Counts}
 use Rattle.files.specs.Files.{bodyWord, windowIn, countsOf, isScene}
 
 -- ---- "Body payload, f64 low word first"
-
--- two words as one number, the low word first
-abbrev pub wideOf : ℕ → ℕ → ℕ
-wideOf low high = low + high * 4294967296
 
 -- number k of the body's f64
 unfoldable pub bodyFloat : List ℕ → ℕ → Float

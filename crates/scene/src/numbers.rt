@@ -1,15 +1,9 @@
 // The numbers of a scene's body: 19 numbers, 6 words and its age. Which is which is for `bodies` to say.
 use files::body_word;
+use lent_words::join;
 ghost use mathlib.Core.Path.{_≡_};
 ghost use Rattle.base.specs.Loop.{listed};
-ghost use Rattle.scene.specs.Scene.{wideOf, bodyFloat, lateWord, ageIn};
-
-// Two words as one number, the low word first.
-fn join(low: u32, high: u32) -> u64
-    ensures { λ r. ⌜ r ≡ wideOf low high ⌝ }
-{
-    low as u64 + high as u64 * 4294967296
-}
+ghost use Rattle.scene.specs.Scene.{bodyFloat, lateWord, ageIn};
 
 // Number k of the body's f64.
 fn body_float(file: &[u8], k: u8) -> f64

@@ -1,8 +1,8 @@
--- `files::signed_of` meets its contract. Assumes nothing.
-use Rattle.files.proofs.Signs.{low, high}
+-- `lent_words::signed_of` meets its contract. Assumes nothing.
+use Rattle.lent_words.proofs.Signs.{low, high}
 use borrow.Author.Needs.{needs}
-use Rattle.files.proofs.signed_of.Statement.{statement}
-use Rattle.files.proofs.signed_of.Tie as tie
+use Rattle.lent_words.proofs.signed_of.Statement.{statement}
+use Rattle.lent_words.proofs.signed_of.Tie as tie
 
 cast-result : tie.Need-cast-result
 cast-result c = search needs

@@ -9,7 +9,7 @@ use mir.Val.{SFits, toZ, ofZ}
 use mir.ValLaws.{toZ-pos, toZ-ofZ}
 use borrow.Author.Tests.{lt-ltb, le-ltb}
 use Rattle.base.specs.Choose.{choose}
-use Rattle.files.specs.Files.{signedWord}
+use Rattle.lent_words.specs.Words.{signedWord}
 
 pub low : (w : ℕ) → w < 2147483648 → toZ w32 w ≡ signedWord w
 unfolding signedWord choose

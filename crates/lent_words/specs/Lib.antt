@@ -1,0 +1,2 @@
+-- The definitions of lent words.
+pub mod Words

@@ -1,0 +1,6 @@
+-- Laws of the midnight run.
+pub mod Parts
+pub mod Checks
+pub mod Bodies
+pub mod Turns
+pub mod Orders

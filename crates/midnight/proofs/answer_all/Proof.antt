@@ -1,0 +1,86 @@
+-- `midnight::answer_all` meets its contract. Assumes nothing.
+use native.Mathlib.Omega.{arith}
+use mathlib.Core.Path.{_≡_, refl, sym, ap, _∙_}
+use mathlib.Core.List.{List}
+use Prim.Native.Nat.{ℕ, _-_, _*_, _≤_}
+use lib.ListN.{length}
+use Rattle.base.specs.Loop.{listed, stored}
+use Rattle.midnight.specs.Rows.{Row, rowWith, rowAt, answerWidth}
+use Rattle.midnight.specs.Answers.{Lent, lentWith}
+use Rattle.midnight.specs.Run.{bodiesOf, rowsOf}
+use Rattle.midnight.proofs.Parts.{stored-length, listed-length}
+use Rattle.midnight.proofs.Turns.{rows-begin, rows-turn, rows-end}
+use borrow.Author.Needs.{needs}
+use Rattle.midnight.proofs.answer_all.Statement.{statement}
+use Rattle.midnight.proofs.answer_all.Tie as tie
+
+abbrev Inv-loop : tie.InvT-loop
+Inv-loop records shapes windows count cells numbers words bodies out₀ checked i₀ out i =
+    (i ≤ bodies) × (length out ≡ length out₀)
+    × (stored out (i * answerWidth) (rowsOf (lentWith records shapes windows count cells) (listed (rowAt numbers words) (bodies - i) i)) ≡ stored out₀ 0 (rowsOf (lentWith records shapes windows count cells) (bodiesOf numbers words bodies)))
+
+abbrev μ-loop : tie.MeasureT-loop
+μ-loop records shapes windows count cells numbers words bodies out₀ checked i₀ out i = bodies - i
+
+check-all-requires : tie.Need-check-all-requires Inv-loop μ-loop
+check-all-requires c κs = search needs
+
+loop-holds : tie.Need-loop-holds Inv-loop μ-loop
+loop-holds c = (search needs, refl, rows-begin _ _ _ _)
+
+numbers-at-requires : tie.Need-numbers-at-requires Inv-loop μ-loop
+numbers-at-requires c κs = search needs
+
+words-at-requires : tie.Need-words-at-requires Inv-loop μ-loop
+words-at-requires c κs = search needs
+
+slice-aggregate-answer-of : tie.Need-slice-aggregate-answer-of Inv-loop μ-loop
+slice-aggregate-answer-of c = sym (ap (λ (l : List ℕ). length l) (c .before .before .before .before .before .check-all .ensures) ∙ listed-length _ 16 0)
+
+answer-of-requires : tie.Need-answer-of-requires Inv-loop μ-loop
+answer-of-requires c κs = search needs
+
+put-row-requires : tie.Need-put-row-requires Inv-loop μ-loop
+put-row-requires c κs = search needs
+
+add-i : tie.Need-add-i Inv-loop μ-loop
+add-i c = omega (arith, c .before .before .before .before .before .before .before .before .loop-test .taken, c .before .before .before .before .before .before .before .before .before .before .before .before .before .before .before .before .before .before .fits .bodies)
+
+loop-less : tie.Need-loop-less Inv-loop μ-loop
+loop-less c = search needs
+
+loop-again : tie.Need-loop-again Inv-loop μ-loop
+loop-again c =
+    let at-loop = c .before .before .before .before .before .before .before .before .before .loop in
+    let a = c .before .before .before .before .before .before .before .before .before .before .before .before .before .before .before .before .before .before .args in
+    let lent : Lent = lentWith (a .records .now) (a .shapes .now) (a .windows .now) (a .count) (a .cells .now) in
+    let rows : ℕ → Row = rowAt (a .numbers .now) (a .words .now) in
+    let said = rw (c .before .before .before .before .before .before .words-at .ensures, c .before .before .before .before .before .before .before .numbers-at .ensures) at (c .before .before .before .before .answer-of .ensures) in
+    (search needs,
+    rw (c .before .before .put-row .ensures) (stored-length (at-loop .out) _ _ ∙ at-loop .inv .1),
+    rows-turn lent rows (a .bodies) (at-loop .i) (at-loop .out) _ (c .before .before .before .before .before .before .before .before .before .before .check-all .result) (c .before .before .before .before .before .before .before .before .before .before .before .before .before .before .before .before .before .before .pre) (c .before .before .before .before .before .before .before .before .before .before .check-all .ensures) _ (c .before .before .before .before .answer-of .result) said (c .before .before .put-row .ensures) (c .before .before .before .before .before .before .before .before .loop-test .taken) (at-loop .inv .2))
+
+same-length : tie.Need-same-length Inv-loop μ-loop
+same-length c = c .before .loop .inv .1
+
+returns : tie.Need-returns Inv-loop μ-loop
+returns c = rows-end _ _ _ (c .before .loop .i) (c .before .loop .out) _ (c .loop-test .left) (c .before .loop .inv .2)
+
+pub answer-all-spec : {M : Type 1} → statement M
+answer-all-spec =
+    tie.close
+    (tie.spec
+    Inv-loop
+    μ-loop
+    check-all-requires
+    loop-holds
+    numbers-at-requires
+    words-at-requires
+    slice-aggregate-answer-of
+    answer-of-requires
+    put-row-requires
+    add-i
+    loop-less
+    loop-again
+    same-length
+    returns)

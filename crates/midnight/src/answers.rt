@@ -1,0 +1,134 @@
+// One body's answer, and its row in the buffer.
+use crate::rows::scene_words;
+use crate::rows::wide;
+use crate::windows::cells_in;
+use crate::windows::window_at;
+use crate::WindowRow;
+use bodies::MotionNumbers;
+use falls::Fall;
+use falls::FallingAnswer;
+use lent_numbers::put;
+use lent_steps::float_of;
+use lent_steps::put_falling;
+ghost use mathlib.Core.Path.{_≡_};
+ghost use Prim.Native.Nat.{_*_, _≤_};
+ghost use lib.ListN.{getD, length};
+ghost use Rattle.base.specs.Loop.{stored};
+ghost use Rattle.tables.specs.Tables.{wordAt};
+ghost use Rattle.bodies.specs.Numbers.{numberAt};
+ghost use Rattle.lent_words.specs.Words.{wideOf};
+ghost use Rattle.falls.specs.Rule.{fallOf};
+ghost use Rattle.midnight.specs.Rows.{rowWith, isWhole, givenIn, answerWidth, answerNumbers};
+ghost use Rattle.midnight.specs.Answers.{lentWith, refusedBody, checkedStep, answerBy};
+
+fn is_whole(numbers: &[f64], words: &[u32]) -> bool
+    ensures { λ r. ⌜ r ≡ isWhole (rowWith (now (numbers .entry)) (now (words .entry))) ⌝ }
+{
+    (numbers.len() == 21) & (words.len() == 9)
+}
+
+fn given_in(numbers: &[f64], words: &[u32]) -> MotionNumbers
+    ensures { λ r. ⌜ r ≡ givenIn (rowWith (now (numbers .entry)) (now (words .entry))) ⌝ }
+{
+    bodies::motion_from(numbers, scene_words(words))
+}
+
+fn fall_in(numbers: &[f64]) -> Fall
+    ensures { λ r. ⌜ r ≡ fallOf (numberAt (now (numbers .entry)) 19) (numberAt (now (numbers .entry)) 20) ⌝ }
+{
+    let sum = bodies::number_at(numbers, 19);
+    let landed = bodies::number_at(numbers, 20);
+    Fall { sum, landed }
+}
+
+// A refused body: its motion and fall record as given.
+fn refused_body(refusal: u32, numbers: &[f64], words: &[u32]) -> FallingAnswer
+    ensures { λ r. ⌜ r ≡ refusedBody refusal (rowWith (now (numbers .entry)) (now (words .entry))) ⌝ }
+{
+    let given = given_in(numbers, words);
+    let fall = fall_in(numbers);
+    falls::refused_falling(refusal, given, fall)
+}
+
+fn age_in(words: &[u32]) -> u64
+    ensures { λ r. ⌜ r ≡ wideOf (wordAt (now (words .entry)) 0 1) (wordAt (now (words .entry)) 0 2) ⌝ }
+{
+    let low = tables::word(words, 0, 1);
+    let high = tables::word(words, 0, 2);
+    lent_words::join(low, high)
+}
+
+// The step in a window that passed its check.
+fn checked_step(
+    records: &[u32],
+    shapes: &[f32],
+    cells: &[u32],
+    w: WindowRow,
+    numbers: &[f64],
+    words: &[u32],
+) -> FallingAnswer
+    ensures { λ r. ⌜ r ≡ checkedStep (now (records .entry)) (now (shapes .entry)) (now (cells .entry)) w (rowWith (now (numbers .entry)) (now (words .entry))) ⌝ }
+{
+    let own = cells_in(cells, w);
+    let last = scene_words(words);
+    let rules = bodies::rules_from(numbers, last);
+    let body = bodies::body_from(numbers, last);
+    let given = bodies::motion_from(numbers, last);
+    let age = age_in(words);
+    let fall = fall_in(numbers);
+    falls::step_falling_checked(records, shapes, own, w.window, rules, body, given, age, fall)
+}
+
+// What the check of a window said; 2 for one that is none.
+fn refusal_of(checked: &[u32], j: u32) -> u32
+    ensures { λ r. ⌜ r ≡ getD (now (checked .entry)) j 2 ⌝ }
+{
+    let j = wide(j);
+    if j < checked.len() { checked[j] } else { 2 }
+}
+
+// 3, then 10, then 2, then what the step gives.
+pub(crate) fn answer_of(
+    records: &[u32],
+    shapes: &[f32],
+    windows: &[u32],
+    count: u32,
+    cells: &[u32],
+    checked: &[u32],
+    numbers: &[f64],
+    words: &[u32],
+) -> FallingAnswer
+    ensures { λ r. ⌜ r ≡ answerBy (getD (now (checked .entry)) (wordAt (now (words .entry)) 0 0) 2) (lentWith (now (records .entry)) (now (shapes .entry)) (now (windows .entry)) count (now (cells .entry))) (rowWith (now (numbers .entry)) (now (words .entry))) ⌝ }
+{
+    if is_whole(numbers, words) {
+        let named = tables::word(words, 0, 0);
+        if named < count {
+            if refusal_of(checked, named) == 0 {
+                let w = window_at(windows, named);
+                return checked_step(records, shapes, cells, w, numbers, words);
+            }
+            return refused_body(2, numbers, words);
+        }
+        return refused_body(10, numbers, words);
+    }
+    refused_body(3, numbers, words)
+}
+
+// A row of the buffer, as `answerNumbers` has it.
+fn put_answer(row: &mut [f64], a: FallingAnswer)
+    requires { ⌜ 1 ≤ length (now row) ⌝ }
+    ensures { λ _. ⌜ now (row .exit) ≡ stored (now (row .entry)) 0 (answerNumbers a) ⌝ }
+{
+    put(row, 0, float_of(a.step.refusal));
+    put_falling(&mut row[1..], a);
+}
+
+// The answer of body i, in row i of a buffer that has it.
+pub(crate) fn put_row(out: &mut [f64], i: u32, a: FallingAnswer)
+    ensures { λ _. ⌜ now (out .exit) ≡ stored (now (out .entry)) (i * answerWidth) (answerNumbers a) ⌝ }
+{
+    let at = wide(i) * 11;
+    if at < out.len() {
+        put_answer(&mut out[at..], a);
+    }
+}

@@ -1,0 +1,101 @@
+// The midnight run: up to 4,096 bodies over up to 16 windows and one table. Tables are checked once and each window once, however many bodies
+// name it. rows.rt reads rows of lent numbers and words, windows.rt checks windows, answers.rt has one body's answer; here is the call whole.
+// Each answer is the single step's, and follows its body in any order (proofs/Orders.antt).
+mod answers;
+mod rows;
+mod windows;
+
+use window::Window;
+ghost use mathlib.Core.Path.{_≡_};
+ghost use Prim.Native.Nat.{_≤_};
+ghost use lib.Dec.{eqb};
+ghost use lib.ListN.{length};
+ghost use Rattle.base.specs.Choose.{choose};
+ghost use Rattle.base.specs.Loop.{stored};
+ghost use Rattle.table_check.specs.Check.{tableRefusal};
+ghost use Rattle.midnight.specs.Answers.{lentWith};
+ghost use Rattle.midnight.specs.Run.{countRefusal, runRefusal, bodiesOf, rowsOf, runWritten};
+
+// A window, and where its own words begin among those of all windows, and how many they are.
+pub struct WindowRow {
+    pub window: Window,
+    pub first: u32,
+    pub count: u32,
+}
+
+// 14, then 11, or 0.
+fn count_refusal(windows: u32, bodies: u32, room: usize) -> u32
+    ensures { λ r. ⌜ r ≡ countRefusal windows bodies room ⌝ }
+{
+    if windows > 16 {
+        return 14;
+    }
+    if bodies > 4096 {
+        return 14;
+    }
+    if room < rows::wide(bodies) * 11 {
+        return 11;
+    }
+    0
+}
+
+// 1, then 14, then 11, or 0.
+fn run_refusal(records: &[u32], shapes: &[f32], windows: u32, bodies: u32, room: usize) -> u32
+    ensures { λ r. ⌜ r ≡ choose (eqb (tableRefusal (now (records .entry)) (now (shapes .entry))) 0) (countRefusal windows bodies room) 1 ⌝ }
+{
+    if table_check::check_tables(records, shapes) != 0 {
+        return 1;
+    }
+    count_refusal(windows, bodies, room)
+}
+
+// The answers of so many bodies, each in its row.
+fn answer_all(
+    records: &[u32],
+    shapes: &[f32],
+    windows: &[u32],
+    count: u32,
+    cells: &[u32],
+    numbers: &[f64],
+    words: &[u32],
+    bodies: u32,
+    out: &mut [f64],
+)
+    requires { ⌜ count ≤ 16 ⌝ }
+    ensures { λ _. ⌜ now (out .exit) ≡ stored (now (out .entry)) 0 (rowsOf (lentWith (now (records .entry)) (now (shapes .entry)) (now (windows .entry)) count (now (cells .entry))) (bodiesOf (now (numbers .entry)) (now (words .entry)) bodies)) ⌝ }
+{
+    let checked = windows::check_all(windows, count, cells);
+    let mut i = 0u32;
+    while i < bodies {
+        let body = rows::numbers_at(numbers, i);
+        let named = rows::words_at(words, i);
+        let a = answers::answer_of(records, shapes, windows, count, cells, &checked, body, named);
+        answers::put_row(out, i, a);
+        i += 1;
+    }
+}
+
+// For hosts. Tables as ever; `windows` has ten words for each of `count` windows, over the words `cells` of all of them; `numbers` has 21 numbers
+// and `words` nine words for each of so many bodies; eleven numbers are written for each body (specs/Rows.antt has what stands where). It returns
+// 0; or 1, 14 or 11, and writes nothing.
+pub fn run(
+    records: &[u32],
+    shapes: &[f32],
+    windows: &[u32],
+    count: u32,
+    cells: &[u32],
+    numbers: &[f64],
+    words: &[u32],
+    bodies: u32,
+    out: &mut [f64],
+) -> u32
+    ensures { λ r. ⌜ r ≡ runRefusal (lentWith (now (records .entry)) (now (shapes .entry)) (now (windows .entry)) count (now (cells .entry))) bodies (length (now (out .entry))) ⌝ }
+    ensures { λ _. ⌜ now (out .exit) ≡ runWritten (lentWith (now (records .entry)) (now (shapes .entry)) (now (windows .entry)) count (now (cells .entry))) (bodiesOf (now (numbers .entry)) (now (words .entry)) bodies) (now (out .entry)) ⌝ }
+{
+    let refusal = run_refusal(records, shapes, count, bodies, out.len());
+    if refusal != 0 {
+        return refusal;
+    }
+    answer_all(records, shapes, windows, count, cells, numbers, words, bodies, out);
+    0
+}

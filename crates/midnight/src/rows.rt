@@ -1,0 +1,68 @@
+// Rows of lent numbers and words. Of a row that is not there whole, what there is of it.
+ghost use mathlib.Core.Path.{_≡_};
+ghost use lib.ListN.{take, drop};
+ghost use Rattle.midnight.specs.Rows.{rowOf, windowWidth, numberWidth, wordWidth};
+
+pub(crate) fn wide(x: u32) -> usize
+    ensures { λ r. ⌜ r ≡ x ⌝ }
+{
+    x as usize
+}
+
+// So many numbers from a place on.
+fn numbers_from(numbers: &[f64], at: usize, count: u32) -> &[f64]
+    ensures { λ r. ⌜ now r ≡ take count (drop at (now (numbers .entry))) ⌝ }
+{
+    if at < numbers.len() {
+        let left = numbers.len() - at;
+        let many = wide(count);
+        if many <= left {
+            return &numbers[at..at + many];
+        }
+        return &numbers[at..];
+    }
+    &numbers[0..0]
+}
+
+// So many words from a place on.
+pub(crate) fn words_from(words: &[u32], at: usize, count: u32) -> &[u32]
+    ensures { λ r. ⌜ now r ≡ take count (drop at (now (words .entry))) ⌝ }
+{
+    if at < words.len() {
+        let left = words.len() - at;
+        let many = wide(count);
+        if many <= left {
+            return &words[at..at + many];
+        }
+        return &words[at..];
+    }
+    &words[0..0]
+}
+
+pub(crate) fn window_row(windows: &[u32], j: u32) -> &[u32]
+    ensures { λ r. ⌜ now r ≡ rowOf windowWidth (now (windows .entry)) j ⌝ }
+{
+    words_from(windows, wide(j) * 10, 10)
+}
+
+pub(crate) fn numbers_at(numbers: &[f64], i: u32) -> &[f64]
+    ensures { λ r. ⌜ now r ≡ rowOf numberWidth (now (numbers .entry)) i ⌝ }
+{
+    numbers_from(numbers, wide(i) * 21, 21)
+}
+
+pub(crate) fn words_at(words: &[u32], i: u32) -> &[u32]
+    ensures { λ r. ⌜ now r ≡ rowOf wordWidth (now (words .entry)) i ⌝ }
+{
+    words_from(words, wide(i) * 9, 9)
+}
+
+// The words of a row behind the number of its window and its age.
+pub(crate) fn scene_words(words: &[u32]) -> &[u32]
+    ensures { λ r. ⌜ now r ≡ drop 3 (now (words .entry)) ⌝ }
+{
+    if 3 <= words.len() {
+        return &words[3..];
+    }
+    &words[0..0]
+}

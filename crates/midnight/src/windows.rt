@@ -1,0 +1,83 @@
+// Windows in rows, and their check.
+use crate::WindowRow;
+use crate::rows::wide;
+use crate::rows::window_row;
+use crate::rows::words_from;
+ghost use mathlib.Core.Path.{_≡_};
+ghost use Rattle.base.specs.Loop.{listed};
+ghost use Rattle.midnight.specs.Rows.{windowOfRow, windowAt};
+ghost use Rattle.midnight.specs.Answers.{cellsIn, refusalAt, checkedAt};
+
+// The window that a row's words are.
+fn window_of_row(words: &[u32]) -> WindowRow
+    ensures { λ r. ⌜ r ≡ windowOfRow (now (words .entry)) ⌝ }
+{
+    let ox = tables::word(words, 0, 0);
+    let oy = tables::word(words, 0, 1);
+    let oz = tables::word(words, 0, 2);
+    let sx = tables::word(words, 0, 3);
+    let sy = tables::word(words, 0, 4);
+    let sz = tables::word(words, 0, 5);
+    let lowest = tables::word(words, 0, 6);
+    let highest = tables::word(words, 0, 7);
+    let window = lent_words::window_from(ox, oy, oz, sx, sy, sz, lowest, highest, 0);
+    let first = tables::word(words, 0, 8);
+    let count = tables::word(words, 0, 9);
+    WindowRow {
+        window,
+        first,
+        count,
+    }
+}
+
+pub(crate) fn window_at(windows: &[u32], j: u32) -> WindowRow
+    ensures { λ r. ⌜ r ≡ windowAt (now (windows .entry)) j ⌝ }
+{
+    window_of_row(window_row(windows, j))
+}
+
+// A window's own words, of all that are lent.
+pub(crate) fn cells_in(cells: &[u32], row: WindowRow) -> &[u32]
+    ensures { λ r. ⌜ now r ≡ cellsIn (now (cells .entry)) row ⌝ }
+{
+    words_from(cells, wide(row.first), row.count)
+}
+
+// 0, or 2.
+fn refusal_at(windows: &[u32], cells: &[u32], j: u32) -> u32
+    ensures { λ r. ⌜ r ≡ refusalAt (now (windows .entry)) (now (cells .entry)) j ⌝ }
+{
+    let words = window_row(windows, j);
+    if words.len() == 10 {
+        let row = window_at(windows, j);
+        let end = wide(row.first) + wide(row.count);
+        if end <= cells.len() {
+            return window::check_window(cells_in(cells, row), row.window);
+        }
+        return 2;
+    }
+    2
+}
+
+// The same for a window that is one of so many; 2 beyond them.
+fn checked_at(windows: &[u32], count: u32, cells: &[u32], j: u32) -> u32
+    ensures { λ r. ⌜ r ≡ checkedAt (now (windows .entry)) (now (cells .entry)) count j ⌝ }
+{
+    if j < count {
+        return refusal_at(windows, cells, j);
+    }
+    2
+}
+
+// Each window checked, once for all bodies.
+pub(crate) fn check_all(windows: &[u32], count: u32, cells: &[u32]) -> [u32; 16]
+    ensures { λ r. ⌜ r ≡ listed (checkedAt (now (windows .entry)) (now (cells .entry)) count) 16 0 ⌝ }
+{
+    let mut checked = [2; 16];
+    let mut j = 0u32;
+    while j < 16 {
+        checked[j as usize] = checked_at(windows, count, cells, j);
+        j += 1;
+    }
+    checked
+}
