@@ -1,6 +1,6 @@
-// The scene files of data/, by number: each with what `onetick` prints of it, its lines joined by `; `. From 1000 on they are scenes of the layout
-// without heights and columns, converted (tools/convert): not each has a likeness, so a number without a file is passed over. The stored answers have
-// a line for each that must be there.
+// The scene files of data/, by number: each with what `onetick` prints of it, its lines joined by `; `, and behind them the case of its sample. From
+// 1000 on they are scenes of the layout without heights and columns, converted (tools/convert): not each has a likeness, so a number without a file is
+// passed over, and of none is the case among the original's answers. The stored answers have a line for each that must be there.
 ghost use mathlib.Core.Path.{_≡_};
 ghost use lib.ListN.{length};
 
@@ -48,12 +48,15 @@ fn put_joined(text: &[u8]) {
     }
 }
 
-fn put_answer(fd: i32) {
+fn put_answer(n: u32, fd: i32) {
     let mut file = file_room();
-    let n = io::read_full(fd, &mut file);
+    let length = io::read_full(fd, &mut file);
     let mut out = answer_room();
-    let m = scene::answer(crate::text::part(&file, 0, n), &mut out);
+    let m = scene::answer(crate::text::part(&file, 0, length), &mut out);
     put_joined(crate::text::part(&out, 0, m));
+    if n < 1000 {
+        crate::cases::put_case(crate::text::part(&file, 0, length));
+    }
 }
 
 // What a scene's line begins with: its number, and a space.
@@ -70,7 +73,7 @@ fn run(n: u32) {
         return;
     }
     put_label(n);
-    put_answer(fd);
+    put_answer(n, fd);
     libc::close(fd);
     crate::text::put(b"\n");
 }

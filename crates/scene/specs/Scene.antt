@@ -7,6 +7,7 @@ use Rattle.base.specs.Loop.{listed}
 use Rattle.floats.specs.Numbers.{zero64}
 use Rattle.boxes.specs.Boxes.{vec}
 use Rattle.tables.specs.declared.LiquidKind.the-variants.{None}
+use Rattle.drags.specs.declared.Support.the-variants.{NotAsked}
 use Rattle.bodies.specs.declared.BodyNumbers.{BodyNumbers}
 use Rattle.bodies.specs.declared.MotionNumbers.{MotionNumbers}
 use Rattle.bodies.specs.declared.Rules.{Rules}
@@ -54,12 +55,13 @@ singlesOf file p = listed (λ i. ofBits binary32 (partWord file p i)) (p .words)
 
 -- ---- the tick of a scene: "8 comes first"
 
--- there is no motion to hand back: zero, and liquid none
+-- there is no motion to hand back: zero, liquid none, and no sample asked for
 abbrev pub malformed : StepAnswer
 malformed =
     record {
       motion = record { feet = vec zero64 zero64 zero64; velocity = vec zero64 zero64 zero64; ground = 0 };
       liquid = None;
+      support = NotAsked;
       refusal = 8;
     }
 

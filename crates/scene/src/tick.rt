@@ -8,6 +8,7 @@ use crate::parts::records_of;
 use crate::parts::shapes_of;
 use bodies::MotionNumbers;
 use boxes::Vec3;
+use drags::Support;
 use files::Counted;
 use files::Counts;
 use step::StepAnswer;
@@ -39,6 +40,7 @@ fn refused_scene() -> StepAnswer
             ground: 0,
         },
         liquid: LiquidKind::None,
+        support: Support::NotAsked,
         refusal: 8,
     }
 }
