@@ -1,6 +1,6 @@
-/* Boltjuniper for hosts in C: the functions of crates/exports that a host calls, and that of crates/shown. Link
+/* Boltjuniper for hosts in C: the functions of crates/exports that a host calls, that of crates/shown, and those of crates/recorder. Link
    target/staticlib/libexports.a (`rt staticlib exports`) and libm; for boltjuniper_collected also target/staticlib/libshown.a (`rt staticlib
-   shown`).
+   shown`). A recorder needs target/staticlib/librecorder.a alone (`rt staticlib recorder`), and libm.
 
    A slice is a pointer and its number of elements, aligned as its type asks. Nothing beyond that number is read or written, what is handed
    in is only read, and `out` must not overlap it. Every call ends, and every input gets an answer: 0, or the number of a refusal
@@ -143,6 +143,21 @@ uint32_t boltjuniper_collected(const uint32_t *records, size_t records_len, cons
                                size_t cells_len, int32_t ox, int32_t oy, int32_t oz, uint32_t sx, uint32_t sy, uint32_t sz, int32_t lowest,
                                int32_t highest, uint32_t air, const double *mover, size_t mover_len, double step, uint32_t k, double *out,
                                size_t out_len);
+
+/* For recorders: a scene file of what boltjuniper_step takes, for onetick and boltjuniper_tick to read. It is written to `out` from its first byte
+   on, and bytes past it keep their values; 65,536 bytes hold every scene. Returns how many bytes it wrote, 512 to a block; or a number below 512,
+   which is a refusal: 1, 2, 3, 4, then 12 (more than 128 blocks), then 11 (an `out` too short for the scene). Where no flap is present its number is
+   written as zero. It asks for no memory, and needs less than 4 KB of the stack. */
+uint64_t boltjuniper_write_scene(const uint32_t *records, size_t records_len, const float *shapes, size_t shapes_len, const uint32_t *cells,
+                                 size_t cells_len, int32_t ox, int32_t oy, int32_t oz, uint32_t sx, uint32_t sy, uint32_t sz, int32_t lowest,
+                                 int32_t highest, const double *numbers, size_t numbers_len, const uint32_t *words, size_t words_len,
+                                 uint64_t age, uint8_t *out, size_t out_len);
+
+/* The same for what was checked before, as by boltjuniper_step: it looks for none of 1 to 4, and is as safe. */
+uint64_t boltjuniper_write_checked(const uint32_t *records, size_t records_len, const float *shapes, size_t shapes_len, const uint32_t *cells,
+                                   size_t cells_len, int32_t ox, int32_t oy, int32_t oz, uint32_t sx, uint32_t sy, uint32_t sz, int32_t lowest,
+                                   int32_t highest, const double *numbers, size_t numbers_len, const uint32_t *words, size_t words_len,
+                                   uint64_t age, uint8_t *out, size_t out_len);
 
 #ifdef __cplusplus
 }

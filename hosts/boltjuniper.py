@@ -35,6 +35,7 @@ SENTENCES = {
     9: "The computed motion is not finite.",
     10: "In the midnight run: the body names no window.",
     11: "In a direct call: the memory lent for the answer is too short.",
+    12: "The scene to be written has more than 128 blocks.",
     14: "In the midnight run: more than 16 windows, or more than 4,096 bodies.",
 }
 
@@ -129,7 +130,10 @@ DECLARED = {
     "move_over_list": SLICE * 2 + STEP + SLICE,
     "collected": TABLES + WINDOW + AIR + SLICE + STEP + SLICE,
     "tick": SLICE * 2,
+    "write_scene": TABLES + WINDOW + BODY + SLICE,
 }
+SCENE_BYTES, BLOCK = 65536, 512  # 128 blocks: every scene has room in it
+
 _loaded = {}
 
 
@@ -144,7 +148,7 @@ def load(path=None):
     for name, arguments in DECLARED.items():
         function = getattr(library, "boltjuniper_" + name, None)
         if function is not None:
-            function.argtypes, function.restype = arguments, ctypes.c_uint32
+            function.argtypes, function.restype = arguments, ctypes.c_uint64 if name == "write_scene" else ctypes.c_uint32
             _loaded[name] = function
 
 
@@ -314,6 +318,13 @@ def collected(tables, window, air, mover):
 def move_over_list(boxes, mover):
     """The move of a box over boxes of the host's own, six numbers to a box."""
     return _judged(_moved(_Lent().slice("boxes", boxes, "d").mover(mover).answer("move_over_list", 10)))
+
+
+def write_scene(tables, window, body):
+    """The scene file of a body, its tables and its window, as bytes: what `tick` reads."""
+    lent, out = _Lent().tables(tables).window(window).body(body), (ctypes.c_uint8 * SCENE_BYTES)()
+    n = _function("write_scene")(*lent.arguments, ctypes.addressof(out), SCENE_BYTES)
+    return bytes(out[:n]) if n >= BLOCK else _judged(Refused(n))
 
 
 # ---- many: a refusal is a value among the answers

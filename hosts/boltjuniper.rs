@@ -1,4 +1,5 @@
-//! Boltjuniper for hosts in Rust: safe wrappers around what hosts/boltjuniper.h declares of crates/exports. Link target/staticlib/libexports.a.
+//! Boltjuniper for hosts in Rust: safe wrappers around what hosts/boltjuniper.h declares of crates/exports and crates/recorder. Link
+//! target/staticlib/libexports.a, and a recorder target/staticlib/librecorder.a.
 //! An answer is what was written, or the number of the refusal (docs/REFUSALS.md). The lengths of bodies, movers and answers, and flags, are right
 //! by their types, so neither they nor 11 are ever the reason (but 11 of the midnight run, whose buffer is the host's); those of tables and windows are for the library to refuse.
 
@@ -31,6 +32,16 @@ mod linked {
             oz: i32, sx: u32, sy: u32, sz: u32, lowest: i32, highest: i32, air: u32, mover: *const f64, mover_len: usize, step: f64, ground: u32,
             out: *mut f64, out_len: usize,
         ) -> u32;
+        pub fn boltjuniper_write_scene(
+            records: *const u32, records_len: usize, shapes: *const f32, shapes_len: usize, cells: *const u32, cells_len: usize, ox: i32, oy: i32,
+            oz: i32, sx: u32, sy: u32, sz: u32, lowest: i32, highest: i32, numbers: *const f64, numbers_len: usize, words: *const u32,
+            words_len: usize, age: u64, out: *mut u8, out_len: usize,
+        ) -> u64;
+        pub fn boltjuniper_write_checked(
+            records: *const u32, records_len: usize, shapes: *const f32, shapes_len: usize, cells: *const u32, cells_len: usize, ox: i32, oy: i32,
+            oz: i32, sx: u32, sy: u32, sz: u32, lowest: i32, highest: i32, numbers: *const f64, numbers_len: usize, words: *const u32,
+            words_len: usize, age: u64, out: *mut u8, out_len: usize,
+        ) -> u64;
         pub fn boltjuniper_move_over_list(
             boxes: *const f64, boxes_len: usize, mover: *const f64, mover_len: usize, step: f64, ground: u32, out: *mut f64, out_len: usize,
         ) -> u32;
@@ -272,4 +283,36 @@ pub fn move_over_list(boxes: &[[f64; 6]], m: Mover) -> Result<Moved, Refusal> {
         )
     };
     moved(refusal, out)
+}
+
+// ---- for recorders: link target/staticlib/librecorder.a. Nothing is allocated, and nothing panics.
+
+/// 128 blocks: every scene has room in it.
+pub const SCENE_BYTES: usize = 65536;
+
+fn written(n: u64) -> Result<usize, Refusal> {
+    if n < 512 { Err(n as Refusal) } else { Ok(n as usize) }
+}
+
+/// The scene file of a body, its tables and its window, into `out`: how many bytes it has. Bytes past it keep their values, and a refusal writes nothing:
+/// 1 to 4 as `step` has them, then 12 for more than 128 blocks, then 11 for an `out` too short. Where no flap is present its number is written as zero.
+pub fn write_scene(t: Tables, w: Window, b: &Body, out: &mut [u8]) -> Result<usize, Refusal> {
+    let ([ox, oy, oz], [sx, sy, sz]) = (w.origin, w.sizes);
+    written(unsafe {
+        linked::boltjuniper_write_scene(
+            t.records.as_ptr(), t.records.len(), t.shapes.as_ptr(), t.shapes.len(), w.cells.as_ptr(), w.cells.len(), ox, oy, oz, sx, sy, sz,
+            w.lowest, w.highest, b.numbers.as_ptr(), b.numbers.len(), b.words.as_ptr(), b.words.len(), b.age, out.as_mut_ptr(), out.len(),
+        )
+    })
+}
+
+/// The same for what was checked before, as by `step`: it looks for none of 1 to 4, and is as safe.
+pub fn write_checked(t: Tables, w: Window, b: &Body, out: &mut [u8]) -> Result<usize, Refusal> {
+    let ([ox, oy, oz], [sx, sy, sz]) = (w.origin, w.sizes);
+    written(unsafe {
+        linked::boltjuniper_write_checked(
+            t.records.as_ptr(), t.records.len(), t.shapes.as_ptr(), t.shapes.len(), w.cells.as_ptr(), w.cells.len(), ox, oy, oz, sx, sy, sz,
+            w.lowest, w.highest, b.numbers.as_ptr(), b.numbers.len(), b.words.as_ptr(), b.words.len(), b.age, out.as_mut_ptr(), out.len(),
+        )
+    })
 }

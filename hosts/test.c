@@ -17,7 +17,8 @@ struct count { const char *what; int agree, differ; };
 static struct count ticks = {"tick", 0, 0}, steps = {"step", 0, 0}, checked = {"step_checked", 0, 0}, tables = {"check_tables", 0, 0},
                     moves = {"move", 0, 0}, lists = {"move_over_list", 0, 0}, collects = {"collected", 0, 0},
                     lengths = {"lengths, ground and room", 0, 0}, windows = {"heights, columns and air", 0, 0},
-                    falling = {"step_falling", 0, 0}, records_kept = {"fall records", 0, 0}, nights = {"midnight", 0, 0};
+                    falling = {"step_falling", 0, 0}, records_kept = {"fall records", 0, 0}, nights = {"midnight", 0, 0},
+                    writes = {"write_scene", 0, 0}, rewrites = {"write_checked", 0, 0};
 
 static void add(struct count *c, const char *ours, const char *theirs) {
     if (strcmp(ours, theirs) == 0) {
@@ -118,6 +119,27 @@ static void step(struct count *c, step_function *f, const char *theirs) {
     add(c, ours, theirs);
 }
 
+typedef uint64_t write_function(const uint32_t *, size_t, const float *, size_t, const uint32_t *, size_t, int32_t, int32_t, int32_t, uint32_t,
+                                uint32_t, uint32_t, int32_t, int32_t, const double *, size_t, const uint32_t *, size_t, uint64_t, uint8_t *, size_t);
+
+/* The scene written anew into so much room and a byte more: `same` where it is the file and the byte behind it is kept; a refusal keeps them all. */
+static void writes_as(struct count *c, write_function *f, size_t bytes, size_t room, const char *theirs) {
+    static uint8_t out[ROOM + 1];
+    double numbers[19];
+    uint64_t age;
+    char ours[64];
+    memcpy(numbers, body, sizeof numbers);
+    memcpy(&age, body + 38, 8);
+    memset(out, 170, sizeof out);
+    uint64_t n = f(records, 20 * (size_t)body[46], shapes, 6 * (size_t)body[47], WINDOW, numbers, 19, body + 40, 6, age, out, room);
+    size_t kept = n < 512 ? 0 : (size_t)n;
+    if (n < 512) sprintf(ours, "refused %" PRIu64, n);
+    else sprintf(ours, "%s", n == bytes && !memcmp(out, file, bytes) ? "same" : "another file");
+    while (kept < sizeof out && out[kept] == 170) kept++;
+    if (kept != sizeof out) sprintf(ours, "something past it written");
+    add(c, ours, theirs);
+}
+
 /* The scene's step with a fresh fall record: the same tick, or what the record is after it. A refusal writes nothing. */
 static void step_with_fall(struct count *c, int record, const char *theirs) {
     double numbers[19], out[12] = {-1, -1, -1, -1, -1, -1, -1, -1, -1, -1, -1, -1};
@@ -197,6 +219,11 @@ static void one_scene(char *theirs) {
     if (!early) step(&checked, boltjuniper_step_checked, theirs);
     sprintf(ours, "%" PRIu32, boltjuniper_check_tables(records, n, shapes, m));
     add(&tables, ours, bad ? "1" : "0");
+    writes_as(&writes, boltjuniper_write_scene, bytes, ROOM, first ? theirs : "same");
+    writes_as(&writes, boltjuniper_write_scene, bytes, bytes, first ? theirs : "same");
+    writes_as(&writes, boltjuniper_write_scene, bytes, bytes - 1, first ? theirs : "refused 11");
+    if (!first) writes_as(&rewrites, boltjuniper_write_checked, bytes, ROOM, "same");
+    if (!first) writes_as(&rewrites, boltjuniper_write_checked, bytes, 0, "refused 11");
     /* A move through the window meets 1 and 2 as the step does; its step height is then 3. */
     double mover[9] = {0}, out[10];
     sprintf(ours, "refused %" PRIu32, boltjuniper_move(records, n, shapes, m, WINDOW, body[45], mover, 9, 5, 0, out, 10));
@@ -437,7 +464,7 @@ int main(void) {
     all_records();
     all_nights();
     const struct count *all[] = {&ticks, &steps, &checked, &tables, &moves, &lists, &collects, &lengths, &windows, &falling, &records_kept,
-                                 &nights};
+                                 &nights, &writes, &rewrites};
     int bad = 0;
     for (size_t k = 0; k < sizeof all / sizeof *all; k++) bad |= tell(all[k]);
     return bad;

@@ -77,6 +77,7 @@ def as_numpy(a):
 
 
 COUNTS = {name: Count(name) for name in ("tick", "ticks", "step", "step_checked", "steps", "check_tables", "move", "move_over_list", "collected",
+                                         "write_scene", "write_scene beside tools/scene",
                                          "move over what it collects", "step of numpy's arrays", "heights, columns and air", "two ticks at a door",
                                          "arrays as they are", "step_falling", "fall records", "midnight", "midnight's refusals")}
 
@@ -97,6 +98,11 @@ def one_scene(name, theirs):
     COUNTS["steps"].add(name, [tick_text(t, theirs) for t in b.steps(tables, window, [body] * 3)], [theirs] * 3)
     COUNTS["check_tables"].add(name, asked(b.check_tables, tables), b.Refused(1) if theirs == "refused 1" else None)
     early = theirs in ("refused 1", "refused 2")
+    written = asked(b.write_scene, tables, window, body)
+    first = early or theirs in ("refused 3", "refused 4")
+    COUNTS["write_scene"].add(name, tick_text(written) if first else written == data, theirs if first else True)
+    if not first:
+        COUNTS["write_scene beside tools/scene"].add(name, written == scenefile.packed(scene), True)
     if not early:
         COUNTS["step_checked"].add(name, tick_text(asked(b.step_checked, tables, window, body), theirs), theirs)
     # A move through the window meets 1 and 2 as the step does; its step height is then 3.
@@ -171,6 +177,21 @@ def case_a():
     tables, window, _ = parts(example("fence-unloaded"))
     mover = b.Mover((1.6875, 1.0, 0.625, 1.9375, 1.25, 0.875), (0.0, 0.0, 0.75))
     COUNTS["collected"].add("fence", asked(b.collected, tables, window, 0, mover), [(1.625, 1.0, 1.375, 2.0, 2.5, 1.625)])
+
+
+def recorder():
+    """Each example as tools/scene packs it, and as a recorder writes it; a flap that is not present; and a window that no file holds."""
+    for name in ("case-a", "fence-unloaded", "step-up", "door-1", "door-2"):
+        scene = example(name)
+        COUNTS["write_scene beside tools/scene"].add(name, asked(b.write_scene, *parts(scene)) == scenefile.packed(scene), True)
+    tables, window, body = parts(example("case-a"))
+    plain, flap = asked(b.write_scene, tables, window, body), [*body.numbers[:12], 0.25, *body.numbers[13:]]
+    COUNTS["write_scene"].add("a flap that is not present", asked(b.write_scene, tables, window, body._replace(numbers=flap)) == plain, True)
+    present = body._replace(numbers=flap, words=[*body.words[:4], 1, body.words[5]])
+    COUNTS["write_scene"].add("a flap that is present", scenefile.value(scenefile.unpacked(asked(b.write_scene, tables, window, present)).body,
+                                                                        scenefile.BODY["flap"]), 0.25)
+    wide = b.Window([0] * (64 * 64 * 65), (0, 0, 0), (64, 64, 64), 0, 63)
+    COUNTS["write_scene"].add("more than 128 blocks", asked(b.write_scene, tables, wide, body), b.Refused(12))
 
 
 def windows():
@@ -331,6 +352,7 @@ def main():
             elif line.startswith("after "):
                 one_record(*line[6:].split(" ", 1))
     case_a()
+    recorder()
     windows()
     records()
     midnight()

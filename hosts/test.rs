@@ -63,6 +63,12 @@ fn move_text(m: Mover, a: Result<Moved, Refusal>) -> String {
     format!("{refusal}box{} moved{} ground {}", bits(&r.aabb), bits(&r.moved), r.ground as u32)
 }
 
+// A scene written anew, into a buffer that was full of 170: bytes past the scene are kept, and a refusal keeps them all.
+fn written_text(a: Result<usize, Refusal>, out: &[u8], file: &[u8]) -> String {
+    let (n, text) = a.map_or_else(|n| (0, format!("refused {n}")), |n| (n, String::from(if out[..n] == *file { "same" } else { "another file" })));
+    if out[n..].iter().all(|&b| b == 170) { text } else { format!("{text}, and something past it written") }
+}
+
 #[derive(Default)]
 struct Count(usize, usize);
 
@@ -229,7 +235,7 @@ fn case_a(moves: &mut Count, windows: &mut Count) {
 fn main() {
     let stored = std::fs::read_to_string("crates/replay/stdout").unwrap();
     let (scenes, calls): (Vec<&str>, Vec<&str>) = stored.lines().partition(|l| l.starts_with(|c: char| c.is_ascii_digit()));
-    let [mut ticks, mut steps, mut checked, mut tables, mut moves, mut lists, mut windows, mut falls, mut night] = std::array::from_fn(|_| Count::default());
+    let [mut ticks, mut steps, mut checked, mut tables, mut moves, mut lists, mut windows, mut falls, mut night, mut writes] = std::array::from_fn(|_| Count::default());
     // after NUMBER fall SUM LANDED: the record after the scene's tick, from a fresh one
     let after: std::collections::HashMap<&str, &str> = calls.iter().filter_map(|l| l.strip_prefix("after ")?.split_once(' ')).collect();
     for line in scenes {
@@ -251,6 +257,15 @@ fn main() {
         nights(&mut night, name, t, w, &s.body, theirs);
         let early = theirs == "refused 1" || theirs == "refused 2";
         tables.add(name, &check_tables(t).err().unwrap_or(0).to_string(), if theirs == "refused 1" { "1" } else { "0" });
+        let first = early || theirs == "refused 3" || theirs == "refused 4";
+        let mut out = [170; SCENE_BYTES + 1];
+        writes.add(name, &written_text(write_scene(t, w, &s.body, &mut out), &out, &file), if first { theirs } else { "same" });
+        let mut short = vec![170; file.len() - 1];
+        writes.add(name, &written_text(write_scene(t, w, &s.body, &mut short), &short, &file), if first { theirs } else { "refused 11" });
+        if !first {
+            out = [170; SCENE_BYTES + 1];
+            writes.add(name, &written_text(write_checked(t, w, &s.body, &mut out), &out, &file), "same");
+        }
         // A move through the window meets 1 and 2 as the step does; its step height is then 3.
         let none = Mover { aabb: [0.0; 6], delta: [0.0; 3], step: 5.0, ground: false };
         let refused = format!("refused {}", move_through(t, w, s.body.words[5], none).err().unwrap_or(0));
@@ -286,6 +301,7 @@ fn main() {
         windows.tell("heights, columns and air"),
         falls.tell("step_falling"),
         night.tell("midnight"),
+        writes.tell("write_scene, write_checked"),
     ];
     std::process::exit(fine.contains(&false) as i32);
 }

@@ -21,8 +21,11 @@ fileWord block k =
     getD block (k * 4) 0 + getD block (k * 4 + 1) 0 * 256 + getD block (k * 4 + 2) 0 * 65536 + getD block (k * 4 + 3) 0 * 16777216
 
 -- "Word 0 is the four bytes 53 43 4E 31"
+abbrev pub mark : List ℕ
+mark = bytes "SCN1"
+
 unfoldable pub marked : List ℕ → Bool
-marked block = equal (take 4 block) (bytes "SCN1")
+marked block = equal (take 4 block) mark
 
 -- f 0, f 1 and so on, as many as the number says, added up
 unfoldable pub sumOf : (ℕ → ℕ) → ℕ → ℕ

@@ -1,10 +1,10 @@
 // How a scene file is laid out: words, blocks, and the parts that the blocks are of. A look-up past the end of a file answers nothing, or 0.
 ghost use mathlib.Core.Path.{_≡_};
 ghost use mathlib.Core.Bool.{_||_};
-ghost use Prim.Native.Nat.{_+_};
+ghost use Prim.Native.Nat.{_+_, _*_};
 ghost use lib.Dec.{eqb, ltb};
 ghost use lib.ListN.{getD};
-ghost use Rattle.blocks.specs.Blocks.{blockOf, fileWord, marked, checkOf, restZero, blockFits, perBlock, blocksOf, endOf, usedIn, partFits, partWord, bodyPart, recordPart, boxPart, windowPart, cellPart};
+ghost use Rattle.blocks.specs.Blocks.{blockOf, fileWord, mark, marked, checkOf, restZero, blockFits, perBlock, blocksOf, endOf, usedIn, partFits, partWord, bodyPart, recordPart, boxPart, windowPart, cellPart};
 
 // The blocks of one kind, one after the other: the first of them, the kind, and how many payload words there are in all.
 pub struct Part {
@@ -29,16 +29,22 @@ fn byte(block: &[u8], i: usize) -> u8
     if i < block.len() { block[i] } else { 0 }
 }
 
-// Word k of a block.
+// Four bytes as a word, the lowest first.
+fn four(a: u8, b: u8, c: u8, d: u8) -> u32
+    ensures { λ r. ⌜ r ≡ a + b * 256 + c * 65536 + d * 16777216 ⌝ }
+{
+    a as u32 + b as u32 * 256 + c as u32 * 65536 + d as u32 * 16777216
+}
+
+// Word k of a block. Where all of its bytes are there one test is made, and not four.
 fn word(block: &[u8], k: u32) -> u32
     ensures { λ r. ⌜ r ≡ fileWord (now (block .entry)) k ⌝ }
 {
     let i = k as usize * 4;
-    let a = byte(block, i);
-    let b = byte(block, i + 1);
-    let c = byte(block, i + 2);
-    let d = byte(block, i + 3);
-    a as u32 + b as u32 * 256 + c as u32 * 65536 + d as u32 * 16777216
+    if i + 3 < block.len() {
+        return four(block[i], block[i + 1], block[i + 2], block[i + 3]);
+    }
+    four(byte(block, i), byte(block, i + 1), byte(block, i + 2), byte(block, i + 3))
 }
 
 fn is_marked(block: &[u8]) -> bool
@@ -50,8 +56,15 @@ fn is_marked(block: &[u8]) -> bool
     suffixes::equals(&block[..4], b"SCN1")
 }
 
+// The same four bytes as a word.
+pub fn mark_word() -> u32
+    ensures { λ r. ⌜ r ≡ fileWord mark 0 ⌝ }
+{
+    word(b"SCN1", 0)
+}
+
 // The sum of words 0 to 126, wrapping at 2^32.
-fn check_of(block: &[u8]) -> u32
+pub fn check_of(block: &[u8]) -> u32
     ensures { λ r. ⌜ r ≡ checkOf (now (block .entry)) ⌝ }
 {
     let mut sum = 0u32;
@@ -104,7 +117,7 @@ fn block_fits(block: &[u8], number: usize, kind: u32, used: u32) -> bool
 }
 
 // The payload words in use in a full block of this kind.
-fn per_block(kind: u32) -> u32
+pub fn per_block(kind: u32) -> u32
     ensures { λ r. ⌜ r ≡ perBlock kind ⌝ }
 {
     if kind == 1 {
@@ -122,7 +135,7 @@ fn per_block(kind: u32) -> u32
     123
 }
 
-fn blocks_of(p: Part) -> usize
+pub fn blocks_of(p: Part) -> usize
     ensures { λ r. ⌜ r ≡ blocksOf p ⌝ }
 {
     let per = per_block(p.kind);
@@ -138,7 +151,7 @@ pub fn end_of(p: Part) -> usize
     p.first as usize + n
 }
 
-fn used_in(p: Part, j: usize) -> u32
+pub fn used_in(p: Part, j: usize) -> u32
     ensures { λ r. ⌜ r ≡ usedIn p j ⌝ }
 {
     let per = per_block(p.kind);

@@ -12,6 +12,7 @@ pub use limits::is_position;
 pub use limits::number_refusal;
 pub use limits::rules_fit;
 pub use numbers::body_from;
+pub use numbers::body_refusal;
 pub use numbers::lengths_fit;
 pub use numbers::motion_from;
 pub use numbers::number_at;

@@ -1,4 +1,4 @@
-// A motion, a body and rules out of lent numbers and words, in document 01's order.
+// A motion, a body and rules out of lent numbers and words, in document 01's order, and what is refused of these.
 use crate::BodyNumbers;
 use crate::MotionNumbers;
 use crate::Rules;
@@ -6,6 +6,7 @@ use boxes::Vec3;
 ghost use mathlib.Core.Path.{_≡_};
 ghost use Rattle.tables.specs.Tables.{wordAt};
 ghost use Rattle.bodies.specs.Numbers.{numberAt, vecFrom, motionFrom, bodyFrom, rulesFrom, lengthsFit};
+ghost use Rattle.bodies.specs.Lent.{bodyRefusal};
 
 // Whether there are as many numbers and words as a body's.
 pub fn lengths_fit(numbers: &[f64], words: &[u32]) -> bool
@@ -92,4 +93,17 @@ pub fn rules_from(numbers: &[f64], words: &[u32]) -> Rules
         lava,
         air,
     }
+}
+
+// 3 where there are not as many as a body's; else 3, then 4, for what they are; else 0.
+pub fn body_refusal(records: &[u32], numbers: &[f64], words: &[u32]) -> u32
+    ensures { λ r. ⌜ r ≡ bodyRefusal (now (records .entry)) (now (numbers .entry)) (now (words .entry)) ⌝ }
+{
+    if lengths_fit(numbers, words) {
+        let rules = rules_from(numbers, words);
+        let body = body_from(numbers, words);
+        let given = motion_from(numbers, words);
+        return crate::number_refusal(records, rules, body, given);
+    }
+    3
 }

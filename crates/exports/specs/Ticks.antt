@@ -9,13 +9,9 @@ use lib.Ieee.{Float, binary64, ofInt}
 use Rattle.base.specs.Loop.{stored}
 use Rattle.base.specs.Choose.{choose}
 use Rattle.base.specs.Ask.{Ask, _>>=_}
-use Rattle.tables.specs.Tables.{kindNumber, wordAt}
-use Rattle.bodies.specs.declared.BodyNumbers.{BodyNumbers}
-use Rattle.bodies.specs.declared.Rules.{Rules}
-use Rattle.bodies.specs.declared.MotionNumbers.{MotionNumbers}
 use Rattle.bodies.specs.Body.{bodyOf, motionOf}
-use Rattle.bodies.specs.Numbers.{numberAt, motionFrom, bodyFrom, rulesFrom, lengthsFit}
-use Rattle.bodies.specs.Limits.{numberRefusal}
+use Rattle.bodies.specs.Numbers.{lengthsFit}
+pub use Rattle.bodies.specs.Lent.{motionAt, bodyAt, rulesAt, bodyRefusal}
 use Rattle.lent.specs.Lent.{lentRefusal}
 use Rattle.window.specs.declared.Window.{Window}
 use Rattle.window.specs.Look.{lookAt}
@@ -28,20 +24,6 @@ use Rattle.exports.specs.Room.{roomy}
 use Rattle.lent_steps.specs.Steps.{stepPlaces, stepNumbers}
 
 -- ---- what is handed over
-
-abbrev pub motionAt : List Float → List ℕ → MotionNumbers
-motionAt numbers words = motionFrom (numberAt numbers) (wordAt words 0)
-
-abbrev pub bodyAt : List Float → List ℕ → BodyNumbers
-bodyAt numbers words = bodyFrom (numberAt numbers) (wordAt words 0)
-
-abbrev pub rulesAt : List Float → List ℕ → Rules
-rulesAt numbers words = rulesFrom (numberAt numbers) (wordAt words 0)
-
--- 3 for numbers or words that are not as many as a body's; else 3, then 4, for what they are; else 0
-unfoldable pub bodyRefusal : List ℕ → List Float → List ℕ → ℕ
-bodyRefusal records numbers words =
-    choose (lengthsFit numbers words) (numberRefusal records (rulesAt numbers words) (bodyAt numbers words) (motionAt numbers words)) 3
 
 -- lengths that fit, and room for what is written
 abbrev pub wholeBody : List Float → List ℕ → ℕ → Bool

@@ -1,6 +1,6 @@
 // The step with a fall record, in lent numbers.
 use crate::room::short_of;
-use crate::tick::body_refusal;
+use bodies::body_refusal;
 use falls::Fall;
 ghost use mathlib.Core.Path.{_≡_};
 ghost use lib.ListN.{length};

@@ -5,25 +5,12 @@ use step::StepAnswer;
 ghost use mathlib.Core.Path.{_≡_};
 ghost use lib.ListN.{length};
 ghost use Rattle.window.specs.Numbers.{windowOf};
-ghost use Rattle.exports.specs.Ticks.{bodyRefusal, checkedAt, stepAt, answerWritten, wholeBody};
+ghost use Rattle.exports.specs.Ticks.{checkedAt, stepAt, answerWritten, wholeBody};
 
 fn whole_body(numbers: &[f64], words: &[u32], places: usize) -> bool
     ensures { λ r. ⌜ r ≡ wholeBody (now (numbers .entry)) (now (words .entry)) places ⌝ }
 {
     bodies::lengths_fit(numbers, words) & (places >= 10)
-}
-
-// 3, then 4, or 0.
-pub(crate) fn body_refusal(records: &[u32], numbers: &[f64], words: &[u32]) -> u32
-    ensures { λ r. ⌜ r ≡ bodyRefusal (now (records .entry)) (now (numbers .entry)) (now (words .entry)) ⌝ }
-{
-    if bodies::lengths_fit(numbers, words) {
-        let rules = bodies::rules_from(numbers, words);
-        let body = bodies::body_from(numbers, words);
-        let given = bodies::motion_from(numbers, words);
-        return bodies::number_refusal(records, rules, body, given);
-    }
-    3
 }
 
 fn answer_into(out: &mut [f64], a: StepAnswer) -> u32
@@ -57,7 +44,7 @@ pub extern "C" fn boltjuniper_step(
         let a = view::step_window(records, shapes, cells, w, rules, body, given, age);
         return answer_into(out, a);
     }
-    let early = body_refusal(records, numbers, words);
+    let early = bodies::body_refusal(records, numbers, words);
     short_of(lent::check_lent(records, shapes, cells, w), early)
 }
 
@@ -79,6 +66,6 @@ pub extern "C" fn boltjuniper_step_checked(
         let a = view::checked_window(records, shapes, cells, w, rules, body, given, age);
         return answer_into(out, a);
     }
-    let early = body_refusal(records, numbers, words);
+    let early = bodies::body_refusal(records, numbers, words);
     short_of(0, early)
 }

@@ -12,6 +12,7 @@ use Rattle.window.specs.Window.{cellCount, columnCount, sizesFit}
 use Rattle.lent_words.specs.Words.{windowFrom}
 use Rattle.blocks.specs.declared.Part.{Part}
 use Rattle.blocks.specs.Blocks.{partWord, partFits, endOf, bodyPart, recordPart, boxPart, windowPart, cellPart}
+use Rattle.files.specs.Places.{numberPlace, wordPlace, statesPlace, boxesPlace, flapNumber, presentWord, airWord}
 use Rattle.files.specs.declared.Counts.{Counts}
 use Rattle.files.specs.declared.Counted.{Counted}
 use Rattle.files.specs.declared.Counted.the-variants as counted
@@ -23,28 +24,30 @@ bodyWord file i = partWord file bodyPart i
 
 -- "flap present (both flap words zero if not)"
 unfoldable pub flapFits : List ℕ → Bool
-flapFits file = not (eqb (bodyWord file 44) 0) || (eqb (bodyWord file 24) 0 && eqb (bodyWord file 25) 0)
+flapFits file =
+    not (eqb (bodyWord file (wordPlace presentWord)) 0)
+    || (eqb (bodyWord file (numberPlace flapNumber)) 0 && eqb (bodyWord file (numberPlace flapNumber + 1)) 0)
 
 -- ---- the window, whose air state is the body's
 
 unfoldable pub windowIn : List ℕ → Part → Window
-windowIn file p = windowFrom (partWord file p) (bodyWord file 45)
+windowIn file p = windowFrom (partWord file p) (bodyWord file (wordPlace airWord))
 
 -- ---- "counts and sizes within limits": "States: 1 to 4,096. Boxes: at most 16,384", "Window sizes: 1 to 64 each"
 
 -- "state count, box count", and how many words a window of these sizes has: its cells, then one for each column
 unfoldable pub countsIn : List ℕ → Sizes → Counts
-countsIn file s = record { states = bodyWord file 46; boxes = bodyWord file 47; cells = cellCount s + columnCount s }
+countsIn file s = record { states = bodyWord file statesPlace; boxes = bodyWord file boxesPlace; cells = cellCount s + columnCount s }
 
 -- the sizes stand behind the records and boxes
 unfoldable pub sizesIn : List ℕ → Sizes
-sizesIn file = windowIn file (windowPart (bodyWord file 46) (bodyWord file 47)) .sizes
+sizesIn file = windowIn file (windowPart (bodyWord file statesPlace) (bodyWord file boxesPlace)) .sizes
 
 unfoldable pub countsFit : List ℕ → Bool
 countsFit file =
-    leb 1 (bodyWord file 46)
-    && leb (bodyWord file 46) 4096
-    && leb (bodyWord file 47) 16384
+    leb 1 (bodyWord file statesPlace)
+    && leb (bodyWord file statesPlace) 4096
+    && leb (bodyWord file boxesPlace) 16384
     && sizesFit (sizesIn file)
 
 abbrev pub countsOf : List ℕ → Counts

@@ -1,4 +1,6 @@
-// Which files are scenes, and what a scene says of its own parts: its counts, and its window.
+// Which files are scenes, and what a scene says of its own parts: its counts, and its window. places.rt says where a body's words stand.
+pub mod places;
+
 use blocks::Part;
 use blocks::body_part;
 use blocks::box_part;
@@ -41,11 +43,11 @@ pub fn body_word(file: &[u8], i: u32) -> u32
 fn flap_fits(file: &[u8]) -> bool
     ensures { λ r. ⌜ r ≡ flapFits (now (file .entry)) ⌝ }
 {
-    if body_word(file, 44) != 0 {
+    if body_word(file, places::PRESENT_AT) != 0 {
         return true;
     }
-    if body_word(file, 24) == 0 {
-        return body_word(file, 25) == 0;
+    if body_word(file, places::FLAP_LOW) == 0 {
+        return body_word(file, places::FLAP_HIGH) == 0;
     }
     false
 }
@@ -61,7 +63,7 @@ fn window_at(file: &[u8], p: Part) -> Window
     let sz = part_word(file, p, 5);
     let lowest = part_word(file, p, 6);
     let highest = part_word(file, p, 7);
-    let air = body_word(file, 45);
+    let air = body_word(file, places::AIR_AT);
     lent_words::window_from(ox, oy, oz, sx, sy, sz, lowest, highest, air)
 }
 
@@ -76,8 +78,8 @@ fn sizes_at(file: &[u8], p: Part) -> Sizes
 fn counts_within(file: &[u8]) -> Counted
     ensures { λ r. ⌜ countsAsked r ≡ choose (countsFit (now (file .entry))) (found (countsOf (now (file .entry)))) (refused 8) ⌝ }
 {
-    let states = body_word(file, 46);
-    let boxes = body_word(file, 47);
+    let states = body_word(file, places::STATES);
+    let boxes = body_word(file, places::BOXES);
     if 1 <= states {
         if states <= 4096 {
             if boxes <= 16384 {
@@ -142,7 +144,7 @@ fn parts_fit(file: &[u8], n: Counts) -> bool
 }
 
 // How many blocks the counts need.
-fn blocks_for(n: Counts) -> usize
+pub fn blocks_for(n: Counts) -> usize
     ensures { λ r. ⌜ r ≡ blocksFor n ⌝ }
 {
     end_of(cell_part(n.states, n.boxes, n.cells))

@@ -1,2 +1,3 @@
 -- Laws of words.
 pub mod Signs
+pub mod Rounds

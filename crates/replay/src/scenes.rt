@@ -1,6 +1,7 @@
-// The scene files of data/, by number: each with what `onetick` prints of it, its lines joined by `; `, and behind them the case of its sample. From
-// 1000 on they are scenes of the layout without heights and columns, converted (tools/convert): not each has a likeness, so a number without a file is
-// passed over, and of none is the case among the original's answers. The stored answers have a line for each that must be there.
+// The scene files of data/, by number: each with what `onetick` prints of it, its lines joined by `; `, and behind them the case of its sample; then
+// with what `rewrite` does. From 1000 on they are scenes of the layout without heights and columns, converted (tools/convert): not each has a likeness,
+// so a number without a file is passed over, and of none is the case among the original's answers. The stored answers have a line for each that must be
+// there.
 ghost use mathlib.Core.Path.{_≡_};
 ghost use lib.ListN.{length};
 
@@ -48,15 +49,34 @@ fn put_joined(text: &[u8]) {
     }
 }
 
-fn put_answer(n: u32, fd: i32) {
-    let mut file = file_room();
-    let length = io::read_full(fd, &mut file);
+fn put_answer(n: u32, file: &[u8]) {
     let mut out = answer_room();
-    let m = scene::answer(crate::text::part(&file, 0, length), &mut out);
+    let m = scene::answer(file, &mut out);
     put_joined(crate::text::part(&out, 0, m));
     if n < 1000 {
-        crate::cases::put_case(crate::text::part(&file, 0, length));
+        crate::cases::put_case(file);
     }
+}
+
+fn put_refusal(refusal: u32) {
+    let last = [digit(refusal)];
+    crate::text::put(b"refused ");
+    crate::text::put(&last);
+}
+
+// The file as the writer makes it of its contents: the same, or its refusal.
+fn put_rewritten(file: &[u8]) {
+    let mut out = file_room();
+    let a = scene::rewrite(file, &mut out);
+    if a.refusal != 0 {
+        put_refusal(a.refusal);
+        return;
+    }
+    if suffixes::equals(crate::text::part(&out, 0, a.bytes), file) {
+        crate::text::put(b"same");
+        return;
+    }
+    crate::text::put(b"another file");
 }
 
 // What a scene's line begins with: its number, and a space.
@@ -72,9 +92,15 @@ fn run(n: u32) {
     if fd < 0 {
         return;
     }
-    put_label(n);
-    put_answer(n, fd);
+    let mut room = file_room();
+    let size = io::read_full(fd, &mut room);
     libc::close(fd);
+    let file = crate::text::part(&room, 0, size);
+    put_label(n);
+    put_answer(n, file);
+    crate::text::put(b"\nrewrite ");
+    put_label(n);
+    put_rewritten(file);
     crate::text::put(b"\n");
 }
 

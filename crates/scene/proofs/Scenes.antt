@@ -1,70 +1,51 @@
 -- From what the program reads to what the scene holds. Assumes nothing.
-use mathlib.Core.List.{List, _++_}
+use mathlib.Core.List.{List}
 use mathlib.Core.Path.{_≡_, refl, sym, ap, _∙_}
-use Prim.Native.Nat.{ℕ, _-_, _*_, _≤_, min}
+use Prim.Native.Nat.{ℕ, _*_, _≤_, min}
 use native.Mathlib.Omega.{arith}
 use lib.ListN.{length, take}
-use lib.Seq.{take-all}
 use lib.Ieee.{Float, binary32, ofBits}
 use Rattle.base.specs.Choose.{choose}
 use Rattle.base.specs.Loop.{listed}
 use Rattle.base.specs.Ask.{refused, found}
 use Rattle.base.proofs.Cases.{yes, no}
-use Rattle.base.proofs.Fill.{whole}
-use Rattle.tables.specs.Tables.{wordAt}
 use Rattle.window.specs.declared.Window.{Window}
-use Rattle.bodies.specs.declared.BodyNumbers.{BodyNumbers}
-use Rattle.bodies.specs.declared.MotionNumbers.{MotionNumbers}
-use Rattle.bodies.specs.declared.Rules.{Rules}
-use Rattle.bodies.specs.Numbers.{numberAt, motionFrom, bodyFrom, rulesFrom}
 use Rattle.step.specs.declared.StepAnswer.{StepAnswer}
-use Rattle.step.specs.Answers.{stepEntry}
 use Rattle.blocks.specs.Blocks.{partWord, recordPart, boxPart, windowPart, cellPart}
 use Rattle.files.specs.declared.Counts.{Counts}
 use Rattle.files.specs.Files.{windowIn, countsOf, blocksFor, isScene}
 use Rattle.files.proofs.Scenes.{rooms, no-scene, scene}
-use Rattle.scene.specs.Scene.{bodyFloat, lateWord, rulesIn, bodyIn, givenIn, ageIn, malformed, wordsOf, singlesOf, stepIn, tickOf}
-
--- ---- the body, out of its 19 numbers and 6 words
-
--- an array that a loop has filled
-pub filled : {A : Type 0} (f : ℕ → A) (n i : ℕ) (l : List A) → length l ≡ n → i ≤ n → n ≤ i → take i l ++ listed f (n - i) i ≡ listed f n 0 → l ≡ listed f n 0
-filled f n i l e h h' inv = sym (take-all n l (omega arith)) ∙ whole f n i l (listed f n 0) h' h inv
-
-module _ (file : List ℕ) (numbers : List Float) (words : List ℕ) (en : numbers ≡ listed (bodyFloat file) 19 0) (ew : words ≡ listed (lateWord file) 6 0) where
-  pub rules-read : rulesFrom (numberAt numbers) (wordAt words 0) ≡ rulesIn file
-  unfolding rulesIn listed choose
-  rules-read = rw (en, ew)
-
-  pub body-read : bodyFrom (numberAt numbers) (wordAt words 0) ≡ bodyIn file
-  unfolding bodyIn listed choose
-  body-read = rw (en, ew)
-
-  pub motion-read : motionFrom (numberAt numbers) (wordAt words 0) ≡ givenIn file
-  unfolding givenIn listed choose
-  motion-read = rw (en, ew)
+use Rattle.writer.specs.declared.Written.{Written}
+use Rattle.writer.specs.Written.{writtenScene, sceneAnswer}
+use Rattle.files.specs.Contents.{contentsOf, numbersIn, lateWords, ageIn, wordsOf, singlesOf, contentsBehind}
+use Rattle.scene.specs.Scene.{malformed, stepOf, stepIn, tickOf}
+use Rattle.scene.specs.Rewritten.{rewritten, rewriteAnswer}
 
 -- ---- the tables and cells, all of their words
 
 all : (k : ℕ) → k ≤ 15744 → min k 15744 ≡ k
 all k h = omega arith
 
--- what the program hands to the step is what the scene holds
-pub stepped : (file : List ℕ) (n : Counts) (records : List ℕ) (shapes : List Float) (cells : List ℕ) (a b c : ℕ) (w : Window)
-    → blocksFor n ≤ 128
-    → take (min (n .states * 20) 15744) records ≡ listed (partWord file (recordPart (n .states))) (min (n .states * 20) 15744) 0
-    → take (min (n .boxes * 6) 15744) shapes ≡ listed (λ i. ofBits binary32 (partWord file (boxPart (n .states) (n .boxes)) i)) (min (n .boxes * 6) 15744) 0
-    → take (min (n .cells) 15744) cells ≡ listed (partWord file (cellPart (n .states) (n .boxes) (n .cells))) (min (n .cells) 15744) 0
-    → a ≡ min (n .states * 20) 15744 → b ≡ min (n .boxes * 6) 15744 → c ≡ min (n .cells) 15744
-    → w ≡ windowIn file (windowPart (n .states) (n .boxes))
-    → stepEntry (take a records) (take b shapes) (take c cells) w (rulesIn file) (bodyIn file) (givenIn file) (ageIn file) ≡ stepIn file n
-unfolding stepIn wordsOf singlesOf
-stepped file n records shapes cells a b c w few er es ec ea eb en ew =
-    let r = rooms n few in
-    let p = all (n .states * 20) (r .records) in
-    let q = all (n .boxes * 6) (r .shapes) in
-    let s = all (n .cells) (r .cells) in
-    rw (ea, eb, en, er, es, ec, p, q, s, ew)
+-- what the program takes out of the file's blocks is what the scene holds
+module _ (file : List ℕ) (n : Counts) (records : List ℕ) (shapes : List Float) (cells : List ℕ) (a b c : ℕ) (w : Window)
+    (few : blocksFor n ≤ 128)
+    (er : take (min (n .states * 20) 15744) records ≡ listed (partWord file (recordPart (n .states))) (min (n .states * 20) 15744) 0)
+    (es : take (min (n .boxes * 6) 15744) shapes ≡ listed (λ i. ofBits binary32 (partWord file (boxPart (n .states) (n .boxes)) i)) (min (n .boxes * 6) 15744) 0)
+    (ec : take (min (n .cells) 15744) cells ≡ listed (partWord file (cellPart (n .states) (n .boxes) (n .cells))) (min (n .cells) 15744) 0)
+    (ea : a ≡ min (n .states * 20) 15744) (eb : b ≡ min (n .boxes * 6) 15744) (en : c ≡ min (n .cells) 15744)
+    (ew : w ≡ windowIn file (windowPart (n .states) (n .boxes))) where
+  pub taken : contentsOf (take a records) (take b shapes) (take c cells) w (numbersIn file) (lateWords file) (ageIn file) ≡ contentsBehind file n
+  unfolding wordsOf singlesOf
+  taken =
+      let r = rooms n few in
+      let p = all (n .states * 20) (r .records) in
+      let q = all (n .boxes * 6) (r .shapes) in
+      let s = all (n .cells) (r .cells) in
+      rw (ea, eb, en, er, es, ec, p, q, s, ew)
+
+  pub stepped : stepOf (contentsOf (take a records) (take b shapes) (take c cells) w (numbersIn file) (lateWords file) (ageIn file)) ≡ stepIn file n
+  unfolding stepIn
+  stepped = ap stepOf taken
 
 -- ---- the tick
 
@@ -78,3 +59,19 @@ module _ (file : List ℕ) where
   tick-by n a e f =
       let s = scene file n e in
       f (s .few) ∙ ap (stepIn file) (sym (s .same)) ∙ sym (yes (isScene file) (stepIn file (countsOf file)) malformed (s .test))
+
+-- ---- the scene written anew
+
+module _ (file out : List ℕ) where
+  pub not-rewritten : refused 8 ≡ choose (isScene file) (found (countsOf file)) (refused 8)
+      → (out ≡ rewritten out file) × (record { refusal = 8; bytes = 0 } ≡ rewriteAnswer (length out) file)
+  unfolding rewritten rewriteAnswer choose
+  not-rewritten e = rw (no-scene file e) (refl, refl)
+
+  pub rewritten-by : (n : Counts) (after : List ℕ) (r : Written) → found n ≡ choose (isScene file) (found (countsOf file)) (refused 8)
+      → (blocksFor n ≤ 128 → after ≡ writtenScene out (contentsBehind file n)) → (blocksFor n ≤ 128 → r ≡ sceneAnswer (length out) (contentsBehind file n))
+      → (after ≡ rewritten out file) × (r ≡ rewriteAnswer (length out) file)
+  unfolding rewritten rewriteAnswer choose
+  rewritten-by n after r e f g =
+      let s = scene file n e in
+      rw (s .test, s .same) (f (s .few), g (s .few))

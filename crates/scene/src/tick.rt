@@ -16,10 +16,12 @@ use tables::LiquidKind;
 use window::Window;
 ghost use mathlib.Core.Path.{_≡_};
 ghost use Prim.Native.Nat.{_≤_};
+ghost use Rattle.bodies.specs.Lent.{motionAt, bodyAt, rulesAt};
 ghost use Rattle.step.specs.Answers.{stepEntry};
 ghost use Rattle.text.specs.Text.{written, writtenCount};
 ghost use Rattle.files.specs.Files.{blocksFor};
-ghost use Rattle.scene.specs.Scene.{givenIn, bodyIn, rulesIn, ageIn, malformed, stepIn, tickOf, answerText};
+ghost use Rattle.files.specs.Contents.{numbersIn, lateWords, ageIn};
+ghost use Rattle.scene.specs.Scene.{malformed, stepIn, tickOf, answerText};
 
 // 8: there is no motion to hand back.
 fn refused_scene() -> StepAnswer
@@ -47,7 +49,7 @@ fn refused_scene() -> StepAnswer
 
 // The step of a scene's body among these tables and cells, through the window's view.
 fn step_among(file: &[u8], records: &[u32], shapes: &[f32], cells: &[u32], w: Window) -> StepAnswer
-    ensures { λ r. ⌜ r ≡ stepEntry (now (records .entry)) (now (shapes .entry)) (now (cells .entry)) w (rulesIn (now (file .entry))) (bodyIn (now (file .entry))) (givenIn (now (file .entry))) (ageIn (now (file .entry))) ⌝ }
+    ensures { λ r. ⌜ r ≡ stepEntry (now (records .entry)) (now (shapes .entry)) (now (cells .entry)) w (rulesAt (numbersIn (now (file .entry))) (lateWords (now (file .entry)))) (bodyAt (numbersIn (now (file .entry))) (lateWords (now (file .entry)))) (motionAt (numbersIn (now (file .entry))) (lateWords (now (file .entry)))) (ageIn (now (file .entry))) ⌝ }
 {
     let numbers = numbers_in(file);
     let words = words_in(file);

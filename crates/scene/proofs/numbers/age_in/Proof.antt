@@ -1,5 +1,5 @@
 -- `scene::numbers::age_in` meets its contract. Assumes nothing.
-use Rattle.scene.specs.Scene.{ageIn}
+use Rattle.files.specs.Contents.{ageIn}
 use borrow.Author.Needs.{needs}
 use Rattle.scene.proofs.numbers.age_in.Statement.{statement}
 use Rattle.scene.proofs.numbers.age_in.Tie as tie

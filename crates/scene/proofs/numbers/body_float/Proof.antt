@@ -1,5 +1,5 @@
 -- `scene::numbers::body_float` meets its contract. Assumes nothing.
-use Rattle.scene.specs.Scene.{bodyFloat}
+use Rattle.files.specs.Contents.{bodyFloat}
 use borrow.Author.Needs.{needs}
 use Rattle.scene.proofs.numbers.body_float.Statement.{statement}
 use Rattle.scene.proofs.numbers.body_float.Tie as tie

@@ -1,6 +1,4 @@
 -- `scene::tick::step_among` meets its contract. Assumes nothing.
-use mathlib.Core.Path.{_∙_}
-use Rattle.scene.proofs.Scenes.{rules-read, body-read, motion-read}
 use borrow.Author.Needs.{needs}
 use Rattle.scene.proofs.tick.step_among.Statement.{statement}
 use Rattle.scene.proofs.tick.step_among.Tie as tie
@@ -46,13 +44,11 @@ step-window-requires c κs = search needs
 
 returns : tie.Need-returns
 returns c =
-    let file = c .before .before .before .before .before .before .before .before .before .before .before .before .before .before .before .before .before .args .file .now in
-    let numbers = c .before .before .before .before .before .before .before .before .before .before .before .before .numbers-in in
-    let words = c .before .before .before .before .before .before .before .before .before .before .before .words-in in
-    let rules = c .before .before .before .before .before .before .before .before .rules-from .ensures ∙ rules-read file (numbers .result) (words .result) (numbers .ensures) (words .ensures) in
-    let body = c .before .before .before .before .before .body-from .ensures ∙ body-read file (numbers .result) (words .result) (numbers .ensures) (words .ensures) in
-    let given = c .before .before .motion-from .ensures ∙ motion-read file (numbers .result) (words .result) (numbers .ensures) (words .ensures) in
-    rw (← rules, ← body, ← given, ← c .before .age-in .ensures) (c .step-window .ensures)
+    let at-motion = c .before .before in
+    let at-body = at-motion .before .before .before in
+    let at-rules = at-body .before .before .before in
+    let at-words = at-rules .before .before .before in
+    rw (at-rules .rules-from .ensures, at-body .body-from .ensures, at-motion .motion-from .ensures, c .before .age-in .ensures, at-words .before .numbers-in .ensures, at-words .words-in .ensures) at (c .step-window .ensures)
 
 pub step-among-spec : {M : Type 1} → statement M
 step-among-spec =

@@ -1,9 +1,9 @@
--- `exports::tick::body_refusal` meets its contract. Assumes nothing.
+-- `bodies::numbers::body_refusal` meets its contract. Assumes nothing.
 use Rattle.base.specs.Choose.{choose}
-use Rattle.exports.specs.Ticks.{bodyRefusal}
+use Rattle.bodies.specs.Lent.{bodyRefusal}
 use borrow.Author.Needs.{needs}
-use Rattle.exports.proofs.tick.body_refusal.Statement.{statement}
-use Rattle.exports.proofs.tick.body_refusal.Tie as tie
+use Rattle.bodies.proofs.numbers.body_refusal.Statement.{statement}
+use Rattle.bodies.proofs.numbers.body_refusal.Tie as tie
 
 lengths-fit-requires : tie.Need-lengths-fit-requires
 lengths-fit-requires c κs = search needs

@@ -1,0 +1,9 @@
+-- Laws of this crate's definitions, on plain values.
+pub mod Listed
+pub mod Stored
+pub mod Joined
+pub mod Words
+pub mod Blocks
+pub mod Counts
+pub mod Parts
+pub mod Singles

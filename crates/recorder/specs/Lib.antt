@@ -1,0 +1,2 @@
+-- The definitions of what a recorder is handed back.
+pub mod Answers

@@ -1,0 +1,315 @@
+-- Read, then written: a file that passes 8 and 1 to 4 is, byte for byte, what the writer makes of its contents. Assumes nothing.
+use mathlib.Core.Bool.{Bool, true, false, _&&_}
+use mathlib.Core.List.{List, [], _++_}
+use mathlib.Core.Path.{_≡_, refl, sym, ap, _∙_}
+use Prim.Native.Nat.{ℕ, zero, suc, _+_, _-_, _*_, _/_, _%_, _<_, _≤_}
+use native.Mathlib.Decide.{decLt}
+use native.Mathlib.Omega.{arith}
+use lib.Dec.{T, eqb, leb, ltb}
+use lib.ListN.{length, getD, take, drop, List·getD-eq-default, length-take}
+use lib.Seq.{take-all, getD-take, getD-drop}
+use lib.Ieee.{Float, binary32, binary64, isNan, ofBits, toBits}
+use lib.Ieee.Bits.{toBits-ofBits}
+use borrow.Author.Tests.{lt-ltb, le-ltb, le-leb, eq-eqb, ne-eqb, eqb-true, leb-true}
+use Rattle.base.specs.Choose.{choose}
+use Rattle.base.specs.Loop.{listed, stored}
+use Rattle.base.proofs.Every.{both}
+use Rattle.floats.specs.Numbers.{zero64}
+use Rattle.cover.specs.Cover.{boxCount}
+use Rattle.table_check.specs.Check.{stateCount}
+use Rattle.lent_words.specs.Words.{wideOf, lowOf, highOf, windowFrom, windowWords}
+use Rattle.lent_words.proofs.Rounds.{low-wide, high-wide, words-back}
+use Rattle.blocks.specs.declared.Part.{Part}
+use Rattle.blocks.specs.Blocks.{blockOf, fileWord, partWord, partFits, perBlock, endOf, bodyPart, recordPart, boxPart, windowPart, cellPart}
+use Rattle.files.specs.declared.Counts.{Counts}
+use Rattle.files.specs.Places.{numberPlace, agePlace, wordPlace, statesPlace, boxesPlace, flapNumber, presentWord, airWord}
+use Rattle.files.specs.Files.{bodyWord, flapFits, windowIn, sizesIn, countsIn, countsFit, countsOf, partsFit, blocksFor, blocksFit, isScene}
+use Rattle.files.specs.Contents.{Contents, bodyFloat, numbersIn, lateWord, lateWords, ageIn, wordsOf, singlesOf, contentsIn}
+use Rattle.part_writer.specs.Bytes.{partBytes, wordIn, bitsIn}
+use Rattle.part_writer.proofs.Listed.{listed-length, listed-from}
+use Rattle.part_writer.proofs.Parts.{Holds, fits-holds, holds-next, part-same}
+use Rattle.writer.specs.Contents.{countsFor, isAbsent, writtenNumber}
+use Rattle.writer.specs.Written.{halfOf, bodyWordOf, bytesBy, sceneBytes, roomFor, refusalOf, sceneRefusal, writtenBy, answerBy, writtenScene, sceneAnswer}
+use Rattle.rounds.specs.Rounds.{ComesOut, ReadThenWritten}
+use Rattle.rounds.proofs.Passed.{Passed, passed}
+use Rattle.rounds.proofs.Known.{known, number-known, shape-known}
+
+-- ---- what 8 says of a scene
+
+record Scene (file : List ℕ) (n : Counts) : Type 0 where
+  few : blocksFor n ≤ 128
+  size : length file ≡ blocksFor n * 512
+  flap : flapFits file ≡ true
+  body-fits : partFits file bodyPart ≡ true
+  records-fit : partFits file (recordPart (n .states)) ≡ true
+  boxes-fit : partFits file (boxPart (n .states) (n .boxes)) ≡ true
+  place-fits : partFits file (windowPart (n .states) (n .boxes)) ≡ true
+  cells-fit : partFits file (cellPart (n .states) (n .boxes) (n .cells)) ≡ true
+
+scene : (file : List ℕ) → isScene file ≡ true → Scene file (countsOf file)
+unfolding isScene blocksFit partsFit
+scene file h =
+    let n = countsOf file in
+    let a = partFits file bodyPart in
+    let b = partFits file (recordPart (n .states)) in
+    let d = partFits file (boxPart (n .states) (n .boxes)) in
+    let e = partFits file (windowPart (n .states) (n .boxes)) in
+    let f = partFits file (cellPart (n .states) (n .boxes) (n .cells)) in
+    let all : Bool = a && b && d && e && f in
+    let size : Bool = eqb (length file) (blocksFor n * 512) in
+    let few : Bool = leb (blocksFor n) 128 in
+    let t₁ = both (countsFit file) (flapFits file && (few && (size && all))) h in
+    let t₂ = both (flapFits file) (few && (size && all)) (t₁ .two) in
+    let t₃ = both few (size && all) (t₂ .two) in
+    let t₄ = both size all (t₃ .two) in
+    let p₁ = both (a && b && d && e) f (t₄ .two) in
+    let p₂ = both (a && b && d) e (p₁ .one) in
+    let p₃ = both (a && b) d (p₂ .one) in
+    let p₄ = both a b (p₃ .one) in
+    record {
+      few = leb-true _ _ (t₃ .one);
+      size = eqb-true _ _ (t₄ .one);
+      flap = t₂ .one;
+      body-fits = p₄ .one;
+      records-fit = p₄ .two;
+      boxes-fit = p₃ .two;
+      place-fits = p₂ .two;
+      cells-fit = p₁ .two;
+    }
+
+zero-bits : toBits binary64 zero64 ≡ 0
+unfolding toBits ofBits
+zero-bits = refl
+
+-- ---- words of bytes
+
+four-fit : (a b c d : ℕ) → a < 256 → b < 256 → c < 256 → d < 256 → a + b * 256 + c * 65536 + d * 16777216 < 4294967296
+four-fit a b c d ha hb hc hd = omega arith
+
+word-fits : (l : List ℕ) → ((i : ℕ) → getD l i 0 < 256) → (k : ℕ) → fileWord l k < 4294967296
+unfolding fileWord
+word-fits l s k = four-fit _ _ _ _ (s (k * 4)) (s (k * 4 + 1)) (s (k * 4 + 2)) (s (k * 4 + 3))
+
+module _ (file : List ℕ) (small : (i : ℕ) → getD file i 0 < 256) where
+  taken-small : (b i : ℕ) → Dec (i < 512) → getD (take 512 (drop b file)) i 0 < 256
+  taken-small b i (yes h) = rw (getD-take 512 (drop b file) i 0 h, getD-drop b file i 0) (small (b + i))
+  taken-small b i (no h) =
+      let o : length (take 512 (drop b file)) ≤ i = rw (length-take 512 (drop b file)) (omega arith) in
+      rw (List·getD-eq-default (take 512 (drop b file)) 0 o) (omega arith)
+
+  block-small : (b i : ℕ) → getD (blockOf file b) i 0 < 256
+  unfolding blockOf choose
+  block-small b i = go (ltb b (length file / 512))
+    where
+      go : (t : Bool) → getD (choose t (take 512 (drop (b * 512) file)) []) i 0 < 256
+      go true = taken-small (b * 512) i (decLt i 512)
+      go false = omega arith
+
+  part-word-fits : (p : Part) (i : ℕ) → partWord file p i < 4294967296
+  unfolding partWord choose
+  part-word-fits p i = go (ltb i (p .words))
+    where
+      go : (t : Bool) → choose t (fileWord (blockOf file (p .first + i / perBlock (p .kind))) (3 + i % perBlock (p .kind))) 0 < 4294967296
+      go true = word-fits _ (block-small _) _
+      go false = omega arith
+
+  -- ---- what the contents come to, word by word
+  module _ (s : isScene file ≡ true) (z : refusalOf (contentsIn file) ≡ 0) where
+    abbrev n : Counts
+    n = countsOf file
+
+    abbrev c : Contents
+    c = contentsIn file
+
+    told : Scene file n
+    told = scene file s
+
+    pass : Passed c
+    pass = passed c z
+
+    counts-same : countsFor c ≡ n
+    unfolding wordsOf singlesOf
+    counts-same =
+        let a = listed-length (partWord file (recordPart (n .states))) (n .states * 20) 0 in
+        let b = listed-length (λ (i : ℕ). ofBits binary32 (partWord file (boxPart (n .states) (n .boxes)) i)) (n .boxes * 6) 0 in
+        let d = listed-length (partWord file (cellPart (n .states) (n .boxes) (n .cells))) (n .cells) 0 in
+        let q : n .states * 20 / 20 ≡ n .states = omega arith in
+        let r : n .boxes * 6 / 6 ≡ n .boxes = omega arith in
+        rw (a, b, d, q, r)
+
+    -- the tables and cells
+    record-same : (i : ℕ) → i < n .states * 20 → wordIn (c .records) i ≡ partWord file (recordPart (n .states)) i
+    unfolding wordsOf
+    record-same i h = listed-from (partWord file (recordPart (n .states))) (n .states * 20) i 0 h
+
+    cell-same : (i : ℕ) → i < n .cells → wordIn (c .cells) i ≡ partWord file (cellPart (n .states) (n .boxes) (n .cells)) i
+    unfolding wordsOf
+    cell-same i h = listed-from (partWord file (cellPart (n .states) (n .boxes) (n .cells))) (n .cells) i 0 h
+
+    shape-same : (i : ℕ) → i < n .boxes * 6 → getD (c .shapes) i zero64 ≡ ofBits binary32 (partWord file (boxPart (n .states) (n .boxes)) i)
+    unfolding singlesOf
+    shape-same i h = listed-from (λ (i : ℕ). ofBits binary32 (partWord file (boxPart (n .states) (n .boxes)) i)) (n .boxes * 6) i zero64 h
+
+    shapes-size : length (c .shapes) ≡ n .boxes * 6
+    unfolding singlesOf
+    shapes-size = listed-length (λ (i : ℕ). ofBits binary32 (partWord file (boxPart (n .states) (n .boxes)) i)) (n .boxes * 6) 0
+
+    box-same : (i : ℕ) → i < n .boxes * 6 → bitsIn (c .shapes) i ≡ partWord file (boxPart (n .states) (n .boxes)) i
+    unfolding bitsIn
+    box-same i h =
+        let e = shapes-size in
+        let k = rw (shape-same i h) at (shape-known c pass i (omega arith)) in
+        rw (shape-same i h) (toBits-ofBits binary32 _ (part-word-fits (boxPart (n .states) (n .boxes)) i) (known _ k))
+
+    -- the window
+    place-same : (i : ℕ) → i < 8 → wordIn (windowWords (c .window)) i ≡ partWord file (windowPart (n .states) (n .boxes)) i
+    unfolding windowIn
+    place-same i h =
+        let p = windowPart (n .states) (n .boxes) in
+        ap (λ (l : List ℕ). wordIn l i) (words-back (partWord file p) (bodyWord file (wordPlace airWord)) (part-word-fits p)) ∙ listed-from (partWord file p) 8 i 0 h
+
+    -- the body
+    word-same : (k : ℕ) → k < 6 → wordIn (c .words) k ≡ bodyWord file (wordPlace k)
+    word-same k h = listed-from (lateWord file) 6 k 0 h
+
+    number-same : (k : ℕ) → k < 19 → getD (c .numbers) k zero64 ≡ bodyFloat file k
+    number-same k h = listed-from (bodyFloat file) 19 k zero64 h
+
+    abbrev wide : ℕ → ℕ
+    wide k = wideOf (bodyWord file (numberPlace k)) (bodyWord file (numberPlace k + 1))
+
+    wide-fits : (l h : ℕ) → l < 4294967296 → h < 4294967296 → wideOf l h < 18446744073709551616
+    wide-fits l h a b = omega arith
+
+    bits-same : (k : ℕ) → k < 19 → toBits binary64 (getD (c .numbers) k zero64) ≡ wide k
+    unfolding bodyFloat
+    bits-same k h =
+        let e : isNan (ofBits binary64 (wide k)) ≡ false = rw (number-same k h) at (number-known c pass k h) in
+        rw (number-same k h)
+        (toBits-ofBits binary64 (wide k) (wide-fits _ _ (part-word-fits bodyPart (numberPlace k)) (part-word-fits bodyPart (numberPlace k + 1))) (known _ e))
+
+    -- half j of a number's bits is its word
+    half-same : (k j : ℕ) → j < 2 → halfOf (wide k) j ≡ bodyWord file (k * 2 + j)
+    unfolding halfOf choose
+    half-same k zero h = let e : k * 2 + 0 ≡ k * 2 = omega arith in rw e (low-wide _ _ (part-word-fits bodyPart (k * 2)))
+    half-same k (suc zero) h = high-wide _ _ (part-word-fits bodyPart (k * 2))
+    half-same k (suc (suc j)) h = absurd (much j h)
+      where
+        much : (j : ℕ) → suc (suc j) < 2 → ⊥
+        much j h = omega arith
+
+    -- a flap that is not present has words that are zero
+    flap-words : eqb (bodyWord file (wordPlace presentWord)) 0 ≡ true → (bodyWord file (numberPlace flapNumber) ≡ 0) × (bodyWord file (numberPlace flapNumber + 1) ≡ 0)
+    unfolding flapFits
+    flap-words e =
+        let f : (eqb (bodyWord file (numberPlace flapNumber)) 0 && eqb (bodyWord file (numberPlace flapNumber + 1)) 0) ≡ true = rw e at (told .flap) in
+        let t = both (eqb (bodyWord file (numberPlace flapNumber)) 0) (eqb (bodyWord file (numberPlace flapNumber + 1)) 0) f in
+        (eqb-true _ _ (t .one), eqb-true _ _ (t .two))
+
+    flap-wide : eqb (bodyWord file (wordPlace presentWord)) 0 ≡ true → wide flapNumber ≡ 0
+    flap-wide e = let w = flap-words e in rw (w .0, w .1)
+
+    written-same : (k : ℕ) → k < 19 → toBits binary64 (writtenNumber (c .numbers) (c .words) k) ≡ wide k
+    unfolding writtenNumber isAbsent choose
+    written-same k h = go (eqb k flapNumber) refl (eqb (wordIn (c .words) presentWord) 0) refl
+      where
+        go : (a : Bool) → eqb k flapNumber ≡ a → (b : Bool) → eqb (wordIn (c .words) presentWord) 0 ≡ b → toBits binary64 (choose (a && b) zero64 (getD (c .numbers) k zero64)) ≡ wide k
+        go false ea b eb = bits-same k h
+        go true ea false eb = bits-same k h
+        go true ea true eb =
+            let q : k ≡ 12 = eqb-true k flapNumber ea in
+            let f = flap-wide (rw (word-same 4 (omega arith)) at eb) in
+            rw q (zero-bits ∙ sym f)
+
+    states-word : bodyWordOf (c .numbers) (c .words) (c .age) n statesPlace ≡ bodyWord file statesPlace
+    unfolding bodyWordOf countsIn choose
+    states-word = refl
+
+    boxes-word : bodyWordOf (c .numbers) (c .words) (c .age) n boxesPlace ≡ bodyWord file boxesPlace
+    unfolding bodyWordOf countsIn choose
+    boxes-word = refl
+
+    -- word by word: a number's, the age's, one of the six, a count
+    number-word : (i : ℕ) → i < 38 → bodyWordOf (c .numbers) (c .words) (c .age) n i ≡ bodyWord file i
+    unfolding bodyWordOf choose
+    number-word i h =
+        let e : i / 2 * 2 + i % 2 ≡ i = omega arith in
+        let k : i / 2 < 19 = omega arith in
+        rw (lt-ltb i 38 h, written-same (i / 2) k) (half-same (i / 2) (i % 2) (omega arith) ∙ ap (bodyWord file) e)
+
+    age-word : (i : ℕ) → 38 ≤ i → i < 40 → bodyWordOf (c .numbers) (c .words) (c .age) n i ≡ bodyWord file i
+    unfolding bodyWordOf ageIn choose
+    age-word i g h =
+        let e : 19 * 2 + (i - 38) ≡ i = omega arith in
+        rw (le-ltb i 38 g, lt-ltb i 40 h) (half-same 19 (i - 38) (omega arith) ∙ ap (bodyWord file) e)
+
+    late-word : (i : ℕ) → 40 ≤ i → i < 46 → bodyWordOf (c .numbers) (c .words) (c .age) n i ≡ bodyWord file i
+    unfolding bodyWordOf choose
+    late-word i g h =
+        let e : 40 + (i - 40) ≡ i = omega arith in
+        rw (le-ltb i 38 (omega arith), le-ltb i 40 g, lt-ltb i 46 h) (word-same (i - 40) (omega arith) ∙ ap (bodyWord file) e)
+
+    count-word : (i : ℕ) → 46 ≤ i → i < 48 → bodyWordOf (c .numbers) (c .words) (c .age) n i ≡ bodyWord file i
+    count-word i g h = go (decLt i 47)
+      where
+        go : Dec (i < 47) → bodyWordOf (c .numbers) (c .words) (c .age) n i ≡ bodyWord file i
+        go (yes l) = let e : i ≡ 46 = omega arith in rw e states-word
+        go (no l) = let e : i ≡ 47 = omega arith in rw e boxes-word
+
+    body-same : (i : ℕ) → i < 48 → bodyWordOf (c .numbers) (c .words) (c .age) n i ≡ bodyWord file i
+    body-same i h = number (decLt i 38) (decLt i 40) (decLt i 46)
+      where
+        number : Dec (i < 38) → Dec (i < 40) → Dec (i < 46) → bodyWordOf (c .numbers) (c .words) (c .age) n i ≡ bodyWord file i
+        number (yes l) y x = number-word i l
+        number (no l) (yes m) x = age-word i (omega arith) m
+        number (no l) (no m) (yes k) = late-word i (omega arith) k
+        number (no l) (no m) (no k) = count-word i (omega arith) h
+
+    -- ---- byte for byte
+    body-bytes : partBytes bodyPart (bodyWordOf (c .numbers) (c .words) (c .age) n) ≡ partBytes bodyPart (partWord file bodyPart)
+    body-bytes = part-same bodyPart _ _ body-same
+
+    abbrev up : ℕ → List ℕ
+    up b = take (b * 512) file
+
+    bytes-made : bytesBy c n ≡ file
+    unfolding bytesBy
+    bytes-made =
+        let q = told .few in
+        let l = told .size in
+        let h₁ = fits-holds file bodyPart small (told .body-fits) (omega arith) in
+        let h₂ = fits-holds file (recordPart (n .states)) small (told .records-fit) (omega arith) in
+        let h₃ = fits-holds file (boxPart (n .states) (n .boxes)) small (told .boxes-fit) (omega arith) in
+        let h₄ = fits-holds file (windowPart (n .states) (n .boxes)) small (told .place-fits) (omega arith) in
+        let h₅ = fits-holds file (cellPart (n .states) (n .boxes) (n .cells)) small (told .cells-fit) (omega arith) in
+        let e₁ = holds-next file bodyPart (partWord file bodyPart) h₁ in
+        let e₂ = holds-next file (recordPart (n .states)) (partWord file (recordPart (n .states))) h₂ in
+        let e₃ = holds-next file (boxPart (n .states) (n .boxes)) (partWord file (boxPart (n .states) (n .boxes))) h₃ in
+        let e₄ = holds-next file (windowPart (n .states) (n .boxes)) (partWord file (windowPart (n .states) (n .boxes))) h₄ in
+        let e₅ = holds-next file (cellPart (n .states) (n .boxes) (n .cells)) (partWord file (cellPart (n .states) (n .boxes) (n .cells))) h₅ in
+        rw (body-bytes, part-same (recordPart (n .states)) _ _ record-same, part-same (boxPart (n .states) (n .boxes)) _ _ box-same, part-same (windowPart (n .states) (n .boxes)) _ _ place-same, part-same (cellPart (n .states) (n .boxes) (n .cells)) _ _ cell-same)
+        (sym (rw (e₄, e₃, e₂, e₁) at e₅) ∙ take-all (blocksFor n * 512) file (omega arith))
+
+    bytes-same : sceneBytes c ≡ file
+    bytes-same = rw counts-same bytes-made
+
+    -- and there is room for it
+    none-refused : (out : List ℕ) → length file ≤ length out → sceneRefusal c (length out) ≡ 0
+    unfolding sceneRefusal roomFor choose
+    none-refused out h =
+        let q = told .few in
+        let l = told .size in
+        rw (z, counts-same, le-leb (blocksFor n) 128 q, le-leb (blocksFor n * 512) (length out) (omega arith))
+
+    pub comes-out : ComesOut file
+    unfolding writtenBy answerBy choose
+    comes-out =
+        let l = told .size in
+        record {
+          bytes = bytes-same;
+          buffer = λ out h. rw (none-refused out h, bytes-same);
+          answer = λ out h. rw (none-refused out h, counts-same, l);
+        }
+
+pub read-then-written : ReadThenWritten
+read-then-written file small s z = comes-out file small s z

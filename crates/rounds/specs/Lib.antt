@@ -1,0 +1,2 @@
+-- The statements of the two rounds of a scene.
+pub mod Rounds

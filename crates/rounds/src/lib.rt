@@ -1,0 +1,1 @@
+// What is written is read, and what is read is written: theorems over the definitions. No code.

@@ -1,0 +1,106 @@
+-- A scene as it is written. Document 01's and 02's words stand in quotes.
+use mathlib.Core.List.{List, _++_}
+use mathlib.Core.Path.{_≡_}
+use Prim.Native.Nat.{ℕ, _-_, _*_, _/_, _%_, _<_}
+use lib.Dec.{eqb, leb, ltb}
+use lib.ListN.{length}
+use lib.Ieee.{Float, binary64, toBits}
+use Rattle.base.specs.Choose.{choose}
+use Rattle.base.specs.Loop.{stored}
+use Rattle.cover.specs.Cover.{boxCount}
+use Rattle.table_check.specs.Check.{stateCount}
+use Rattle.window.specs.declared.Window.{Window}
+use Rattle.bodies.specs.Lent.{bodyRefusal}
+use Rattle.lent.specs.Lent.{lentRefusal}
+use Rattle.lent_words.specs.Words.{lowOf, highOf, windowWords}
+use Rattle.blocks.specs.Blocks.{bodyPart, recordPart, boxPart, windowPart, cellPart}
+use Rattle.files.specs.declared.Counts.{Counts}
+use Rattle.files.specs.Places.{agePlace, wordPlace, statesPlace}
+use Rattle.files.specs.Files.{blocksFor}
+use Rattle.part_writer.specs.Bytes.{partBytes, wordIn, bitsIn}
+use Rattle.files.specs.declared.Counted.{Counted}
+use Rattle.files.specs.declared.Counted.the-variants as counted
+use Rattle.writer.specs.declared.Written.{Written}
+use Rattle.files.specs.Contents.{Contents}
+use Rattle.writer.specs.Contents.{countsBy, countsFor, writtenNumber}
+
+-- ---- the words of the parts that are not lent as words
+
+-- "f64 low word first", "age (low, high)": the low word of a number, and at 1 the high one
+unfoldable pub halfOf : ℕ → ℕ → ℕ
+halfOf n j = choose (eqb j 0) (lowOf n) (highOf n)
+
+-- payload word i of the body: numbers, age, words, "state count, box count"
+unfoldable pub bodyWordOf : List Float → List ℕ → ℕ → Counts → ℕ → ℕ
+bodyWordOf numbers words age n i =
+    choose (ltb i agePlace) (halfOf (toBits binary64 (writtenNumber numbers words (i / 2))) (i % 2))
+    (choose (ltb i (wordPlace 0)) (halfOf age (i - agePlace))
+    (choose (ltb i statesPlace) (wordIn words (i - wordPlace 0))
+    (choose (eqb i statesPlace) (n .states) (n .boxes))))
+
+-- ---- the scene: "Kinds in order: one 1 (body), 2, 3, one 4, 5", by the table of parts that the reader goes by
+
+unfoldable pub bytesBy : Contents → Counts → List ℕ
+bytesBy c n =
+    partBytes bodyPart (bodyWordOf (c .numbers) (c .words) (c .age) n)
+    ++ partBytes (recordPart (n .states)) (wordIn (c .records))
+    ++ partBytes (boxPart (n .states) (n .boxes)) (bitsIn (c .shapes))
+    ++ partBytes (windowPart (n .states) (n .boxes)) (wordIn (windowWords (c .window)))
+    ++ partBytes (cellPart (n .states) (n .boxes) (n .cells)) (wordIn (c .cells))
+
+abbrev pub sceneBytes : Contents → List ℕ
+sceneBytes c = bytesBy c (countsFor c)
+
+abbrev pub sceneBlocks : Contents → ℕ
+sceneBlocks c = blocksFor (countsFor c)
+
+-- ---- "Refusals: 1 to 4 as for a step; then 12, more than 128 blocks; then 11, buffer too short"
+
+-- a refusal, or else the next
+abbrev pub orElse : ℕ → ℕ → ℕ
+orElse refusal next = choose (eqb refusal 0) next refusal
+
+-- 1 and 2, then 3 and 4, or 0
+unfoldable pub contentsRefusal : List ℕ → List Float → List ℕ → Window → List Float → List ℕ → ℕ
+contentsRefusal records shapes cells w numbers words = orElse (lentRefusal records shapes cells w) (bodyRefusal records numbers words)
+
+abbrev pub refusalOf : Contents → ℕ
+refusalOf c = contentsRefusal (c .records) (c .shapes) (c .cells) (c .window) (c .numbers) (c .words)
+
+-- 12, then 11, or 0: for so many blocks, and a buffer of this size
+unfoldable pub roomFor : ℕ → ℕ → ℕ
+roomFor blocks size = choose (leb blocks 128) (choose (leb (blocks * 512) size) 0 11) 12
+
+abbrev pub roomRefusal : Contents → ℕ → ℕ
+roomRefusal c size = roomFor (sceneBlocks c) size
+
+unfoldable pub sceneRefusal : Contents → ℕ → ℕ
+sceneRefusal c size = orElse (refusalOf c) (roomRefusal c size)
+
+-- ---- what is handed back, by the refusal: the buffer, with "bytes past the scene" as they were, and how many bytes were written
+
+-- a refusal writes nothing
+unfoldable pub writtenBy : ℕ → List ℕ → Contents → List ℕ
+writtenBy refusal out c = choose (eqb refusal 0) (stored out 0 (sceneBytes c)) out
+
+unfoldable pub answerBy : ℕ → Contents → Written
+answerBy refusal c = record { refusal = refusal; bytes = choose (eqb refusal 0) (sceneBlocks c * 512) 0 }
+
+-- write_scene
+abbrev pub writtenScene : List ℕ → Contents → List ℕ
+writtenScene out c = writtenBy (sceneRefusal c (length out)) out c
+
+abbrev pub sceneAnswer : ℕ → Contents → Written
+sceneAnswer size c = answerBy (sceneRefusal c size) c
+
+-- write_checked: for contents that were looked at before
+abbrev pub writtenChecked : List ℕ → Contents → List ℕ
+writtenChecked out c = writtenBy (roomRefusal c (length out)) out c
+
+abbrev pub checkedAnswer : ℕ → Contents → Written
+checkedAnswer size c = answerBy (roomRefusal c size) c
+
+-- what the program finds of the counts: a part alone that is longer than a scene has no room
+abbrev pub countedFor : List ℕ → List Float → List ℕ → Counted → Type 0
+countedFor records shapes cells (counted.Are n) = n ≡ countsBy (stateCount records) (boxCount shapes) (length cells)
+countedFor records shapes cells counted.Unfit = 128 < blocksFor (countsBy (stateCount records) (boxCount shapes) (length cells))
