@@ -11,10 +11,12 @@ ghost use Rattle.lent_steps.specs.Falling.{fallingNumbers, fallingWritte
 pub fn put_falling(out: &mut [f64], a: FallingAnswer)
     ensures { λ _. ⌜ now (out .exit) ≡ stored (now (out .entry)) 0 (fallingNumbers a) ⌝ }
 {
-    put_motion(out, a.step);
+    let step = a.step;
+    let support = step.support;
+    put_motion(out, step);
     put(out, 8, a.fall.sum);
     put(out, 9, a.fall.landed);
-    put_support(out, 10, a.step.support);
+    put_support(out, 10, support);
 }
 
 // A refusal writes nothing, so that the record stays with the host as it is.

@@ -69,8 +69,9 @@ fn put_support(out: &mut [f64], i: u8, s: Support)
 pub fn put_step(out: &mut [f64], a: StepAnswer)
     ensures { λ _. ⌜ now (out .exit) ≡ stored (now (out .entry)) 0 (stepNumbers a) ⌝ }
 {
+    let support = a.support;
     put_motion(out, a);
-    put_support(out, 8, a.support);
+    put_support(out, 8, support);
 }
 
 // Feet, velocity, ground, liquid, and the sample: ten numbers. It returns 0; or a refusal, and writes nothing. 11 is for less room than that.
