@@ -21,12 +21,12 @@ struct World {
     ends: (i32, i32),
 }
 
-fn ours(records: &[u32], shapes: &[f32], w: &World, c: &Call, out: &mut [f64; 8]) -> u32 {
+fn ours(records: &[u32], shapes: &[f32], w: &World, c: &Call, out: &mut [f64; 10]) -> u32 {
     let (o, s) = (w.origin, w.sizes);
     unsafe {
         boltjuniper_step(
             records.as_ptr(), records.len(), shapes.as_ptr(), shapes.len(), c.cells.as_ptr(), c.cells.len(), o.x, o.y, o.z, s.x as u32, s.y as u32,
-            s.z as u32, w.ends.0, w.ends.1, c.numbers.as_ptr(), 19, c.words.as_ptr(), 6, c.age, out.as_mut_ptr(), 8,
+            s.z as u32, w.ends.0, w.ends.1, c.numbers.as_ptr(), 19, c.words.as_ptr(), 6, c.age, out.as_mut_ptr(), out.len(),
         )
     }
 }
@@ -93,12 +93,13 @@ fn main() {
         let mut way = || (part(next(2000)) - 1.0) * speed;
         let velocity = DVec3::new(way(), way(), way());
         let c = Call::new(&w.words, models[next(4) as usize], feet, velocity, next(2) == 0, u64::from(next(100)));
-        let mut out = [9.0; 8];
+        let mut out = [9.0; 10];
         let refusal = ours(&records, &shapes, &w, &c, &mut out);
         let theirs = rusts(&registry, &w, &c);
         seen[refusal as usize] += 1;
         let agrees = match theirs {
-            Ok(b) => refusal == 0 && out.map(f64::to_bits) == b.map(f64::to_bits),
+            // the last two of ours are the case of its sample, which the Rust does not tell
+            Ok(b) => refusal == 0 && (0..8).all(|k| out[k].to_bits() == b[k].to_bits()),
             Err(n) => refusal == n,
         };
         if refusal == 0 && (feet.y < f64::from(lowest) || feet.y > f64::from(highest)) {

@@ -11,7 +11,7 @@ use palette::{Call, boltjuniper_step, boltjuniper_step_checked, tables};
 use standins::registry_of;
 #[allow(unused_imports)]
 use standins::{entity, world};
-use yards::{KINDS, LOW, SIZE, WORLD, after, first, numbers, ours, rusts, window};
+use yards::{KINDS, LOW, SIZE, Told, WORLD, after, bits, first, numbers, ours, rusts, window};
 
 unsafe extern "C" {
     fn boltjuniper_midnight(
@@ -35,7 +35,7 @@ struct Lent {
 }
 
 #[inline(never)]
-fn night(t: &Lent, numbers: &[[f64; 21]], words: &[[u32; 9]], out: &mut [[f64; 11]]) -> u32 {
+fn night(t: &Lent, numbers: &[[f64; 21]], words: &[[u32; 9]], out: &mut [[f64; 13]]) -> u32 {
     let (n, w, o) = (numbers.as_flattened(), words.as_flattened(), out.as_flattened_mut());
     unsafe {
         boltjuniper_midnight(
@@ -59,12 +59,12 @@ fn main() {
     let windows: Vec<Vec<u32>> = (0..WINDOWS).map(|n| window(n % KINDS.len(), &mut next)).collect();
     // The bodies take turns among the windows, and with them among the kinds; each is followed for some ticks.
     let mut calls: Vec<(usize, Call)> = Vec::new();
-    let mut answers: Vec<[f64; 8]> = Vec::new();
+    let mut answers: Vec<Told> = Vec::new();
     for _ in 0..BODIES / WINDOWS / TICKS {
         let mut bodies: Vec<Call> = (0..WINDOWS).map(|j| first(&windows[j], j % KINDS.len(), &mut next)).collect();
         for _ in 0..TICKS {
             for (j, c) in bodies.iter_mut().enumerate() {
-                let mut b = [9.0; 8];
+                let mut b = [9.0; 10];
                 rusts(&registry, c, &mut b);
                 let following = after(c, j % KINDS.len(), &b);
                 calls.push((j, std::mem::replace(c, following)));
@@ -85,14 +85,15 @@ fn main() {
             [*j as u32, c.age as u32, (c.age >> 32) as u32, a, b, d, e, f, g]
         })
         .collect();
-    let mut out = vec![[9.0; 11]; BODIES + 1];
+    let mut out = vec![[9.0; 13]; BODIES + 1];
     assert_eq!(night(&lent, &numbers, &words, &mut out), 0);
-    assert_eq!(out[BODIES], [9.0; 11]);
-    let mut one = [9.0; 8];
+    assert_eq!(out[BODIES], [9.0; 13]);
+    let mut one = [9.0; 10];
     for ((_, c), (a, b)) in calls.iter().zip(out.iter().zip(&answers)) {
-        assert_eq!((a[0], std::array::from_fn(|k| a[k + 1].to_bits())), (0.0, b.map(f64::to_bits)));
+        assert_eq!((a[0], std::array::from_fn(|k| a[k + 1].to_bits())), (0.0, bits(b)));
         assert_eq!(ours(boltjuniper_step_checked, &lent.records, &lent.shapes, c, &mut one), 0);
-        assert_eq!(one.map(f64::to_bits), b.map(f64::to_bits));
+        assert_eq!(bits(&one), bits(b));
+        assert_eq!((one[8], one[9].to_bits()), (a[11], a[12].to_bits()));
     }
     println!("{BODIES} bodies over {WINDOWS} windows, a table of {} states; the least of {PASSES} passes", lent.records.len() / 20);
 

@@ -11,7 +11,7 @@ use palette::{Call, boltjuniper_step, boltjuniper_step_checked, tables};
 use standins::registry_of;
 #[allow(unused_imports)]
 use standins::{entity, world};
-use yards::{KINDS, after, first, numbers, ours, rusts, window};
+use yards::{KINDS, after, bits, first, numbers, ours, rusts, window};
 
 const TICKS: usize = 8;
 const PASSES: usize = 200;
@@ -37,17 +37,17 @@ fn main() {
         let mut c = first(cells, *kind, &mut next);
         scenes += 1;
         for _ in 0..TICKS {
-            let (mut a, mut b, mut e) = ([9.0; 8], [9.0; 8], [9.0; 8]);
+            let (mut a, mut b, mut e) = ([9.0; 10], [9.0; 10], [9.0; 10]);
             assert_eq!(ours(boltjuniper_step_checked, &records, &shapes, &c, &mut a), 0);
             assert_eq!(ours(boltjuniper_step, &records, &shapes, &c, &mut e), 0);
             rusts(&registry, &c, &mut b);
-            assert_eq!(a.map(f64::to_bits), b.map(f64::to_bits));
-            assert_eq!(e.map(f64::to_bits), b.map(f64::to_bits));
+            assert_eq!(bits(&a), bits(&b));
+            assert_eq!(bits(&e), bits(&b));
             let following = after(&c, *kind, &b);
             calls[*kind].push(std::mem::replace(&mut c, following));
         }
     }
-    let mut out = [0.0; 8];
+    let mut out = [0.0; 10];
     let mut report = |what: &str, calls: &[Call]| {
         let (mut a, mut b, mut e) = (f64::MAX, f64::MAX, f64::MAX);
         for n in 0..PASSES {

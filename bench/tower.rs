@@ -23,12 +23,12 @@ const TICKS: usize = 8;
 const PASSES: usize = 100;
 
 #[inline(never)]
-fn ours(f: Step, records: &[u32], shapes: &[f32], (low, layers): (i32, i32), c: &Call, out: &mut [f64; 8]) -> u32 {
+fn ours(f: Step, records: &[u32], shapes: &[f32], (low, layers): (i32, i32), c: &Call, out: &mut [f64; 10]) -> u32 {
     let n = SIZE as u32;
     unsafe {
         f(
             records.as_ptr(), records.len(), shapes.as_ptr(), shapes.len(), c.cells.as_ptr(), c.cells.len(), LOW, low, LOW, n, layers as u32, n,
-            WORLD.0, WORLD.1, c.numbers.as_ptr(), 19, c.words.as_ptr(), 6, c.age, out.as_mut_ptr(), 8,
+            WORLD.0, WORLD.1, c.numbers.as_ptr(), 19, c.words.as_ptr(), 6, c.age, out.as_mut_ptr(), out.len(),
         )
     }
 }
@@ -104,10 +104,13 @@ fn main() {
             bodies_seen += 1;
             for _ in 0..TICKS {
                 let q = Call { cells: quarter, ..c };
-                let (mut a, mut b) = ([9.0; 8], [9.0; 8]);
+                let (mut a, mut b) = ([9.0; 10], [9.0; 10]);
                 assert_eq!(ours(boltjuniper_step, &records, &shapes, TALL, &c, &mut a), 0);
                 assert_eq!(ours(boltjuniper_step, &records, &shapes, QUARTER, &q, &mut b), 0);
-                let all = [a, b, rusts(&registry, TALL, &c), rusts(&registry, QUARTER, &q)].map(|out| out.map(f64::to_bits));
+                assert_eq!(a.map(f64::to_bits), b.map(f64::to_bits));
+                // the Rust does not tell the case of its sample, the last two of ours
+                let ours: [f64; 8] = std::array::from_fn(|k| a[k]);
+                let all = [ours, rusts(&registry, TALL, &c), rusts(&registry, QUARTER, &q)].map(|out| out.map(f64::to_bits));
                 assert!(all.iter().all(|out| *out == all[0]), "{:?} {:?}: {all:x?}", c.feet, c.velocity);
                 above += usize::from(c.feet.y >= f64::from(WORLD.1 + 1));
                 below += usize::from(c.feet.y < f64::from(WORLD.0));
@@ -118,7 +121,7 @@ fn main() {
     }
     println!("a tower: {} steps of {bodies_seen} bodies, {above} from above the world, {below} from below it", calls.len());
     println!("a window of {} words has the bits of one of {} in every answer, ours and the Rust's", windows[0].1.len(), windows[0].0.len());
-    let mut out = [0.0; 8];
+    let mut out = [0.0; 10];
     let mut best = [f64::MAX; 4];
     for _ in 0..PASSES {
         let ways: [(Step, (i32, i32)); 4] =

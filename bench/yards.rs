@@ -55,25 +55,33 @@ pub fn first<'a>(cells: &'a [u32], kind: usize, next: &mut impl FnMut(u64) -> u3
     )
 }
 
-/// The step after this one, which came to these eight numbers. A walking body is pushed on, so that it does not come to rest.
-pub fn after<'a>(c: &Call<'a>, kind: usize, b: &[f64; 8]) -> Call<'a> {
+/// What a step writes: eight numbers that the Rust has too, then the case of its sample, which the Rust does not tell, and the sampled number.
+pub type Told = [f64; 10];
+
+/// The bits of what both have.
+pub fn bits(told: &Told) -> [u64; 8] {
+    std::array::from_fn(|k| told[k].to_bits())
+}
+
+/// The step after this one, which came to these numbers. A walking body is pushed on, so that it does not come to rest.
+pub fn after<'a>(c: &Call<'a>, kind: usize, b: &Told) -> Call<'a> {
     let v = if kind == 0 { DVec3::new(c.velocity.x, b[4], c.velocity.z) } else { DVec3::new(b[3], b[4], b[5]) };
     Call::new(c.cells, c.body, DVec3::new(b[0], b[1], b[2]), v, b[6] == 1.0, c.age + 1)
 }
 
 #[inline(never)]
-pub fn ours(f: Step, records: &[u32], shapes: &[f32], c: &Call, out: &mut [f64; 8]) -> u32 {
+pub fn ours(f: Step, records: &[u32], shapes: &[f32], c: &Call, out: &mut Told) -> u32 {
     let n = SIZE as u32;
     unsafe {
         f(
             records.as_ptr(), records.len(), shapes.as_ptr(), shapes.len(), c.cells.as_ptr(), c.cells.len(), LOW, LOW, LOW, n, n, n,
-            WORLD.0, WORLD.1, c.numbers.as_ptr(), 19, c.words.as_ptr(), 6, c.age, out.as_mut_ptr(), 8,
+            WORLD.0, WORLD.1, c.numbers.as_ptr(), 19, c.words.as_ptr(), 6, c.age, out.as_mut_ptr(), out.len(),
         )
     }
 }
 
 #[inline(never)]
-pub fn rusts(registry: &BlockRegistry, c: &Call, out: &mut [f64; 8]) -> u32 {
+pub fn rusts(registry: &BlockRegistry, c: &Call, out: &mut Told) -> u32 {
     let w = Window::new(registry, c.cells, IVec3::new(LOW, LOW, LOW), IVec3::new(SIZE, SIZE, SIZE), WORLD);
     let (mut v, mut ground) = (c.velocity, c.ground);
     let (p, liquid) = step_body_sensed(&w, &c.body, c.feet, &mut v, &mut ground, c.age);
@@ -82,6 +90,6 @@ pub fn rusts(registry: &BlockRegistry, c: &Call, out: &mut [f64; 8]) -> u32 {
         Some(LiquidKind::Water) => 1.0,
         Some(LiquidKind::Lava) => 2.0,
     };
-    *out = [p.x, p.y, p.z, v.x, v.y, v.z, f64::from(u8::from(ground)), liquid];
+    out[..8].copy_from_slice(&[p.x, p.y, p.z, v.x, v.y, v.z, f64::from(u8::from(ground)), liquid]);
     0
 }

@@ -52,9 +52,20 @@ extern "C" {
 /* Takes tables; writes nothing. Returns 0 where they keep every rule, and else 1. */
 uint32_t boltjuniper_check_tables(const uint32_t *records, size_t records_len, const float *shapes, size_t shapes_len);
 
-/* One tick of a body: takes tables, a window, a body and its age in ticks. Writes eight numbers to `out`: feet x y z, velocity x y z, ground
-   (0 or 1), and the liquid that it is in (0 none, 1 water, 2 lava). Returns 0; or 1, 2, 3, 4, 11, then 5, 6 or 7 at the first such event, then
-   9. */
+/* One tick of a body: takes tables, a window, a body and its age in ticks. Writes ten numbers to `out`:
+      0  1  2   feet x y z            6   ground, 0 or 1                                   8   what its friction comes from, one of the cases below
+      3  4  5   velocity x y z        7   the liquid: 0 none, 1 water, 2 lava              9   the sampled friction, 0 where none was sampled
+   Returns 0; or 1, 2, 3, 4, 11, then 5, 6 or 7 at the first such event, then 9. A step samples the block under the body's feet after its move. Where
+   there is no friction to sample it goes on with 0.6, or with the rules' default under a living body, and the case says why: the cell is the air
+   state, its column is not loaded, or its state has no registered record. It asks for no sample in the air, at rest, with ground friction none, of a
+   living body in liquid, and of a falling block that landed. */
+enum {
+    BOLTJUNIPER_NOT_ASKED = 0,
+    BOLTJUNIPER_SAMPLED = 1,
+    BOLTJUNIPER_AIR = 2,
+    BOLTJUNIPER_UNLOADED = 3,
+    BOLTJUNIPER_UNREGISTERED = 4
+};
 uint32_t boltjuniper_step(const uint32_t *records, size_t records_len, const float *shapes, size_t shapes_len, const uint32_t *cells,
                           size_t cells_len, int32_t ox, int32_t oy, int32_t oz, uint32_t sx, uint32_t sy, uint32_t sz, int32_t lowest,
                           int32_t highest, const double *numbers, size_t numbers_len, const uint32_t *words, size_t words_len, uint64_t age,
@@ -67,9 +78,9 @@ uint32_t boltjuniper_step_checked(const uint32_t *records, size_t records_len, c
                                   size_t words_len, uint64_t age, double *out, size_t out_len);
 
 /* One tick of a body with its fall record: takes what boltjuniper_step does, and of the record the falling sum and the landed number, both 0 in a
-   fresh one. Writes ten numbers to `out`: the eight of boltjuniper_step, then the record after the tick, sum and landed. Returns what
-   boltjuniper_step does; 3 also for a sum or a landed number that is negative, not finite or above 2^30. A refusal writes nothing, so the record
-   that you handed in is still yours as it is. */
+   fresh one. Writes twelve numbers to `out`: numbers 0 to 7 of boltjuniper_step, then the record after the tick, sum (8) and landed (9), then case
+   (10) and friction (11). Returns what boltjuniper_step does; 3 also for a sum or a landed number that is negative, not finite or above 2^30. A
+   refusal writes nothing, so the record that you handed in is still yours as it is. */
 uint32_t boltjuniper_step_falling(const uint32_t *records, size_t records_len, const float *shapes, size_t shapes_len, const uint32_t *cells,
                                   size_t cells_len, int32_t ox, int32_t oy, int32_t oz, uint32_t sx, uint32_t sy, uint32_t sz,
                                   int32_t lowest, int32_t highest, const double *numbers, size_t numbers_len, const uint32_t *words,
@@ -83,13 +94,13 @@ uint32_t boltjuniper_step_falling(const uint32_t *records, size_t records_len, c
       3  4  5   sizes x y z                         7   highest, as int32_t         9   how many they are
    A body has 21 numbers: the 19 of boltjuniper_step, then its fall record, the sum (19) and the landed number (20). And nine words:
       0   the number of its window, from 0          1  2   its age, the low word first          3 to 8   the six words of boltjuniper_step
-   For each body eleven numbers are written, row i for body i:
-      0   its refusal, or 0                         1 to 8   the eight of boltjuniper_step      9  10   the fall record after it, sum and landed
-   A refused body has its own number there, its motion and fall record as they were handed in, and liquid 0: 3 for a row that is not there whole, 10
-   for naming no window, 2 for a window that breaks a limit or whose row or words are not there whole, then 3 to 9 as boltjuniper_step_falling. So one
-   bad row costs its body the tick, and no other.
+   For each body 13 numbers are written, row i for body i:
+      0   its refusal, or 0                         1 to 12   the twelve of boltjuniper_step_falling
+   A refused body has its own number there, its motion and fall record as they were handed in, liquid 0 and case 0: 3 for a row that is not there
+   whole, 10 for naming no window, 2 for a window that breaks a limit or whose row or words are not there whole, then 3 to 9 as
+   boltjuniper_step_falling. So one bad row costs its body the tick, and no other.
 
-   It takes tables, `windows_count` windows in rows, `cells`, `bodies_count` bodies in rows, and writes bodies_count * 11 numbers to `out`; the rest of
+   It takes tables, `windows_count` windows in rows, `cells`, `bodies_count` bodies in rows, and writes bodies_count * 13 numbers to `out`; the rest of
    `out` stays. Returns 0; or 1, then 14 (more than 16 windows or 4,096 bodies), then 11, and writes nothing. Each answer is that of the body's single
    step, and bodies may stand in any order.
 
@@ -99,14 +110,14 @@ uint32_t boltjuniper_step_falling(const uint32_t *records, size_t records_len, c
 #define BOLTJUNIPER_WINDOW_WORDS 10
 #define BOLTJUNIPER_BODY_NUMBERS 21
 #define BOLTJUNIPER_BODY_WORDS 9
-#define BOLTJUNIPER_ANSWER_NUMBERS 11
+#define BOLTJUNIPER_ANSWER_NUMBERS 13
 uint32_t boltjuniper_midnight(const uint32_t *records, size_t records_len, const float *shapes, size_t shapes_len, const uint32_t *windows,
                               size_t windows_len, uint32_t windows_count, const uint32_t *cells, size_t cells_len, const double *numbers,
                               size_t numbers_len, const uint32_t *words, size_t words_len, uint32_t bodies_count, double *out, size_t out_len);
 
-/* One tick of the scene in `file` (blocks of 512 bytes, as onetick reads them; no alignment is asked for). Writes the same eight numbers to `out`.
-   Returns 0; or 8 where the file is no scene, 1, 2, 3, 4, 11, then 5, 6 or 7 at the first such event, then 9. It keeps two arrays of 15,744
-   words of the file on the stack, and reaches 136 KB below its caller (docs/STACK.md): call it from a thread that has them. */
+/* One tick of the scene in `file` (blocks of 512 bytes, as onetick reads them; no alignment is asked for). Writes the ten numbers of
+   boltjuniper_step to `out`. Returns 0; or 8 where the file is no scene, 1, 2, 3, 4, 11, then 5, 6 or 7 at the first such event, then 9. It keeps
+   two arrays of 15,744 words of the file on the stack, and reaches 136 KB below its caller (docs/STACK.md): call it from a thread that has them. */
 uint32_t boltjuniper_tick(const uint8_t *file, size_t file_len, double *out, size_t out_len);
 
 /* The move of a box through a window: takes tables, a window, the air state, `mover` (the box x0 y0 z0 x1 y1 z1, then its delta x y z: nine

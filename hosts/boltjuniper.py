@@ -3,7 +3,7 @@
     import boltjuniper as b
     tables = b.Tables(records, shapes)                          # 20 words to a state, six numbers to a box
     window = b.Window(cells, (0, -1, 0), (2, 4, 2), -64, 319)   # its cells and columns, origin and sizes, the world's lowest and highest y
-    b.step(tables, window, b.Body(numbers, words, age))         # Tick(feet=.., velocity=.., ground=True, liquid='none'), or raises Refused
+    b.step(tables, window, b.Body(numbers, words, age))         # Tick(feet=.., ground=True, liquid='none', support='air', ..), or raises Refused
     b.step_falling(tables, window, body, b.Fall())              # the Tick, and the fall record after it
     b.steps(tables, window, bodies)                             # a list: for each body its Tick, or its Refused as a value
     b.midnight(tables, *b.window_rows(windows), *b.body_rows(bodies, named, falls))     # thousands of bodies over up to 16 windows, in one call
@@ -88,11 +88,18 @@ class Mover(NamedTuple):
     ground: bool = False
 
 
+CASES = ("not asked", "sampled", "air", "unloaded", "unregistered")
+
+
 class Tick(NamedTuple):
+    """`support` is one of CASES: where the body's friction comes from, or why there is none; hosts/boltjuniper.h says when none is asked for.
+    `friction` is the sampled number, None where none was sampled."""
     feet: tuple
     velocity: tuple
     ground: bool
     liquid: str
+    support: str = "not asked"
+    friction: float = None
 
 
 class Fall(NamedTuple):
@@ -246,11 +253,14 @@ def _whole(numbers, low, high):
 
 
 def _tick(out):
-    return out if isinstance(out, Refused) else Tick(tuple(out[:3]), tuple(out[3:6]), out[6] != 0, ("none", "water", "lava")[int(out[7])])
+    if isinstance(out, Refused):
+        return out
+    case = CASES[int(out[8])]
+    return Tick(tuple(out[:3]), tuple(out[3:6]), out[6] != 0, ("none", "water", "lava")[int(out[7])], case, out[9] if case == "sampled" else None)
 
 
 def _fallen(out):
-    return out if isinstance(out, Refused) else (_tick(out[:8]), Fall(*out[8:]))
+    return out if isinstance(out, Refused) else (_tick(out[:8] + out[10:]), Fall(*out[8:10]))
 
 
 def _moved(out):
@@ -272,22 +282,22 @@ def check_tables(tables):
 
 def step(tables, window, body):
     """One tick of a body."""
-    return _judged(_tick(_Lent().tables(tables).window(window).body(body).answer("step", 8)))
+    return _judged(_tick(_Lent().tables(tables).window(window).body(body).answer("step", 10)))
 
 
 def step_checked(tables, window, body):
     """The same for tables and a window that were checked before: it looks for neither 1 nor 2, and is as safe."""
-    return _judged(_tick(_Lent().tables(tables).window(window).body(body).answer("step_checked", 8)))
+    return _judged(_tick(_Lent().tables(tables).window(window).body(body).answer("step_checked", 10)))
 
 
 def step_falling(tables, window, body, fall=Fall()):
     """One tick of a body with its fall record: the Tick, and the record after it. Where it is refused, the record that was handed in still holds."""
-    return _judged(_fallen(_Lent().tables(tables).window(window).body(body).fall(fall).answer("step_falling", 10)))
+    return _judged(_fallen(_Lent().tables(tables).window(window).body(body).fall(fall).answer("step_falling", 12)))
 
 
 def tick(file):
     """The tick of a scene file, given as bytes."""
-    return _judged(_tick(_Lent().slice("file", file, "B").answer("tick", 8)))
+    return _judged(_tick(_Lent().slice("file", file, "B").answer("tick", 10)))
 
 
 def move(tables, window, air, mover):
@@ -328,20 +338,21 @@ def steps(tables, window, bodies):
             continue
         one = _Lent()
         one.arguments = list(lent.arguments)
-        answers.append(_tick(one.body(body).answer("step_checked" if answers else "step", 8)))
+        answers.append(_tick(one.body(body).answer("step_checked" if answers else "step", 10)))
     return answers
 
 
 def ticks(files):
     """The tick of each scene file: a list of Tick or Refused."""
-    return [_tick(_Lent().slice("file", file, "B").answer("tick", 8)) for file in files]
+    return [_tick(_Lent().slice("file", file, "B").answer("tick", 10)) for file in files]
 
 
 # ---- the midnight run: rows in, rows out
 
 WINDOW_WORDS, BODY_NUMBERS, BODY_WORDS = 10, 21, 9
 # an answer: the names of its numbers, and how many there are of each
-ANSWER = (("refusal", 1), ("feet", 3), ("velocity", 3), ("ground", 1), ("liquid", 1), ("sum", 1), ("landed", 1))
+ANSWER = (("refusal", 1), ("feet", 3), ("velocity", 3), ("ground", 1), ("liquid", 1), ("sum", 1), ("landed", 1), ("case", 1),
+          ("friction", 1))
 ANSWER_NUMBERS = sum(count for _, count in ANSWER)
 
 
@@ -370,7 +381,7 @@ def midnight(tables, windows, cells, numbers, words, out=None):
     """One tick of each body, over rows as hosts/boltjuniper.h has them: ten words to a window over `cells`, 21 numbers and nine words to a body; as many
     windows and bodies as there are words for. With numpy the answer is one structured array with the fields of ANSWER, a row for each body; without it,
     a list of rows. `answered` has a row as a Tick or a Refused. Refused by 1, 14 or 11 is raised. `out`, an array of float64 with room for
-    eleven numbers a body, is written to where it is given, and what lies beyond the last row stays.
+    13 numbers a body, is written to where it is given, and what lies beyond the last row stays.
 
     From several threads: the call lets other threads run meanwhile. Lend each the same tables, windows and cells, and its own part of numbers, words and
     out, as numbers[a * 21:b * 21]."""
@@ -399,5 +410,6 @@ def midnight(tables, windows, cells, numbers, words, out=None):
 
 def answered(row):
     """A row of the midnight run as its Tick, or its Refused as a value; and its fall record, as it was where the body is refused."""
-    refusal, x, y, z, u, v, w, ground, liquid, *fall = (float(n) for part in row for n in (part if hasattr(part, "__len__") else (part,)))
-    return Refused(int(refusal)) if refusal else _tick([x, y, z, u, v, w, ground, liquid]), Fall(*fall)
+    refusal, *out = (float(n) for part in row for n in (part if hasattr(part, "__len__") else (part,)))
+    tick, fall = _fallen(out)
+    return Refused(int(refusal)) if refusal else tick, fall

@@ -84,12 +84,23 @@ pub enum Liquid {
     Lava,
 }
 
+/// Where a body's friction comes from: a block's, or why there is none; hosts/boltjuniper.h says when none is asked for.
+#[derive(Clone, Copy, Debug, PartialEq)]
+pub enum Support {
+    NotAsked,
+    Sampled(f64),
+    Air,
+    Unloaded,
+    Unregistered,
+}
+
 #[derive(Clone, Copy, Debug, PartialEq)]
 pub struct Tick {
     pub feet: [f64; 3],
     pub velocity: [f64; 3],
     pub ground: bool,
     pub liquid: Liquid,
+    pub support: Support,
 }
 
 /// A fall record: how far a body has fallen since the last reset, and how far it fell to its last landing. The default is a fresh one.
@@ -115,8 +126,8 @@ pub struct WindowRow {
 pub type BodyNumbers = [f64; 21];
 pub type BodyWords = [u32; 9];
 
-/// What is written for a body: its refusal, its tick and its fall record, as hosts/boltjuniper.h has them.
-pub type AnswerNumbers = [f64; 11];
+/// What is written for a body: its refusal, then its tick with its fall record, as hosts/boltjuniper.h has them.
+pub type AnswerNumbers = [f64; 13];
 
 /// A box, min x y z and max x y z, with its delta, the step height, and whether the body was on the ground.
 #[derive(Clone, Copy)]
@@ -142,10 +153,22 @@ impl Mover {
     }
 }
 
-fn ticked(refusal: u32, out: [f64; 8]) -> Result<Tick, Refusal> {
-    let [a, b, c, x, y, z, ground, liquid] = out;
+fn ticked(refusal: u32, out: [f64; 10]) -> Result<Tick, Refusal> {
+    let [a, b, c, x, y, z, ground, liquid, case, friction] = out;
     let liquid = if liquid == 0.0 { Liquid::None } else if liquid == 1.0 { Liquid::Water } else { Liquid::Lava };
-    if refusal == 0 { Ok(Tick { feet: [a, b, c], velocity: [x, y, z], ground: ground != 0.0, liquid }) } else { Err(refusal) }
+    let support = match case as u32 {
+        0 => Support::NotAsked,
+        1 => Support::Sampled(friction),
+        2 => Support::Air,
+        3 => Support::Unloaded,
+        _ => Support::Unregistered,
+    };
+    if refusal == 0 { Ok(Tick { feet: [a, b, c], velocity: [x, y, z], ground: ground != 0.0, liquid, support }) } else { Err(refusal) }
+}
+
+fn fallen(refusal: u32, out: [f64; 12]) -> (Result<Tick, Refusal>, Fall) {
+    let [a, b, c, x, y, z, ground, liquid, sum, landed, case, friction] = out;
+    (ticked(refusal, [a, b, c, x, y, z, ground, liquid, case, friction]), Fall { sum, landed })
 }
 
 fn moved(refusal: u32, out: [f64; 10]) -> Result<Moved, Refusal> {
@@ -165,7 +188,7 @@ pub fn check_tables(t: Tables) -> Result<(), Refusal> {
 
 /// One tick of a body.
 pub fn step(t: Tables, w: Window, b: &Body) -> Result<Tick, Refusal> {
-    let ([ox, oy, oz], [sx, sy, sz], mut out) = (w.origin, w.sizes, [0.0; 8]);
+    let ([ox, oy, oz], [sx, sy, sz], mut out) = (w.origin, w.sizes, [0.0; 10]);
     let refusal = unsafe {
         linked::boltjuniper_step(
             t.records.as_ptr(), t.records.len(), t.shapes.as_ptr(), t.shapes.len(), w.cells.as_ptr(), w.cells.len(), ox, oy, oz, sx, sy, sz,
@@ -177,7 +200,7 @@ pub fn step(t: Tables, w: Window, b: &Body) -> Result<Tick, Refusal> {
 
 /// The same for tables and a window that were checked before: it looks for neither 1 nor 2, and is as safe.
 pub fn step_checked(t: Tables, w: Window, b: &Body) -> Result<Tick, Refusal> {
-    let ([ox, oy, oz], [sx, sy, sz], mut out) = (w.origin, w.sizes, [0.0; 8]);
+    let ([ox, oy, oz], [sx, sy, sz], mut out) = (w.origin, w.sizes, [0.0; 10]);
     let refusal = unsafe {
         linked::boltjuniper_step_checked(
             t.records.as_ptr(), t.records.len(), t.shapes.as_ptr(), t.shapes.len(), w.cells.as_ptr(), w.cells.len(), ox, oy, oz, sx, sy, sz,
@@ -189,7 +212,7 @@ pub fn step_checked(t: Tables, w: Window, b: &Body) -> Result<Tick, Refusal> {
 
 /// One tick of a body with its fall record, and the record after it. Where it is refused, the record that was handed in stays as it is.
 pub fn step_falling(t: Tables, w: Window, b: &Body, fall: Fall) -> Result<(Tick, Fall), Refusal> {
-    let ([ox, oy, oz], [sx, sy, sz], mut out) = (w.origin, w.sizes, [0.0; 10]);
+    let ([ox, oy, oz], [sx, sy, sz], mut out) = (w.origin, w.sizes, [0.0; 12]);
     let refusal = unsafe {
         linked::boltjuniper_step_falling(
             t.records.as_ptr(), t.records.len(), t.shapes.as_ptr(), t.shapes.len(), w.cells.as_ptr(), w.cells.len(), ox, oy, oz, sx, sy, sz,
@@ -197,8 +220,8 @@ pub fn step_falling(t: Tables, w: Window, b: &Body, fall: Fall) -> Result<(Tick,
             out.as_mut_ptr(), out.len(),
         )
     };
-    let [a, b, c, x, y, z, ground, liquid, sum, landed] = out;
-    ticked(refusal, [a, b, c, x, y, z, ground, liquid]).map(|tick| (tick, Fall { sum, landed }))
+    let (tick, fall) = fallen(refusal, out);
+    tick.map(|tick| (tick, fall))
 }
 
 impl Body {
@@ -212,8 +235,7 @@ impl Body {
 
 /// An answer's tick, or the body's own refusal; and its fall record after the tick, which a refusal hands back as it was.
 pub fn answered(row: &AnswerNumbers) -> (Result<Tick, Refusal>, Fall) {
-    let [refusal, a, b, c, x, y, z, ground, liquid, sum, landed] = *row;
-    (ticked(refusal as u32, [a, b, c, x, y, z, ground, liquid]), Fall { sum, landed })
+    fallen(row[0] as u32, std::array::from_fn(|k| row[k + 1]))
 }
 
 /// The midnight run: one tick of each body, its answer in the row of its own number; rows of `out` beyond the bodies stay. `numbers` has a row for
@@ -235,7 +257,7 @@ pub fn midnight(
 
 /// The tick of a scene file. It reaches 136 KB below its caller, with the words of the file: call it from a thread that has them.
 pub fn tick(file: &[u8]) -> Result<Tick, Refusal> {
-    let mut out = [0.0; 8];
+    let mut out = [0.0; 10];
     let refusal = unsafe { linked::boltjuniper_tick(file.as_ptr(), file.len(), out.as_mut_ptr(), out.len()) };
     ticked(refusal, out)
 }

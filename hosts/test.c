@@ -73,17 +73,24 @@ static char *put(char *to, const char *what, const double *x, int n) {
     return to;
 }
 
-/* A refusal writes nothing: the place still has the -1 that were there. */
-static void tick_text(char *to, uint32_t refusal, const double *out) {
-    static const char *liquid[] = {"none", "water", "lava"};
+/* Whether the stored line has the case of the sample: the original's answers have it for some scenes and not for others. */
+static int cases = 1;
+
+/* The numbers of a step, of which the case stands elsewhere in the answer with a record. A refusal writes nothing: the place still has the -1 that
+   were there. */
+static void tick_text(char *to, uint32_t refusal, const double *out, const double *support) {
+    static const char *liquid[] = {"none", "water", "lava"}, *told[] = {"not asked", "sampled", "air", "unloaded", "unregistered"};
     if (refusal == 0) {
         to = put(put(to, "feet", out, 3), "; velocity", out + 3, 3);
-        sprintf(to, "; ground %d; liquid %s", (int)out[6], liquid[(int)out[7]]);
+        to += sprintf(to, "; ground %d; liquid %s", (int)out[6], liquid[(int)out[7]]);
+        if (cases) to += sprintf(to, "; friction %s", told[(int)support[0]]);
+        if (cases && support[0] == BOLTJUNIPER_SAMPLED) put(to, "", support + 1, 1);
         return;
     }
     to += sprintf(to, "refused %" PRIu32, refusal);
     for (int k = 0; k < 8; k++)
         if (out[k] != -1) sprintf(to, ", and something written");
+    if (support[0] != -1 || support[1] != -1) sprintf(to, ", and something written");
 }
 
 static void move_text(char *to, uint32_t refusal, const double *out) {
@@ -101,14 +108,14 @@ typedef uint32_t step_function(const uint32_t *, size_t, const float *, size_t, 
         (int32_t)window[7]
 
 static void step(struct count *c, step_function *f, const char *theirs) {
-    double numbers[19], out[8];
+    double numbers[19], out[10];
     uint64_t age;
     char ours[512];
     memcpy(numbers, body, sizeof numbers);
     memcpy(&age, body + 38, 8);
-    for (int k = 0; k < 8; k++) out[k] = -1;
-    uint32_t refusal = f(records, 20 * (size_t)body[46], shapes, 6 * (size_t)body[47], WINDOW, numbers, 19, body + 40, 6, age, out, 8);
-    tick_text(ours, refusal, out);
+    for (int k = 0; k < 10; k++) out[k] = -1;
+    uint32_t refusal = f(records, 20 * (size_t)body[46], shapes, 6 * (size_t)body[47], WINDOW, numbers, 19, body + 40, 6, age, out, 10);
+    tick_text(ours, refusal, out, out + 8);
     add(c, ours, theirs);
 }
 
@@ -135,15 +142,15 @@ static void writes_as(struct count *c, write_function *f, size_t bytes, size_t r
 
 /* The scene's step with a fresh fall record: the same tick, or what the record is after it. A refusal writes nothing. */
 static void step_with_fall(struct count *c, int record, const char *theirs) {
-    double numbers[19], out[10] = {-1, -1, -1, -1, -1, -1, -1, -1, -1, -1};
+    double numbers[19], out[12] = {-1, -1, -1, -1, -1, -1, -1, -1, -1, -1, -1, -1};
     uint64_t age;
     char ours[512];
     memcpy(numbers, body, sizeof numbers);
     memcpy(&age, body + 38, 8);
     uint32_t refusal = boltjuniper_step_falling(records, 20 * (size_t)body[46], shapes, 6 * (size_t)body[47], WINDOW, numbers, 19, body + 40, 6, age,
-                                                0, 0, out, 10);
+                                                0, 0, out, 12);
     if (record) put(ours, "fall", out + 8, 2);
-    else tick_text(ours, refusal, out);
+    else tick_text(ours, refusal, out, out + 10);
     add(c, ours, theirs);
 }
 
@@ -165,18 +172,18 @@ static void midnight(const char *theirs) {
     uint32_t refusal = boltjuniper_midnight(records, 20 * (size_t)body[46], shapes, 6 * (size_t)body[47], row, 10, 1, cells, cells_len(), numbers, 3 * N,
                                             words, 3 * W, 3, out, 3 * A);
     if (refusal) {
-        tick_text(ours, refusal, out);
+        tick_text(ours, refusal, out, out + 10);
         add(&nights, ours, theirs);
         return;
     }
     for (int k = 0; k < 3; k++) {
-        double *answer = out + k * A, given[8];
+        double *answer = out + k * A, given[12] = {0};
         char back[512];
-        memcpy(given, numbers, 6 * sizeof *given), given[6] = words[3], given[7] = 0;
+        memcpy(given, numbers, 6 * sizeof *given), given[6] = words[3];
         if (answer[0] == 0) {
-            tick_text(ours, 0, answer + 1);
+            tick_text(ours, 0, answer + 1, answer + 11);
         } else {
-            put(ours, "given", answer + 1, 8), put(back, "given", given, 8);
+            put(ours, "given", answer + 1, 12), put(back, "given", given, 12);
             add(&nights, ours, back);
             sprintf(ours, "refused %d", (int)answer[0]);
         }
@@ -186,9 +193,9 @@ static void midnight(const char *theirs) {
 }
 
 static void tick(size_t bytes, size_t room, struct count *c, const char *theirs) {
-    double out[8] = {-1, -1, -1, -1, -1, -1, -1, -1};
+    double out[10] = {-1, -1, -1, -1, -1, -1, -1, -1, -1, -1};
     char ours[512];
-    tick_text(ours, boltjuniper_tick((const uint8_t *)file, bytes, out, room), out);
+    tick_text(ours, boltjuniper_tick((const uint8_t *)file, bytes, out, room), out, out + 8);
     add(c, ours, theirs);
 }
 
@@ -199,8 +206,9 @@ static void one_scene(char *theirs) {
     theirs += name + 1;
     size_t bytes = read_file(path);
     int first = !strncmp(theirs, "refused ", 8) && strchr("81234", theirs[8]);
-    tick(bytes, 8, &ticks, theirs);
-    tick(bytes, 7, &lengths, first ? theirs : "refused 11");
+    cases = strstr(theirs, "; friction") != NULL;
+    tick(bytes, 10, &ticks, theirs);
+    tick(bytes, 9, &lengths, first ? theirs : "refused 11");
     if (!strcmp(theirs, "refused 8")) return;
     parts();
     int bad = !strcmp(theirs, "refused 1"), early = bad || !strcmp(theirs, "refused 2");
@@ -322,8 +330,8 @@ static void a_list(uint32_t theirs, size_t boxes_len, double last, size_t mover_
 }
 
 static void all_lengths(void) {
-    a_step(0, 40, 19, 6, 0.5, 8), a_step(3, 40, 18, 6, 0.5, 8), a_step(3, 40, 20, 6, 0.5, 8), a_step(3, 40, 19, 5, 0.5, 8);
-    a_step(3, 40, 19, 7, 0.5, 8), a_step(11, 40, 19, 6, 0.5, 7), a_step(3, 40, 19, 6, 17, 0), a_step(1, 39, 18, 6, 0.5, 0);
+    a_step(0, 40, 19, 6, 0.5, 10), a_step(3, 40, 18, 6, 0.5, 10), a_step(3, 40, 20, 6, 0.5, 10), a_step(3, 40, 19, 5, 0.5, 10);
+    a_step(3, 40, 19, 7, 0.5, 10), a_step(11, 40, 19, 6, 0.5, 9), a_step(3, 40, 19, 6, 17, 0), a_step(1, 39, 18, 6, 0.5, 0);
     a_move(0, 40, 9, 0, 0, 10), a_move(4, 40, 8, 0, 0, 10), a_move(3, 40, 9, 0, 2, 10), a_move(3, 40, 8, 5, 0, 0);
     a_move(11, 40, 9, 0, 1, 9), a_move(4, 40, 8, 0, 1, 0), a_move(1, 39, 8, 5, 2, 0);
     a_collection(0, 40, 9, 0, 7), a_collection(4, 40, 8, 0, 7), a_collection(3, 40, 8, 5, 0), a_collection(11, 40, 9, 0, 6);
@@ -374,41 +382,42 @@ static void all_windows(void) {
    stopped by them at every height. */
 static void beyond(double y) {
     static const uint32_t air[20] = {[16] = 1, 1, 1, 1}, half[20] = {[16] = 1, 0, 1, 0}, body_words[6] = {0, 3};
-    double numbers[19] = {0.5, y, 0.5, 0.25, 0, 0, 1, 1, 0, 0.5, 0.5, 0.5}, out[8];
-    double falls[8] = {0.75, y - 0.5, 0.5, 0.125, -0.25, 0, 0, 0}, stopped[8] = {0.5, y - 0.5, 0.5, 0, -0.25, 0, 0, 0};
+    double numbers[19] = {0.5, y, 0.5, 0.25, 0, 0, 1, 1, 0, 0.5, 0.5, 0.5}, out[10];
+    double falls[10] = {0.75, y - 0.5, 0.5, 0.125, -0.25}, stopped[10] = {0.5, y - 0.5, 0.5, 0, -0.25};
     char ours[512], theirs[512], halted[512];
-    tick_text(theirs, 0, falls), tick_text(halted, 0, stopped);
-    tick_text(ours, boltjuniper_step(states, 40, cube, 6, CASE_A, numbers, 19, body_words, 6, 0, out, 8), out), add(&windows, ours, theirs);
+    cases = 1;
+    tick_text(theirs, 0, falls, falls + 8), tick_text(halted, 0, stopped, stopped + 8);
+    tick_text(ours, boltjuniper_step(states, 40, cube, 6, CASE_A, numbers, 19, body_words, 6, 0, out, 10), out, out + 8), add(&windows, ours, theirs);
     int32_t oy = (int32_t)floor(y) - 2;
-    tick_text(ours, boltjuniper_step(states, 40, cube, 6, air, 20, 0, oy, 0, 2, 4, 2, -999, 999, numbers, 19, body_words, 6, 0, out, 8), out);
+    tick_text(ours, boltjuniper_step(states, 40, cube, 6, air, 20, 0, oy, 0, 2, 4, 2, -999, 999, numbers, 19, body_words, 6, 0, out, 10), out, out + 8);
     add(&windows, ours, theirs);
-    tick_text(ours, boltjuniper_step(states, 40, cube, 6, half, 20, 0, -1, 0, 2, 4, 2, -64, 319, numbers, 19, body_words, 6, 0, out, 8), out);
+    tick_text(ours, boltjuniper_step(states, 40, cube, 6, half, 20, 0, -1, 0, 2, 4, 2, -64, 319, numbers, 19, body_words, 6, 0, out, 10), out, out + 8);
     add(&windows, ours, halted);
 }
 
 /* Case A's step with a record: what is refused, and what the record is after a landing and after a fall through the sky. */
 static void a_record(uint32_t theirs, double sum, double landed, double gravity, size_t numbers_len, size_t state_words, size_t room) {
-    double numbers[19] = {0.5, 1.25, 0.5, 0.25, 0, 0, 1, 1, 0, gravity, 0.5, 0.5}, out[10] = {-1, -1, -1, -1, -1, -1, -1, -1, -1, -1};
+    double numbers[19] = {0.5, 1.25, 0.5, 0.25, 0, 0, 1, 1, 0, gravity, 0.5, 0.5}, out[12] = {-1, -1, -1, -1, -1, -1, -1, -1, -1, -1, -1, -1};
     static const uint32_t words[6] = {0, 3};
     refuses(&falling, boltjuniper_step_falling(states, state_words, cube, 6, CASE_A, numbers, numbers_len, words, 6, 0, sum, landed, out, room), theirs,
             out);
 }
 
 static void a_fall(double y, double sum, double landed, double sum_after, double landed_after) {
-    double numbers[19] = {0.5, y, 0.5, 0.25, 0, 0, 1, 1, 0, 0.5, 0.5, 0.5}, out[10], theirs[2] = {sum_after, landed_after};
+    double numbers[19] = {0.5, y, 0.5, 0.25, 0, 0, 1, 1, 0, 0.5, 0.5, 0.5}, out[12], theirs[2] = {sum_after, landed_after};
     static const uint32_t words[6] = {0, 3};
     char a[64], b[64];
-    if (boltjuniper_step_falling(states, 40, cube, 6, CASE_A, numbers, 19, words, 6, 0, sum, landed, out, 10)) out[8] = out[9] = -1;
+    if (boltjuniper_step_falling(states, 40, cube, 6, CASE_A, numbers, 19, words, 6, 0, sum, landed, out, 12)) out[8] = out[9] = -1;
     put(a, "fall", out + 8, 2), put(b, "fall", theirs, 2);
     add(&records_kept, a, b);
 }
 
 static void all_records(void) {
     const double most = 1073741824, more = nextafter(most, INFINITY);
-    a_record(0, most, most, 0.5, 19, 40, 10), a_record(0, -0.0, -0.0, 0.5, 19, 40, 10);
-    a_record(3, more, 0, 0.5, 19, 40, 10), a_record(3, 0, more, 0.5, 19, 40, 10), a_record(3, -4.9e-324, 0, 0.5, 19, 40, 10);
-    a_record(3, NAN, 0, 0.5, 19, 40, 10), a_record(3, 0, INFINITY, 0.5, 19, 40, 10), a_record(3, 0, -1, 0.5, 18, 40, 0);
-    a_record(11, 0, 0, 0.5, 19, 40, 9), a_record(3, -1, 0, 0.5, 19, 40, 9), a_record(3, 0, 0, 17, 19, 40, 9), a_record(1, -1, 0, 0.5, 18, 39, 0);
+    a_record(0, most, most, 0.5, 19, 40, 12), a_record(0, -0.0, -0.0, 0.5, 19, 40, 12);
+    a_record(3, more, 0, 0.5, 19, 40, 12), a_record(3, 0, more, 0.5, 19, 40, 12), a_record(3, -4.9e-324, 0, 0.5, 19, 40, 12);
+    a_record(3, NAN, 0, 0.5, 19, 40, 12), a_record(3, 0, INFINITY, 0.5, 19, 40, 12), a_record(3, 0, -1, 0.5, 18, 40, 0);
+    a_record(11, 0, 0, 0.5, 19, 40, 11), a_record(3, -1, 0, 0.5, 19, 40, 11), a_record(3, 0, 0, 17, 19, 40, 11), a_record(1, -1, 0, 0.5, 18, 39, 0);
     a_fall(1.25, 2, 9, 0, 2.25), a_fall(1.25, most, 0, 0, most); /* a drop of 0.25 to the ground */
     a_fall(400.25, 1.5, 9, 2, 9), a_fall(400.25, most, 9, most, 9), a_fall(400.25, 0, 0, 0.5, 0); /* a drop of 0.5 in the sky */
 }

@@ -50,10 +50,12 @@ def asked(call, *arguments):
         return refused
 
 
-def tick_text(t):
+def tick_text(t, theirs):
+    """As the stored line has it: the original's answers have the case of its sample for some scenes and not for others."""
     if isinstance(t, b.Refused):
         return "refused %d" % t.number
-    return "feet%s; velocity%s; ground %d; liquid %s" % (bits(t.feet), bits(t.velocity), t.ground, t.liquid)
+    case = "; friction %s%s" % (t.support, "" if t.friction is None else bits([t.friction])) if "; friction" in theirs else ""
+    return "feet%s; velocity%s; ground %d; liquid %s%s" % (bits(t.feet), bits(t.velocity), t.ground, t.liquid, case)
 
 
 def move_text(mover, m):
@@ -83,32 +85,32 @@ COUNTS = {name: Count(name) for name in ("tick", "ticks", "step", "step_checked"
 def one_scene(name, theirs):
     with open("crates/replay/data/%s.scn" % name, "rb") as f:
         data = f.read()
-    COUNTS["tick"].add(name, tick_text(asked(b.tick, data)), theirs)
-    COUNTS["ticks"].add(name, [tick_text(t) for t in b.ticks([data, b"", data])], [theirs, "refused 8", theirs])
+    COUNTS["tick"].add(name, tick_text(asked(b.tick, data), theirs), theirs)
+    COUNTS["ticks"].add(name, [tick_text(t, theirs) for t in b.ticks([data, b"", data])], [theirs, "refused 8", theirs])
     if theirs == "refused 8":
         return
     scene = scenefile.unpacked(data)
     tables, window, body = parts(scene)
-    COUNTS["step"].add(name, tick_text(asked(b.step, tables, window, body)), theirs)
+    COUNTS["step"].add(name, tick_text(asked(b.step, tables, window, body), theirs), theirs)
     fallen = asked(b.step_falling, tables, window, body)
-    COUNTS["step_falling"].add(name, tick_text(fallen if isinstance(fallen, b.Refused) else fallen[0]), theirs)
+    COUNTS["step_falling"].add(name, tick_text(fallen if isinstance(fallen, b.Refused) else fallen[0], theirs), theirs)
     one_midnight(name, tables, window, body, theirs)
-    COUNTS["steps"].add(name, [tick_text(t) for t in b.steps(tables, window, [body] * 3)], [theirs] * 3)
+    COUNTS["steps"].add(name, [tick_text(t, theirs) for t in b.steps(tables, window, [body] * 3)], [theirs] * 3)
     COUNTS["check_tables"].add(name, asked(b.check_tables, tables), b.Refused(1) if theirs == "refused 1" else None)
     early = theirs in ("refused 1", "refused 2")
     written = asked(b.write_scene, tables, window, body)
     first = early or theirs in ("refused 3", "refused 4")
-    COUNTS["write_scene"].add(name, tick_text(written) if first else written == data, theirs if first else True)
+    COUNTS["write_scene"].add(name, tick_text(written, theirs) if first else written == data, theirs if first else True)
     if not first:
         COUNTS["write_scene beside tools/scene"].add(name, written == scenefile.packed(scene), True)
     if not early:
-        COUNTS["step_checked"].add(name, tick_text(asked(b.step_checked, tables, window, body)), theirs)
+        COUNTS["step_checked"].add(name, tick_text(asked(b.step_checked, tables, window, body), theirs), theirs)
     # A move through the window meets 1 and 2 as the step does; its step height is then 3.
     refused = asked(b.move, tables, window, body.words[5], b.Mover((0.0,) * 6, (0.0,) * 3, 5.0))
     COUNTS["move"].add(name, "refused %d" % refused.number, theirs if early else "refused 3")
     over_collected(name, tables, window, body)
     if numpy:
-        COUNTS["step of numpy's arrays"].add(name, tick_text(asked(b.step, *parts(scene, as_numpy))), theirs)
+        COUNTS["step of numpy's arrays"].add(name, tick_text(asked(b.step, *parts(scene, as_numpy)), theirs), theirs)
 
 
 def one_midnight(name, tables, window, body, theirs):
@@ -118,11 +120,11 @@ def one_midnight(name, tables, window, body, theirs):
         COUNTS["midnight"].add(name, rows, b.Refused(1))
         return
     answers = [b.answered(row) for row in rows]
-    COUNTS["midnight"].add(name, [tick_text(tick) for tick, _ in answers], [theirs, "refused 10", theirs])
-    given = bits([*body.numbers[:6], float(body.words[0]), 0.0, 0.0, 0.0])
-    for row, (tick, fall) in zip(rows, answers):
+    COUNTS["midnight"].add(name, [tick_text(tick, theirs) for tick, _ in answers], [theirs, "refused 10", theirs])
+    given = bits([*body.numbers[:6], float(body.words[0]), 0.0, 0.0, 0.0, 0.0, 0.0])
+    for row, (tick, _) in zip(rows, answers):
         if isinstance(tick, b.Refused):
-            COUNTS["midnight"].add(name, bits([*numbers_in(row)[1:9], *fall]), given)
+            COUNTS["midnight"].add(name, bits(numbers_in(row)[1:]), given)
 
 
 def numbers_in(row):
@@ -272,33 +274,33 @@ def midnight():
         told, out = called(*call)
         count.add(what, (told, all(x == 7 for x in out)), (theirs, True))
 
-    refused("4,097 bodies", 14, 16, 4097, 4097 * 11)
-    refused("17 windows", 14, 17, 4096, 4096 * 11)
-    refused("a number short", 11, 16, 4096, 4096 * 11 - 1)
+    refused("4,097 bodies", 14, 16, 4097, 4097 * 13)
+    refused("17 windows", 14, 17, 4096, 4096 * 13)
+    refused("a number short", 11, 16, 4096, 4096 * 13 - 1)
     refused("14 before 11", 14, 17, 4097, 0)
-    refused("a wrong word", 1, 16, 4096, 4096 * 11, wrong)
+    refused("a wrong word", 1, 16, 4096, 4096 * 13, wrong)
     refused("1 before 14", 1, 17, 4097, 0, wrong)
     refused("nothing at all", 0, 0, 0, 5)
-    told, out = called(16, 4096, 4096 * 11 + 5)
-    alone = bits([0.0, 0.75, 1.0, 0.5, 0.125, 0.0, 0.0, 1.0, 0.0, 0.0, 0.25])
-    count.add("4,096 bodies", (told, {bits(out[k:k + 11]) for k in range(0, 4096 * 11, 11)}, list(out[4096 * 11:])), (0, {alone}, [7.0] * 5))
+    told, out = called(16, 4096, 4096 * 13 + 5)
+    alone = bits([0.0, 0.75, 1.0, 0.5, 0.125, 0.0, 0.0, 1.0, 0.0, 0.0, 0.25, 0.0, 0.0])
+    count.add("4,096 bodies", (told, {bits(out[k:k + 13]) for k in range(0, 4096 * 13, 13)}, list(out[4096 * 13:])), (0, {alone}, [7.0] * 5))
     short = asked(b.midnight, tables, rows[:10], cells, numbers[:41], words[:18])
     count.add("a row cut short", [b.answered(row)[0] for row in short], [b.step(tables, window, body), b.Refused(3)])
-    halves, both = memoryview(array.array("d", [7.0]) * (4096 * 11)), []
+    halves, both = memoryview(array.array("d", [7.0]) * (4096 * 13)), []
     for first, last in (0, 2048), (2048, 4096):
-        part = (rows[:160], cells, numbers[first * 21:last * 21], words[first * 9:last * 9], halves[first * 11:last * 11])
+        part = (rows[:160], cells, numbers[first * 21:last * 21], words[first * 9:last * 9], halves[first * 13:last * 13])
         both.append(threading.Thread(target=b.midnight, args=(tables, *part)))
     for thread in both:
         thread.start()
     for thread in both:
         thread.join()
-    count.add("two threads", bits(halves), bits(out[:4096 * 11]))
+    count.add("two threads", bits(halves), bits(out[:4096 * 13]))
     if numpy:
         lent = [as_numpy(a) for a in (rows[:160], cells, numbers[:4096 * 21], words[:4096 * 9])]
         told = b.midnight(tables, lent[0].reshape(16, 10), lent[1], lent[2].reshape(4096, 21), lent[3].reshape(4096, 9))
         count.add("numpy's arrays", (told["feet"][4095].tolist(), set(told["landed"]), told["refusal"].sum()), ([0.75, 1.0, 0.5], {0.25}, 0))
     try:
-        b.midnight(tables, rows[:10], cells, numbers[:21], words[:9], memoryview(bytes(88)).cast("d"))
+        b.midnight(tables, rows[:10], cells, numbers[:21], words[:9], memoryview(bytes(104)).cast("d"))
         count.add("a buffer that may only be read", "taken", "ValueError")
     except ValueError:
         count.add("a buffer that may only be read", "ValueError", "ValueError")

@@ -39,12 +39,19 @@ fn bits(numbers: &[f64]) -> String {
     numbers.iter().map(|x| format!(" {:016x}", x.to_bits())).collect()
 }
 
-fn tick_text(a: Result<Tick, Refusal>) -> String {
+// As the stored line has it: the original's answers have the case of its sample for some scenes and not for others.
+fn tick_text(a: Result<Tick, Refusal>, theirs: &str) -> String {
     match a {
         Err(n) => format!("refused {n}"),
         Ok(t) => {
             let liquid = format!("{:?}", t.liquid).to_lowercase();
-            format!("feet{}; velocity{}; ground {}; liquid {liquid}", bits(&t.feet), bits(&t.velocity), t.ground as u32)
+            let case = match t.support {
+                Support::NotAsked => "not asked".to_string(),
+                Support::Sampled(friction) => format!("sampled{}", bits(&[friction])),
+                other => format!("{other:?}").to_lowercase(),
+            };
+            let case = if theirs.contains("; friction") { format!("; friction {case}") } else { String::new() };
+            format!("feet{}; velocity{}; ground {}; liquid {liquid}{case}", bits(&t.feet), bits(&t.velocity), t.ground as u32)
         }
     }
 }
@@ -123,18 +130,18 @@ fn nights(count: &mut Count, name: &str, t: Tables, w: Window, body: &Body, thei
     let row = WindowRow { origin: w.origin, sizes: w.sizes, lowest: w.lowest, highest: w.highest, first: 0, count: w.cells.len() as u32 };
     let fall = Fall { sum: 1.5, landed: 2.5 };
     let (numbers, words): (Vec<_>, Vec<_>) = [0, 1, 0].iter().map(|&k| body.row(fall, k)).unzip();
-    let mut out = [[7.0; 11]; 4];
+    let mut out = [[7.0; 13]; 4];
     let told = midnight(t, &[row], w.cells, &numbers, &words, &mut out);
     if theirs == "refused 1" {
-        count.add(name, &format!("{told:?} {}", out == [[7.0; 11]; 4]), "Err(1) true");
+        count.add(name, &format!("{told:?} {}", out == [[7.0; 13]; 4]), "Err(1) true");
         return;
     }
-    count.add(name, &format!("{told:?} {}", out[3] == [7.0; 11]), "Ok(()) true");
+    count.add(name, &format!("{told:?} {}", out[3] == [7.0; 13]), "Ok(()) true");
     for (k, row) in out[..3].iter().enumerate() {
         let (tick, after) = answered(row);
-        count.add(name, &tick_text(tick), if k == 1 { "refused 10" } else { theirs });
+        count.add(name, &tick_text(tick, theirs), if k == 1 { "refused 10" } else { theirs });
         if tick.is_err() {
-            let given = [&body.numbers[..6], &[f64::from(body.words[0]), 0.0, 1.5, 2.5]].concat();
+            let given = [&body.numbers[..6], &[f64::from(body.words[0]), 0.0, 1.5, 2.5, 0.0, 0.0]].concat();
             count.add(name, &bits(&row[1..]), &bits(&given));
         } else {
             let alone = step_falling(t, w, body, fall).map(|(_, fall)| fall);
@@ -156,10 +163,10 @@ fn whole_nights(count: &mut Count) {
     numbers[..12].copy_from_slice(&[0.5, 1.25, 0.5, 0.25, 0.0, 0.0, 1.0, 1.0, 0.0, 0.5, 0.5, 0.5]);
     let (numbers, words) = Body { numbers, words: [0, 3, 0, 0, 0, 0], age: 0 }.row(Fall::default(), 0);
     let mut refused = |what: &str, records: &[u32], windows: usize, bodies: usize, room: usize, theirs: Result<(), Refusal>| {
-        let mut out = vec![[7.0; 11]; room];
+        let mut out = vec![[7.0; 13]; room];
         let t = Tables { records, shapes: &shapes };
         let told = midnight(t, &vec![row; windows], &cells, &vec![numbers; bodies], &vec![words; bodies], &mut out);
-        let kept = out.iter().all(|r| *r == [7.0; 11]);
+        let kept = out.iter().all(|r| *r == [7.0; 13]);
         count.add(what, &format!("{told:?} {kept}"), &format!("{theirs:?} {}", theirs.is_err() || bodies == 0));
     };
     refused("4,096 bodies", &records, 16, 4096, 4096, Ok(()));
@@ -216,12 +223,12 @@ fn case_a(moves: &mut Count, windows: &mut Count) {
     let air: Vec<u32> = (0..20).map(|k| (k > 15) as u32).collect();
     let half: Vec<u32> = (0..20).map(|k| (k == 16 || k == 18) as u32).collect();
     for (y, low) in [(400.25, 398), (-100.75, -103)] {
-        let falls = Tick { feet: [0.75, y - 0.5, 0.5], velocity: [0.125, -0.25, 0.0], ground: false, liquid: Liquid::None };
+        let falls = Tick { feet: [0.75, y - 0.5, 0.5], velocity: [0.125, -0.25, 0.0], ground: false, liquid: Liquid::None, support: Support::NotAsked };
         let stopped = Tick { feet: [0.5, y - 0.5, 0.5], velocity: [0.0, -0.25, 0.0], ..falls };
-        let told = |w: Window| tick_text(step(t, w, &body(y, 0)));
-        windows.add("beyond the world", &told(w), &tick_text(Ok(falls)));
-        windows.add("held as air", &told(Window { cells: &air, origin: [0, low, 0], lowest: -999, highest: 999, ..w }), &tick_text(Ok(falls)));
-        windows.add("beside columns that are not loaded", &told(Window { cells: &half, ..w }), &tick_text(Ok(stopped)));
+        let told = |w: Window| format!("{:?}", step(t, w, &body(y, 0)));
+        windows.add("beyond the world", &told(w), &format!("{:?}", Ok::<Tick, Refusal>(falls)));
+        windows.add("held as air", &told(Window { cells: &air, origin: [0, low, 0], lowest: -999, highest: 999, ..w }), &format!("{:?}", Ok::<Tick, Refusal>(falls)));
+        windows.add("beside columns that are not loaded", &told(Window { cells: &half, ..w }), &format!("{:?}", Ok::<Tick, Refusal>(stopped)));
     }
 }
 
@@ -234,16 +241,16 @@ fn main() {
     for line in scenes {
         let (name, theirs) = line.split_once(' ').unwrap();
         let file = std::fs::read(format!("crates/replay/data/{name}.scn")).unwrap();
-        ticks.add(name, &tick_text(tick(&file)), theirs);
+        ticks.add(name, &tick_text(tick(&file), theirs), theirs);
         if theirs == "refused 8" {
             continue;
         }
         let s = scene(&file);
         let t = Tables { records: &s.records, shapes: &s.shapes };
         let w = Window { cells: &s.cells, origin: s.origin, sizes: s.sizes, lowest: s.lowest, highest: s.highest };
-        steps.add(name, &tick_text(step(t, w, &s.body)), theirs);
+        steps.add(name, &tick_text(step(t, w, &s.body), theirs), theirs);
         let fallen = step_falling(t, w, &s.body, Fall::default());
-        falls.add(name, &tick_text(fallen.map(|(tick, _)| tick)), theirs);
+        falls.add(name, &tick_text(fallen.map(|(tick, _)| tick), theirs), theirs);
         if let Some(record) = after.get(name) {
             falls.add(name, &fall_text(fallen), record);
         }
@@ -264,7 +271,7 @@ fn main() {
         let refused = format!("refused {}", move_through(t, w, s.body.words[5], none).err().unwrap_or(0));
         moves.add(name, &refused, if early { theirs } else { "refused 3" });
         if !early {
-            checked.add(name, &tick_text(step_checked(t, w, &s.body)), theirs);
+            checked.add(name, &tick_text(step_checked(t, w, &s.body), theirs), theirs);
         }
     }
     for line in calls.iter().filter(|l| l.starts_with("movelist ")) {

@@ -114,6 +114,17 @@ def body_box(feet, width, height):
     return [x - width / 2, y, z - width / 2, x + width / 2, y + height, z + width / 2]
 
 
+# by the case of the sample that a tick takes under its body
+UNDER = {
+    "not asked": "", "sampled": ", on a block of friction %s", "air": ", over air", "unloaded": ", over a cell that was not loaded",
+    "unregistered": ", over a block that the tables do not register",
+}
+
+
+def under(t):
+    return UNDER[t.support] % said((t.friction,))[1:-1] if t.support == "sampled" else UNDER[t.support]
+
+
 class Tick:
     """The tick by the library: `feet`, where the body comes to, or nothing; `collected`, the boxes of its move; and what is said of both."""
 
@@ -131,7 +142,8 @@ class Tick:
             return
         liquid = "" if t.liquid == "none" else ", in %s" % t.liquid
         self.feet = t.feet
-        self.line = "After: feet %s, velocity %s, %s%s." % (said(t.feet), said(t.velocity), "on the ground" if t.ground else "in the air", liquid)
+        ground = "on the ground" if t.ground else "in the air"
+        self.line = "After: feet %s, velocity %s, %s%s%s." % (said(t.feet), said(t.velocity), ground, liquid, under(t))
         if boltjuniper.has("collected"):
             self.collect(scene, lent, before, has_liquid)
 

@@ -1,2 +1,4 @@
 -- The laws of drags.
 pub mod Constants
+pub mod Alike
+pub mod Numbers

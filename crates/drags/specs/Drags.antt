@@ -19,21 +19,15 @@ use Rattle.bodies.specs.declared.Flap.the-variants as flap
 use Rattle.bodies.specs.declared.Body.{Body}
 use Rattle.bodies.specs.declared.Rules.{Rules}
 use Rattle.drags.specs.declared.Support.{Support}
-use Rattle.drags.specs.declared.Support.the-variants.{Friction, Nothing, NotAsked}
+use Rattle.drags.specs.declared.Support.the-variants.{Asked, NotAsked}
+use Rattle.drags.specs.Cases.{sampleOr}
 use Rattle.drags.specs.Constants.{defaultGrip, tiny, slow, lift, waterViscosity, buoyancy, lavaViscosity}
 
 -- ---- what a sample comes to
 
--- .unwrap_or(default)
-abbrev pub sampleOr : Float → Support → Float
-sampleOr default (Friction f) = f
-sampleOr default Nothing = default
-sampleOr default NotAsked = default
-
 -- horizontal * friction where a sample was taken, and else horizontal alone
 abbrev pub grip : Float → Float → Support → Float
-grip horizontal default (Friction f) = mul binary64 horizontal f
-grip horizontal default Nothing = mul binary64 horizontal default
+grip horizontal default (Asked sample) = mul binary64 horizontal (sampleOr default sample)
 grip horizontal default NotAsked = horizontal
 
 -- ---- apply_living_drag

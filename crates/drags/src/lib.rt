@@ -1,4 +1,5 @@
-// What a step does to a body's velocity, from the friction sampled under it on; no cell is asked for here.
+// What a step does to a body's velocity, from the friction sampled under it on; no cell is asked for here. cases.rt has what a host is handed
+// for a sample.
 use bodies::Body;
 use bodies::Flap;
 use bodies::Rules;
@@ -6,23 +7,37 @@ use bodies::Stage;
 use boxes::Vec3;
 use tables::LiquidKind;
 ghost use mathlib.Core.Path.{_≡_};
-ghost use Rattle.drags.specs.Drags.{sampleOr, grip, sunk, flapped, fallen, damped, livingVelocity, livingInLiquid, livingInAir, applyLivingDrag, afloat, floated, restsNow, isBeforeMove, isDry, pulled, unlessStopped, keptAfter, verticalAfter, dragged};
+ghost use Rattle.drags.specs.Cases.{sampleOr};
+ghost use Rattle.drags.specs.Drags.{grip, sunk, flapped, fallen, damped, livingVelocity, livingInLiquid, livingInAir, applyLivingDrag, afloat, floated, restsNow, isBeforeMove, isDry, pulled, unlessStopped, keptAfter, verticalAfter, dragged};
 
-// What a step learns of the block under a body: its friction, nothing, or that none was asked for.
-pub enum Support {
+mod cases;
+
+pub use cases::case_number;
+pub use cases::sampled_number;
+
+// What a sample of the block under a body tells: its friction, or why there is none.
+pub enum Sample {
     Friction(f64),
-    Nothing,
+    Air,
+    Unloaded,
+    Unregistered,
+}
+
+// What a step tells of the block under a body: the sample that it took, or that none was asked for.
+pub enum Support {
+    Asked(Sample),
     NotAsked,
 }
 
-// The sampled number, or the default where nothing was sampled.
-pub fn sample_or(default: f64, s: Support) -> f64
+// The sampled number, or the default where there is none, whatever the reason.
+pub fn sample_or(default: f64, s: Sample) -> f64
     ensures { λ r. ⌜ r ≡ sampleOr default s ⌝ }
 {
     match s {
-        Support::Friction(f) => f,
-        Support::Nothing => default,
-        Support::NotAsked => default,
+        Sample::Friction(f) => f,
+        Sample::Air => default,
+        Sample::Unloaded => default,
+        Sample::Unregistered => default,
     }
 }
 
@@ -31,8 +46,7 @@ fn grip(horizontal: f64, default: f64, s: Support) -> f64
     ensures { λ r. ⌜ r ≡ grip horizontal default s ⌝ }
 {
     match s {
-        Support::Friction(f) => horizontal * f,
-        Support::Nothing => horizontal * default,
+        Support::Asked(sample) => horizontal * sample_or(default, sample),
         Support::NotAsked => horizontal,
     }
 }
@@ -206,7 +220,7 @@ fn vertical_after(stage: Stage, body: Body, y: f64) -> f64
     }
 }
 
-// A body after its move, unless it is a living one or a falling block that landed. Nothing sampled is 0.6.
+// A body after its move, unless it is a living one or a falling block that landed. A sample without a number is 0.6.
 pub fn dragged(body: Body, support: Support, v: Vec3) -> Vec3
     ensures { λ r. ⌜ r ≡ dragged body support v ⌝ }
 {

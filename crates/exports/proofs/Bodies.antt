@@ -13,6 +13,7 @@ use Rattle.bodies.specs.Numbers.{lengthsFit}
 use Rattle.window.specs.declared.Window.{Window}
 use Rattle.step.specs.declared.StepAnswer.{StepAnswer}
 use Rattle.step.specs.Answers.{stepAnswer, stepEntry, checkedEntry}
+use Rattle.lent_steps.specs.Steps.{stepPlaces}
 use Rattle.exports.specs.Room.{shortOf}
 use Rattle.exports.specs.Ticks.{motionAt, bodyAt, rulesAt, bodyRefusal, wholeBody, tickAt, steppedAt, stepAt, checkedAt, answerWritten}
 use Rattle.exports.proofs.Short.{no-room, no-early, never-0}
@@ -21,11 +22,11 @@ module _ (records : List ℕ) (shapes : List Float) (cells : List ℕ) (w : Wind
   module _ (places : ℕ) (whole : wholeBody numbers words places ≡ true) where
     pub step-whole : stepEntry records shapes cells w (rulesAt numbers words) (bodyAt numbers words) (motionAt numbers words) age ≡ stepAt records shapes cells w numbers words age places
     unfolding stepEntry steppedAt bodyRefusal choose
-    step-whole = let b = both (lengthsFit numbers words) (leb 8 places) whole in rw (b .one, b .two)
+    step-whole = let b = both (lengthsFit numbers words) (leb stepPlaces places) whole in rw (b .one, b .two)
 
     pub checked-whole : checkedEntry records shapes cells w (rulesAt numbers words) (bodyAt numbers words) (motionAt numbers words) age ≡ checkedAt records shapes cells w numbers words age places
     unfolding checkedEntry steppedAt bodyRefusal choose
-    checked-whole = let b = both (lengthsFit numbers words) (leb 8 places) whole in rw (b .one, b .two)
+    checked-whole = let b = both (lengthsFit numbers words) (leb stepPlaces places) whole in rw (b .one, b .two)
 
   module _ (lent : ℕ) where
     abbrev short : StepAnswer
@@ -35,10 +36,10 @@ module _ (records : List ℕ) (shapes : List Float) (cells : List ℕ) (w : Wind
     unfolding bodyRefusal choose
     lengths e = rw e
 
-    cases : (places : ℕ) (a : Bool) → lengthsFit numbers words ≡ a → a && leb 8 places ≡ false → steppedAt lent records shapes cells w numbers words age places ≡ short
+    cases : (places : ℕ) (a : Bool) → lengthsFit numbers words ≡ a → a && leb stepPlaces places ≡ false → steppedAt lent records shapes cells w numbers words age places ≡ short
     unfolding steppedAt
     cases places true e n = rw n (ap (stepAnswer (motionAt numbers words)) (no-room lent (bodyRefusal records numbers words) (tickAt records shapes cells w numbers words age)))
-    cases places false e n = ap (stepAnswer (motionAt numbers words)) (no-early lent (bodyRefusal records numbers words) (tickAt records shapes cells w numbers words age) (leb 8 places) (lengths e))
+    cases places false e n = ap (stepAnswer (motionAt numbers words)) (no-early lent (bodyRefusal records numbers words) (tickAt records shapes cells w numbers words age) (leb stepPlaces places) (lengths e))
 
     -- nothing is written then
     pub short-body : (out : List Float) (r : ℕ) → wholeBody numbers words (length out) ≡ false → r ≡ shortOf lent (bodyRefusal records numbers words)

@@ -20,7 +20,7 @@ use Rattle.falls.specs.declared.Fall.{Fall}
 use Rattle.falls.specs.declared.FallingAnswer.{FallingAnswer}
 use Rattle.falls.specs.Rule.{fallFits}
 use Rattle.falls.specs.Answers.{withFall, fallingEntry}
-use Rattle.lent_steps.specs.Falling.{fallingWritten}
+use Rattle.lent_steps.specs.Falling.{fallingPlaces, fallingWritten}
 use Rattle.exports.specs.Room.{shortOf}
 use Rattle.exports.specs.Ticks.{motionAt, bodyAt, rulesAt, bodyRefusal, tickAt}
 use Rattle.exports.specs.Falling.{wholeFalling, fallingRefusal, fallingAt}
@@ -51,7 +51,7 @@ module _ (records : List ℕ) (shapes : List Float) (cells : List ℕ) (w : Wind
       ≡ fallingAt records shapes cells w numbers words age fall places
   unfolding fallingEntry fallingAt fallingRefusal bodyRefusal choose
   falling-whole places whole =
-      let b = both (lengthsFit numbers words) (leb 10 places) whole in
+      let b = both (lengthsFit numbers words) (leb fallingPlaces places) whole in
       let n = numberRefusal records (rulesAt numbers words) (bodyAt numbers words) (motionAt numbers words) in
       rw (b .one, b .two) (ap (λ (ask : Ask Tick). told (sound records shapes cells w ask)) (threes (fallFits fall) n asked))
 
@@ -62,11 +62,11 @@ module _ (records : List ℕ) (shapes : List Float) (cells : List ℕ) (w : Wind
     either true = refl
     either false = refl
 
-  cases : (places : ℕ) (a : Bool) → lengthsFit numbers words ≡ a → a && leb 10 places ≡ false
+  cases : (places : ℕ) (a : Bool) → lengthsFit numbers words ≡ a → a && leb fallingPlaces places ≡ false
       → fallingAt records shapes cells w numbers words age fall places ≡ told (refused (shortOf lent early))
   unfolding fallingAt
   cases places true e n = rw n (ap told (no-room lent early asked))
-  cases places false e n = ap told (no-early lent early asked (leb 10 places) (lengths e))
+  cases places false e n = ap told (no-early lent early asked (leb fallingPlaces places) (lengths e))
 
   -- nothing is written then
   pub short-falling : (out : List Float) (r : ℕ) → wholeFalling numbers words (length out) ≡ false → r ≡ shortOf lent early

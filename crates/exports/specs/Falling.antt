@@ -13,12 +13,13 @@ use Rattle.falls.specs.declared.Fall.{Fall}
 use Rattle.falls.specs.declared.FallingAnswer.{FallingAnswer}
 use Rattle.falls.specs.Rule.{fallFits}
 use Rattle.falls.specs.Answers.{withFall}
+use Rattle.lent_steps.specs.Falling.{fallingPlaces}
 use Rattle.exports.specs.Room.{roomy}
 use Rattle.exports.specs.Ticks.{motionAt, bodyRefusal, tickAt}
 
--- lengths that fit, and room for ten numbers
+-- lengths that fit, and room for what is written
 abbrev pub wholeFalling : List Float → List ℕ → ℕ → Bool
-wholeFalling numbers words places = lengthsFit numbers words && leb 10 places
+wholeFalling numbers words places = lengthsFit numbers words && leb fallingPlaces places
 
 -- 3 also for the record
 unfoldable pub fallingRefusal : List ℕ → List Float → List ℕ → Fall → ℕ
@@ -29,5 +30,5 @@ unfoldable pub fallingAt : List ℕ → List Float → List ℕ → Window → L
 fallingAt records shapes cells w numbers words age fall places =
     withFall fall (motionAt numbers words)
     (stepAnswer (motionAt numbers words)
-    (roomy (lentRefusal records shapes cells w) (fallingRefusal records numbers words fall) (leb 10 places)
+    (roomy (lentRefusal records shapes cells w) (fallingRefusal records numbers words fall) (leb fallingPlaces places)
     (tickAt records shapes cells w numbers words age)))

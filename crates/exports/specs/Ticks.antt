@@ -22,13 +22,13 @@ use Rattle.ticks.specs.declared.Tick.{Tick}
 use Rattle.step.specs.Answers.{finiteTick, stepAnswer}
 use Rattle.ticks.specs.Step.{stepBodySensed}
 use Rattle.exports.specs.Room.{roomy}
-use Rattle.lent_steps.specs.Steps.{stepNumbers}
+use Rattle.lent_steps.specs.Steps.{stepPlaces, stepNumbers}
 
 -- ---- what is handed over
 
--- lengths that fit, and room for eight numbers
+-- lengths that fit, and room for what is written
 abbrev pub wholeBody : List Float → List ℕ → ℕ → Bool
-wholeBody numbers words places = lengthsFit numbers words && leb 8 places
+wholeBody numbers words places = lengthsFit numbers words && leb stepPlaces places
 
 -- ---- the step: 1 and 2 (`lent`), 3, 4 and 11 in order, before any cell is asked for; then 5, 6 or 7 at the first such event; then 9
 
@@ -38,7 +38,7 @@ tickAt records shapes cells w numbers words age =
 
 unfoldable pub steppedAt : ℕ → List ℕ → List Float → List ℕ → Window → List Float → List ℕ → ℕ → ℕ → StepAnswer
 steppedAt lent records shapes cells w numbers words age places =
-    stepAnswer (motionAt numbers words) (roomy lent (bodyRefusal records numbers words) (leb 8 places) (tickAt records shapes cells w numbers words age))
+    stepAnswer (motionAt numbers words) (roomy lent (bodyRefusal records numbers words) (leb stepPlaces places) (tickAt records shapes cells w numbers words age))
 
 abbrev pub stepAt : List ℕ → List Float → List ℕ → Window → List Float → List ℕ → ℕ → ℕ → StepAnswer
 stepAt records shapes cells w numbers words age places = steppedAt (lentRefusal records shapes cells w) records shapes cells w numbers words age places

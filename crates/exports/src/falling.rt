@@ -12,7 +12,7 @@ ghost use Rattle.exports.specs.Falling.{wholeFalling, fallingRefusal, fa
 fn whole_falling(numbers: &[f64], words: &[u32], places: usize) -> bool
     ensures { λ r. ⌜ r ≡ wholeFalling (now (numbers .entry)) (now (words .entry)) places ⌝ }
 {
-    bodies::lengths_fit(numbers, words) & (places >= 10)
+    bodies::lengths_fit(numbers, words) & (places >= 12)
 }
 
 // 3, then 4, or 0.
@@ -26,8 +26,8 @@ fn falling_refusal(records: &[u32], numbers: &[f64], words: &[u32], fall: Fall) 
 }
 
 // One tick of a body over a window with its fall record, the falling sum and the landed number: all else as `boltjuniper_step` takes it. It writes
-// that step's eight numbers, then sum and landed, ten in all, and returns 0; or it returns a refusal and writes nothing, so that the host's record
-// stays as it is.
+// that step's first eight numbers, then sum and landed, then that step's last two, twelve in all, and returns 0; or it returns a refusal and
+// writes nothing, so that the host's record stays as it is.
 #[no_mangle]
 pub extern "C" fn boltjuniper_step_falling(
     records: &[u32],

@@ -7,9 +7,9 @@ ghost use Rattle.midnight.specs.Run.{runRefusal, bodiesOf, runWritten};
 // One tick of each of `bodies` bodies, at most 4,096, over one table and `count` windows, at most 16. All stand in rows, one behind the
 // other. A window has ten words: signed origin, sizes, the world's lowest and highest cell, then where its own words begin among `cells` and how
 // many they are. A body has 21 numbers, those of `boltjuniper_step` and its fall record, sum and landed; and nine words: the number of its
-// window, its age (low word first), then those of `boltjuniper_step`. For each body eleven numbers are written: its refusal, the eight of
-// `boltjuniper_step`, and the fall record after it; a refused body has its motion and fall record as given. What lies beyond the last row is
-// kept. It returns 0; or 1, 14 or 11, and writes nothing.
+// window, its age (low word first), then those of `boltjuniper_step`. For each body 13 numbers are written: its refusal, then the twelve of
+// `boltjuniper_step_falling`; a refused body has its motion and fall record as given, liquid none, and no sample. What lies beyond the last row
+// is kept. It returns 0; or 1, 14 or 11, and writes nothing.
 #[no_mangle]
 pub extern "C" fn boltjuniper_midnight(
     records: &[u32],

@@ -10,7 +10,7 @@ ghost use Rattle.exports.specs.Ticks.{checkedAt, stepAt, answerWritten, 
 fn whole_body(numbers: &[f64], words: &[u32], places: usize) -> bool
     ensures { λ r. ⌜ r ≡ wholeBody (now (numbers .entry)) (now (words .entry)) places ⌝ }
 {
-    bodies::lengths_fit(numbers, words) & (places >= 8)
+    bodies::lengths_fit(numbers, words) & (places >= 10)
 }
 
 fn answer_into(out: &mut [f64], a: StepAnswer) -> u32
@@ -26,8 +26,9 @@ fn answer_into(out: &mut [f64], a: StepAnswer) -> u32
 
 // One tick of a body over a window. `numbers` are feet, velocity, width, height, network offset, gravity, vertical drag, horizontal drag, flap,
 // step height, then of the rules default friction, sample depth, liquid gravity, water drag, lava drag, 19 of them; `words` are ground, model,
-// stage, ground friction, flap present, air state, 6 of them. It writes feet, velocity, ground and liquid, eight numbers, and returns 0; or it
-// returns a refusal and writes nothing. Where lengths fit and there is room the step itself finds 1 to 4, so that nothing is looked at twice.
+// stage, ground friction, flap present, air state, 6 of them. It writes feet, velocity, ground and liquid, then the case of its sample and the
+// sampled number, ten numbers, and returns 0; or it returns a refusal and writes nothing. Where lengths fit and there is room the step itself
+// finds 1 to 4, so that nothing is looked at twice.
 #[no_mangle]
 pub extern "C" fn boltjuniper_step(
     records: &[u32], shapes: &[f32], cells: &[u32], ox: i32, oy: i32, oz: i32, sx: u32, sy: u32, sz: u32, lowest: i32, highest: i32,

@@ -21,11 +21,11 @@ use Rattle.falls.specs.declared.FallingAnswer.{FallingAnswer}
 use Rattle.falls.specs.Rule.{fallFits}
 use Rattle.falls.specs.Answers.{withFall, fallingChecked, fallingEntry, HandedBack}
 
--- a refusal hands back position, velocity, ground flag and record as given, and liquid none
+-- a refusal hands back position, velocity, ground flag and record as given, liquid none, and no sample
 refusal-hands-back : (given : MotionNumbers) (fall : Fall) (ask : Ask Tick) → 0 < stepAnswer given ask .refusal
     → HandedBack given fall (withFall fall given (stepAnswer given ask))
 unfolding withFall choose
-refusal-hands-back given fall (refused n) h = record { motion = refl; liquid = refl; fall = rw (ne-eqb n 0 (λ (e : n ≡ 0). omega arith)) }
+refusal-hands-back given fall (refused n) h = record { motion = refl; liquid = refl; support = refl; fall = rw (ne-eqb n 0 (λ (e : n ≡ 0). omega arith)) }
 refusal-hands-back given fall (found t) h = absurd (omega arith)
 
 module _ (records : List ℕ) (shapes : List Float) (cells : List ℕ) (w : Window) (rules : Rules) (body : BodyNumbers) (given : MotionNumbers) (age : ℕ) (fall : Fall) where

@@ -8,6 +8,7 @@ use lib.Ieee.{Float}
 use Rattle.base.specs.Choose.{choose}
 use Rattle.base.specs.Ask.{Ask, refused}
 use Rattle.tables.specs.declared.LiquidKind.the-variants.{None}
+use Rattle.drags.specs.declared.Support.the-variants.{NotAsked}
 use Rattle.window.specs.declared.Window.{Window}
 use Rattle.lent.specs.Lent.{unless, sound}
 use Rattle.bodies.specs.declared.BodyNumbers.{BodyNumbers}
@@ -29,7 +30,7 @@ fallOver fall given a = fallAfter fall (given .feet .y) (a .motion .feet .y) (is
 unfoldable pub withFall : Fall → MotionNumbers → StepAnswer → FallingAnswer
 withFall fall given a = record { step = a; fall = choose (eqb (a .refusal) 0) (fallOver fall given a) fall }
 
--- what a refusal before the step hands back: position, velocity and ground flag as given, liquid none, and the record as given
+-- what a refusal before the step hands back: position, velocity and ground flag as given, liquid none, no sample, and the record as given
 abbrev pub refusedFalling : ℕ → MotionNumbers → Fall → FallingAnswer
 refusedFalling n given fall = record { step = stepAnswer given (refused n); fall = fall }
 
@@ -48,8 +49,9 @@ unfoldable pub fallingEntry : List ℕ → List Float → List ℕ → Window �
 fallingEntry records shapes cells w rules body given age fall =
     withFall fall given (stepAnswer given (sound records shapes cells w (fallingAsked records shapes cells w rules body given age fall)))
 
--- what a refusal hands back: "position, velocity and ground flag as given and liquid none", and the record unchanged
+-- what a refusal hands back: "position, velocity and ground flag as given and liquid none", no sample asked for, and the record unchanged
 pub record HandedBack (given : MotionNumbers) (before : Fall) (r : FallingAnswer) : Type 0 where
   pub motion : r .step .motion ≡ given
   pub liquid : r .step .liquid ≡ None
+  pub support : r .step .support ≡ NotAsked
   pub fall : r .fall ≡ before

@@ -5,6 +5,7 @@ mod rule;
 use bodies::BodyNumbers;
 use bodies::MotionNumbers;
 use bodies::Rules;
+use drags::Support;
 use lent::check_lent;
 pub use rule::fall_after;
 pub use rule::fall_fits;
@@ -26,7 +27,7 @@ pub struct FallingAnswer {
     pub fall: Fall,
 }
 
-// A refusal before the step: all as given, and liquid none.
+// A refusal before the step: all as given, liquid none, and no sample asked for.
 pub fn refused_falling(refusal: u32, given: MotionNumbers, fall: Fall) -> FallingAnswer
     ensures { λ r. ⌜ r ≡ refusedFalling refusal given fall ⌝ }
 {
@@ -34,6 +35,7 @@ pub fn refused_falling(refusal: u32, given: MotionNumbers, fall: Fall) -> Fallin
         step: StepAnswer {
             motion: given,
             liquid: LiquidKind::None,
+            support: Support::NotAsked,
             refusal,
         },
         fall,

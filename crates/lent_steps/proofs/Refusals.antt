@@ -11,7 +11,7 @@ use borrow.Author.Tests.{eq-eqb, ne-eqb, lt-ltb, le-ltb}
 use Rattle.base.specs.Choose.{choose}
 use Rattle.base.specs.Loop.{stored}
 use Rattle.step.specs.declared.StepAnswer.{StepAnswer}
-use Rattle.lent_steps.specs.Steps.{stepNumbers, comesFirst, stepRefusal, stepWritten}
+use Rattle.lent_steps.specs.Steps.{stepNumbers, stepPlaces, comesFirst, stepRefusal, stepWritten}
 
 -- what is returned, and what the lent numbers are then
 pub record Told (out after : List Float) (r : ℕ) (a : StepAnswer) : Type 0 where
@@ -33,15 +33,15 @@ module _ (out : List Float) (a : StepAnswer) where
   early e = record { refusal = rw e; numbers = rw (e, not-zero (a .refusal) e) }
 
   module _ (e : comesFirst (a .refusal) ≡ false) where
-    pub short : length out < 8 → Told out out 11 a
+    pub short : length out < stepPlaces → Told out out 11 a
     unfolding stepRefusal stepWritten choose
-    short h = let t = lt-ltb (length out) 8 h in record { refusal = rw (e, t); numbers = rw (e, t) }
+    short h = let t = lt-ltb (length out) stepPlaces h in record { refusal = rw (e, t); numbers = rw (e, t) }
 
-    module _ (h : 8 ≤ length out) where
+    module _ (h : stepPlaces ≤ length out) where
       pub late : (a .refusal ≡ 0 → ⊥) → Told out out (a .refusal) a
       unfolding stepRefusal stepWritten choose
-      late n = let t = le-ltb (length out) 8 h in record { refusal = rw (e, t); numbers = rw (e, t, ne-eqb (a .refusal) 0 n) }
+      late n = let t = le-ltb (length out) stepPlaces h in record { refusal = rw (e, t); numbers = rw (e, t, ne-eqb (a .refusal) 0 n) }
 
       pub accepted : a .refusal ≡ 0 → Told out (stored out 0 (stepNumbers a)) 0 a
       unfolding stepRefusal stepWritten choose
-      accepted z = let t = le-ltb (length out) 8 h in record { refusal = rw (e, t) (sym z); numbers = rw (e, t, eq-eqb (a .refusal) 0 z) }
+      accepted z = let t = le-ltb (length out) stepPlaces h in record { refusal = rw (e, t) (sym z); numbers = rw (e, t, eq-eqb (a .refusal) 0 z) }

@@ -1,18 +1,22 @@
 // What a step with a fall record comes to, written into lent numbers.
-use crate::put_step;
+use crate::put_motion;
+use crate::put_support;
 use falls::FallingAnswer;
 use lent_numbers::put;
 ghost use mathlib.Core.Path.{_≡_};
 ghost use Rattle.base.specs.Loop.{stored};
 ghost use Rattle.lent_steps.specs.Falling.{fallingNumbers, fallingWritten};
 
-// Ten numbers, as `fallingNumbers` has them; one whose place is not there is dropped.
+// Twelve numbers, as `fallingNumbers` has them; one whose place is not there is dropped.
 pub fn put_falling(out: &mut [f64], a: FallingAnswer)
     ensures { λ _. ⌜ now (out .exit) ≡ stored (now (out .entry)) 0 (fallingNumbers a) ⌝ }
 {
-    put_step(out, a.step);
+    let step = a.step;
+    let support = step.support;
+    put_motion(out, step);
     put(out, 8, a.fall.sum);
     put(out, 9, a.fall.landed);
+    put_support(out, 10, support);
 }
 
 // A refusal writes nothing, so that the record stays with the host as it is.

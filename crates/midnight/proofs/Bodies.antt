@@ -97,13 +97,13 @@ module _ (lent : Lent) (row : Row) where
   unfolding answerBy refusalAt choose
   not-there whole named short = rw (whole, lt-ltb (namedIn row) (lent .count) named, short)
 
--- ---- a refused body's motion and fall record are those given, and its liquid none
+-- ---- a refused body's motion and fall record are those given, its liquid none, and no sample told
 
 abbrev pub HandsBack : Row → FallingAnswer → Type 0
 HandsBack row a = 0 < a .step .refusal → HandedBack (givenIn row) (fallIn row) a
 
 refused-back : (row : Row) (n : ℕ) → HandsBack row (refusedBody n row)
-refused-back row n h = record { motion = refl; liquid = refl; fall = refl }
+refused-back row n h = record { motion = refl; liquid = refl; support = refl; fall = refl }
 
 chosen-back : (row : Row) (t : Bool) (x y : FallingAnswer) → HandsBack row x → HandsBack row y → HandsBack row (choose t x y)
 unfolding choose
@@ -112,7 +112,7 @@ chosen-back row false x y p q = q
 
 step-back : (row : Row) (asked : Ask Tick) → HandsBack row (withFall (fallIn row) (givenIn row) (stepAnswer (givenIn row) asked))
 unfolding withFall choose
-step-back row (refused n) h = record { motion = refl; liquid = refl; fall = rw (ne-eqb n 0 (λ (e : n ≡ 0). omega arith)) }
+step-back row (refused n) h = record { motion = refl; liquid = refl; support = refl; fall = rw (ne-eqb n 0 (λ (e : n ≡ 0). omega arith)) }
 step-back row (found t) h = absurd (omega arith)
 
 pub hands-back : (lent : Lent) (row : Row) → HandsBack row (answerOf lent row)

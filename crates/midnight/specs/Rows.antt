@@ -81,10 +81,11 @@ rulesIn row = rulesFrom (numberAt (row .numbers)) (sceneWord row)
 abbrev pub fallIn : Row → Fall
 fallIn row = fallOf (numberAt (row .numbers) 19) (numberAt (row .numbers) 20)
 
--- ---- an answer: its refusal; feet, velocity, ground and liquid; the fall record after it. What a later rule tells of a step comes behind
+-- ---- an answer: its refusal; feet, velocity, ground and liquid; the fall record after it; the case of its sample, and the sampled number. What a
+-- later rule tells of a step comes behind
 
 abbrev pub answerWidth : ℕ
-answerWidth = 11
+answerWidth = 13
 
 abbrev pub answerNumbers : FallingAnswer → List Float
 answerNumbers a = ofInt binary64 (pos (a .step .refusal)) ∷ fallingNumbers a

@@ -87,7 +87,7 @@ fn answer_all(
 }
 
 // For hosts. Tables as ever; `windows` has ten words for each of `count` windows, over the words `cells` of all of them; `numbers` has 21 numbers
-// and `words` nine words for each of so many bodies; eleven numbers are written for each body (specs/Rows.antt has what stands where). It returns
+// and `words` nine words for each of so many bodies; 13 numbers are written for each body (specs/Rows.antt has what stands where). It returns
 // 0; or 1, 14 or 11, and writes nothing.
 pub fn run(
     records: &[u32],

@@ -10,7 +10,7 @@ pub(crate) const NUMBER_WIDTH: usize = 21;
 
 pub(crate) const WORD_WIDTH: usize = 9;
 
-pub(crate) const ANSWER_WIDTH: usize = 11;
+pub(crate) const ANSWER_WIDTH: usize = 13;
 
 pub(crate) fn wide(x: u32) -> usize
     ensures { λ r. ⌜ r ≡ x ⌝ }

@@ -153,21 +153,21 @@ fn is_alone(row: &[f64], numbers: &[f64], words: &[u32]) -> bool {
     let j = tables::word(words, 0, 0);
     if j < 6 {
         let a = alone(numbers, words, words_part(&windows, j as usize * 10, 10));
-        let mut want = [0.0; 10];
+        let mut want = [0.0; 12];
         lent_steps::put_falling(&mut want, a);
         if refusal_of(bodies::number_at(row, 0)) == a.step.refusal {
-            return alike(part(row, 1, 10), &want);
+            return alike(part(row, 1, 12), &want);
         }
     }
     false
 }
 
-// Whether a row of the buffer has the motion and the fall record that were given, and no liquid.
+// Whether a row of the buffer has the motion and the fall record that were given, no liquid, and no sample.
 fn is_given(row: &[f64], numbers: &[f64], words: &[u32]) -> bool {
     if alike(part(row, 1, 6), part(numbers, 0, 6)) {
         if alike(part(row, 9, 2), part(numbers, 19, 2)) {
             let ground = tables::word(words, 0, 3) as f64;
-            return (bodies::number_at(row, 7) == ground) & (bodies::number_at(row, 8) == 0.0);
+            return (bodies::number_at(row, 7) == ground) & (bodies::number_at(row, 8) == 0.0) & (bodies::number_at(row, 11) == 0.0);
         }
     }
     false
@@ -193,7 +193,7 @@ fn tell_all(out: &[f64], numbers: &[f64], words: &[u32]) {
     let mut i = 0u32;
     while i < 13 {
         let k = i as usize;
-        tell(i, part(out, k * 11, 11), part(numbers, k * 21, 21), words_part(words, k * 9, 9));
+        tell(i, part(out, k * 13, 13), part(numbers, k * 21, 21), words_part(words, k * 9, 9));
         i += 1;
     }
 }
@@ -203,7 +203,7 @@ fn all_follow(out: &[f64], back: &[f64]) -> bool {
     let mut i = 0u32;
     while i < 12 {
         let k = i as usize;
-        if alike(part(out, k * 11, 11), part(back, (12 - k) * 11, 11)) {
+        if alike(part(out, k * 13, 13), part(back, (12 - k) * 13, 13)) {
             i += 1;
         } else {
             return false;
@@ -241,19 +241,19 @@ fn thirteen() {
     let mut words = [0; 117];
     fill_numbers(&mut numbers, false);
     fill_words(&mut words, false);
-    let mut out = [7.0; 146];
+    let mut out = [7.0; 172];
     let refusal = call(&records, 6, part(&numbers, 0, 272), &words, 13, &mut out);
     say(b"13 bodies over 6 windows: refusal ");
     count(refusal);
     say(b"\n");
     tell_all(&out, &numbers, &words);
     say(b"beyond the last row: ");
-    tell_written(part(&out, 143, 3));
+    tell_written(part(&out, 169, 3));
     let mut back_numbers = [0.0; 273];
     let mut back_words = [0; 117];
     fill_numbers(&mut back_numbers, true);
     fill_words(&mut back_words, true);
-    let mut back = [7.0; 143];
+    let mut back = [7.0; 169];
     call(&records, 6, &back_numbers, &back_words, 13, &mut back);
     tell_reversed(&out, &back);
 }
@@ -276,7 +276,7 @@ fn whole(what: &[u8], windows_count: u32, bodies_count: u32, faces: u32, room: u
     let mut words = [0; 36873];
     fill_numbers(&mut numbers, false);
     fill_words(&mut words, false);
-    let mut out = [7.0; 45067];
+    let mut out = [7.0; 53261];
     let refusal = held(&records, windows_count, &numbers, &words, bodies_count, &mut out, room);
     say(what);
     say(b": refusal ");
@@ -287,12 +287,12 @@ fn whole(what: &[u8], windows_count: u32, bodies_count: u32, faces: u32, room: u
 
 fn main() {
     thirteen();
-    whole(b"4,096 bodies over 16 windows", 16, 4096, 15, 45056);
-    whole(b"a buffer one number short", 16, 4096, 15, 45055);
-    whole(b"4,097 bodies", 16, 4097, 15, 45067);
-    whole(b"17 windows", 17, 4096, 15, 45056);
+    whole(b"4,096 bodies over 16 windows", 16, 4096, 15, 53248);
+    whole(b"a buffer one number short", 16, 4096, 15, 53247);
+    whole(b"4,097 bodies", 16, 4097, 15, 53261);
+    whole(b"17 windows", 17, 4096, 15, 53248);
     whole(b"17 windows, and no room", 17, 4096, 15, 0);
-    whole(b"a wrong word in the tables", 16, 4096, 14, 45056);
+    whole(b"a wrong word in the tables", 16, 4096, 14, 53248);
     whole(b"a wrong word, 17 windows, and no room", 17, 4096, 14, 0);
     whole(b"no window, no body, and no room", 0, 0, 15, 0);
 }

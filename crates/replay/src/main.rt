@@ -1,5 +1,6 @@
 // Runs stored calls, one to a line of standard input, and writes each with our answer. Its stdout holds the original Rust's answers
 // (docs/VECTORS.md), so that a bit of difference anywhere fails the gate.
+mod cases;
 mod fallen;
 mod moves;
 mod names;

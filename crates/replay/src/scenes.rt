@@ -1,6 +1,7 @@
-// The scene files of data/, by number: each with what `onetick` prints of it, its lines joined by `; `, and then with what `rewrite` does. From 1000 on they are scenes of the layout
-// without heights and columns, converted (tools/convert): not each has a likeness, so a number without a file is passed over. The stored answers have
-// a line for each that must be there.
+// The scene files of data/, by number: each with what `onetick` prints of it, its lines joined by `; `, and behind them the case of its sample; then
+// with what `rewrite` does. From 1000 on they are scenes of the layout without heights and columns, converted (tools/convert): not each has a likeness,
+// so a number without a file is passed over, and of none is the case among the original's answers. The stored answers have a line for each that must be
+// there.
 ghost use mathlib.Core.Path.{_≡_};
 ghost use lib.ListN.{length};
 
@@ -48,10 +49,13 @@ fn put_joined(text: &[u8]) {
     }
 }
 
-fn put_answer(file: &[u8]) {
+fn put_answer(n: u32, file: &[u8]) {
     let mut out = answer_room();
     let m = scene::answer(file, &mut out);
     put_joined(crate::text::part(&out, 0, m));
+    if n < 1000 {
+        crate::cases::put_case(file);
+    }
 }
 
 fn put_refusal(refusal: u32) {
@@ -93,7 +97,7 @@ fn run(n: u32) {
     libc::close(fd);
     let file = crate::text::part(&room, 0, size);
     put_label(n);
-    put_answer(file);
+    put_answer(n, file);
     crate::text::put(b"\nrewrite ");
     put_label(n);
     put_rewritten(file);

@@ -5,6 +5,7 @@ use bodies::Rules;
 use bodies::is_falling_block;
 use bodies::is_living;
 use boxes::Vec3;
+use drags::Sample;
 use drags::Support;
 use ranges::cell_holding;
 use tables::LiquidKind;
@@ -14,46 +15,52 @@ use window::CellStep;
 use window::Window;
 ghost use mathlib.Core.Path.{_≡_};
 ghost use Rattle.window.specs.Look.{lookAt, asked};
-ghost use Rattle.samples.specs.Samples.{supportAsked, frictionOfState, sampled, supportingFriction, sampleCell, livingSample, livingSupport, groundSupport, supportAfter};
+ghost use Rattle.samples.specs.Samples.{sampleAsked, supportAsked, sampleOfState, sampled, supportingFriction, sampleCell, livingSample, told, livingSupport, groundSupport, supportAfter};
 
 // A sample, or the number of a refusal.
+pub enum AskedSample {
+    Is(Sample),
+    Refused(u32),
+}
+
+// What a step tells of its sample, or the number of a refusal.
 pub enum AskedSupport {
     Is(Support),
     Refused(u32),
 }
 
-// The friction of a state: nothing for air, and for what is not registered.
-fn friction_of_state(records: &[u32], air: u32, id: u32) -> Support
-    ensures { λ r. ⌜ r ≡ frictionOfState (now (records .entry)) air id ⌝ }
+// The sample of a state: its friction where it is registered and not the air state.
+fn sample_of_state(records: &[u32], air: u32, id: u32) -> Sample
+    ensures { λ r. ⌜ r ≡ sampleOfState (now (records .entry)) air id ⌝ }
 {
     if id == air {
-        return Support::Nothing;
+        return Sample::Air;
     }
     if tables::is_registered(records, id) {
-        return Support::Friction(tables::friction(records, id));
+        return Sample::Friction(tables::friction(records, id));
     }
-    Support::Nothing
+    Sample::Unregistered
 }
 
-fn sampled(records: &[u32], air: u32, cell: Cell) -> AskedSupport
-    ensures { λ r. ⌜ supportAsked r ≡ sampled (now (records .entry)) air (asked cell) ⌝ }
+fn sampled(records: &[u32], air: u32, cell: Cell) -> AskedSample
+    ensures { λ r. ⌜ sampleAsked r ≡ sampled (now (records .entry)) air (asked cell) ⌝ }
 {
     match cell {
-        Cell::Outside => AskedSupport::Refused(5),
-        Cell::Unloaded => AskedSupport::Is(Support::Nothing),
-        Cell::State(id) => AskedSupport::Is(friction_of_state(records, air, id)),
+        Cell::Outside => AskedSample::Refused(5),
+        Cell::Unloaded => AskedSample::Is(Sample::Unloaded),
+        Cell::State(id) => AskedSample::Is(sample_of_state(records, air, id)),
     }
 }
 
-// The friction of the block below the feet. It refuses 5 alone.
+// The sample of the block below the feet. It refuses 5 alone.
 fn supporting_friction(
     records: &[u32],
     cells: &[u32],
     w: Window,
     rules: Rules,
     feet: Vec3,
-) -> AskedSupport
-    ensures { λ r. ⌜ supportAsked r ≡ supportingFriction (lookAt (now (cells .entry)) w) (now (records .entry)) rules feet ⌝ }
+) -> AskedSample
+    ensures { λ r. ⌜ sampleAsked r ≡ supportingFriction (lookAt (now (cells .entry)) w) (now (records .entry)) rules feet ⌝ }
 {
     let p = cell_holding(feet);
     let below = window::look_by(cells, w, p, CellStep { x: 0, y: -1, z: 0 });
@@ -77,12 +84,22 @@ pub fn living_sample(
     w: Window,
     rules: Rules,
     feet: Vec3,
-) -> AskedSupport
-    ensures { λ r. ⌜ supportAsked r ≡ livingSample (lookAt (now (cells .entry)) w) (now (records .entry)) rules feet ⌝ }
+) -> AskedSample
+    ensures { λ r. ⌜ sampleAsked r ≡ livingSample (lookAt (now (cells .entry)) w) (now (records .entry)) rules feet ⌝ }
 {
     let p = sample_cell(rules, feet);
     let cell = window::look(cells, w, p);
     sampled(records, rules.air, cell)
+}
+
+// A sample that was taken is told.
+fn told(sample: AskedSample) -> AskedSupport
+    ensures { λ r. ⌜ supportAsked r ≡ told (sampleAsked sample) ⌝ }
+{
+    match sample {
+        AskedSample::Refused(n) => AskedSupport::Refused(n),
+        AskedSample::Is(s) => AskedSupport::Is(Support::Asked(s)),
+    }
 }
 
 // A living body asks on dry ground alone.
@@ -102,7 +119,7 @@ fn living_support(
         LiquidKind::Lava => AskedSupport::Is(Support::NotAsked),
         LiquidKind::None => {
             if ground {
-                living_sample(records, cells, w, rules, feet)
+                told(living_sample(records, cells, w, rules, feet))
             } else {
                 AskedSupport::Is(Support::NotAsked)
             }
@@ -122,7 +139,7 @@ fn ground_support(
 {
     match friction {
         Ground::None => AskedSupport::Is(Support::NotAsked),
-        Ground::Block => supporting_friction(records, cells, w, rules, feet),
+        Ground::Block => told(supporting_friction(records, cells, w, rules, feet)),
     }
 }
 

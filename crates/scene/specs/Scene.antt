@@ -5,6 +5,7 @@ use Rattle.base.specs.Choose.{choose}
 use Rattle.floats.specs.Numbers.{zero64}
 use Rattle.boxes.specs.Boxes.{vec}
 use Rattle.tables.specs.declared.LiquidKind.the-variants.{None}
+use Rattle.drags.specs.declared.Support.the-variants.{NotAsked}
 use Rattle.bodies.specs.Lent.{motionAt, bodyAt, rulesAt}
 use Rattle.step.specs.declared.StepAnswer.{StepAnswer}
 use Rattle.step.specs.Answers.{stepEntry}
@@ -15,12 +16,13 @@ use Rattle.files.specs.Contents.{Contents, contentsBehind}
 
 -- ---- the tick of a scene: "8 comes first"
 
--- there is no motion to hand back: zero, and liquid none
+-- there is no motion to hand back: zero, liquid none, and no sample asked for
 abbrev pub malformed : StepAnswer
 malformed =
     record {
       motion = record { feet = vec zero64 zero64 zero64; velocity = vec zero64 zero64 zero64; ground = 0 };
       liquid = None;
+      support = NotAsked;
       refusal = 8;
     }
 

@@ -6,6 +6,7 @@ use crate::parts::held;
 use crate::parts::put_all;
 use bodies::MotionNumbers;
 use boxes::Vec3;
+use drags::Support;
 use files::Counted;
 use files::Counts;
 use step::StepAnswer;
@@ -40,6 +41,7 @@ fn refused_scene() -> StepAnswer
             ground: 0,
         },
         liquid: LiquidKind::None,
+        support: Support::NotAsked,
         refusal: 8,
     }
 }

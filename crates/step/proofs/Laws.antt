@@ -7,6 +7,7 @@ use lib.Ieee.{Float}
 use Rattle.base.specs.Choose.{choose}
 use Rattle.base.specs.Ask.{Ask, refused, found}
 use Rattle.tables.specs.declared.LiquidKind.the-variants.{None}
+use Rattle.drags.specs.declared.Support.the-variants.{NotAsked}
 use Rattle.window.specs.declared.Window.{Window}
 use Rattle.lent.specs.Lent.{lentRefusal}
 use Rattle.bodies.specs.declared.BodyNumbers.{BodyNumbers}
@@ -17,8 +18,8 @@ use Rattle.step.specs.declared.StepAnswer.{StepAnswer}
 use Rattle.step.specs.Answers.{stepAnswer, checkedEntry, stepAsked, stepEntry}
 
 answer-hands-back : (given : MotionNumbers) (asked : Ask Tick) → 0 < stepAnswer given asked .refusal
-    → (stepAnswer given asked .motion ≡ given) × (stepAnswer given asked .liquid ≡ None)
-answer-hands-back given (refused n) h = (refl, refl)
+    → (stepAnswer given asked .motion ≡ given) × (stepAnswer given asked .liquid ≡ None) × (stepAnswer given asked .support ≡ NotAsked)
+answer-hands-back given (refused n) h = (refl, refl, refl)
 answer-hands-back given (found t) h = absurd (omega arith)
 
 module _ (records : List ℕ) (shapes : List Float) (cells : List ℕ) (w : Window) (rules : Rules) (body : BodyNumbers) (given : MotionNumbers) (age : ℕ) where
@@ -30,8 +31,8 @@ module _ (records : List ℕ) (shapes : List Float) (cells : List ℕ) (w : Wind
   pub one-step : (a b : StepAnswer) → Fits a → Fits b → a ≡ b
   one-step a b f g = f ∙ sym g
 
-  -- a refused step hands back position, velocity and ground flag as given, and liquid none
-  pub hands-back : (a : StepAnswer) → Fits a → 0 < a .refusal → (a .motion ≡ given) × (a .liquid ≡ None)
+  -- a refused step hands back position, velocity and ground flag as given, liquid none, and tells no case
+  pub hands-back : (a : StepAnswer) → Fits a → 0 < a .refusal → (a .motion ≡ given) × (a .liquid ≡ None) × (a .support ≡ NotAsked)
   unfolding stepEntry
   hands-back a f h = rw f (answer-hands-back given (stepAsked records shapes cells w rules body given age) (rw f at h))
 

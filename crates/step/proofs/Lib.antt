@@ -1,3 +1,5 @@
 -- The laws of the step.
 pub mod Laws
 pub mod Refuses
+pub mod Tells
+pub mod Friction

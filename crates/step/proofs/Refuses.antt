@@ -58,7 +58,7 @@ module _ (records : List ℕ) (shapes : List Float) (cells : List ℕ) (w : Wind
   unfolding numberRefusal
   given-number = numbers-chosen (numbersFit records rules body (given .ground)) (motionFits (given .feet) (given .velocity))
 
-  step-refuses : Refuses Named (stepAsked records shapes cells w rules body given age)
+  pub step-refuses : Refuses Named (stepAsked records shapes cells w rules body given age)
   unfolding finiteTick
   step-refuses =
       checked-refuses _ _ lent-number

@@ -19,22 +19,27 @@ use Rattle.bodies.specs.declared.MotionNumbers.{MotionNumbers}
 use Rattle.ticks.specs.declared.Tick.{Tick}
 use Rattle.step.specs.declared.StepAnswer.{StepAnswer}
 use Rattle.step.specs.declared.MotionAnswer.{MotionAnswer}
+use Rattle.step.specs.declared.FrictionAnswer.{FrictionAnswer}
 use Rattle.bodies.specs.Body.{yesNumber, bodyOf, motionOf}
 use Rattle.bodies.specs.Limits.{rulesFit, isPosition, numberRefusal, isFiniteMotion}
-use Rattle.samples.specs.Samples.{livingBlockFriction}
+use Rattle.drags.specs.declared.Sample.{Sample}
+use Rattle.drags.specs.declared.Support.the-variants.{Asked, NotAsked}
+use Rattle.drags.specs.Cases.{sampleOr}
+use Rattle.samples.specs.Samples.{livingSample, livingBlockFriction}
 use Rattle.ticks.specs.Step.{stepBodySensed}
 
 -- 9 comes last: a result that is not finite
 unfoldable pub finiteTick : Tick → Ask Tick
 finiteTick t = unless (not (isFiniteMotion (t .motion))) 9 (found t)
 
--- a refused step returns position, velocity and ground flag as given, and liquid none
+-- a refused step returns position, velocity and ground flag as given, and liquid none; "where it is refused .. it carries a fifth case, not asked"
 abbrev pub stepAnswer : MotionNumbers → Ask Tick → StepAnswer
-stepAnswer given (refused n) = record { motion = given; liquid = None; refusal = n }
+stepAnswer given (refused n) = record { motion = given; liquid = None; support = NotAsked; refusal = n }
 stepAnswer given (found t) =
     record {
       motion = record { feet = t .motion .feet; velocity = t .motion .velocity; ground = yesNumber (t .motion .ground) };
       liquid = t .liquid;
+      support = t .support;
       refusal = 0;
     }
 
@@ -60,20 +65,36 @@ stepAsked records shapes cells w rules body given age = sound records shapes cel
 unfoldable pub stepEntry : List ℕ → List Float → List ℕ → Window → Rules → BodyNumbers → MotionNumbers → ℕ → StepAnswer
 stepEntry records shapes cells w rules body given age = stepAnswer given (stepAsked records shapes cells w rules body given age)
 
--- step_body: the same without the liquid
-abbrev pub withoutLiquid : StepAnswer → MotionAnswer
-withoutLiquid a = record { motion = a .motion; refusal = a .refusal }
+-- step_body: the same without what was sensed
+abbrev pub motionAlone : StepAnswer → MotionAnswer
+motionAlone a = record { motion = a .motion; refusal = a .refusal }
 
--- a refused number is zero
+-- ---- living_block_friction
+
+-- 1 to 4 in order, before any cell is asked for
+abbrev pub fittingFriction : {A : Type 0} → List ℕ → List Float → List ℕ → Window → Rules → Vec3 → Ask A → Ask A
+fittingFriction records shapes cells w rules feet ask =
+    sound records shapes cells w (unless (not (rulesFit records rules)) 3 (unless (not (isPosition feet)) 4 ask))
+
+-- a refused number is zero, and none was sampled
+abbrev pub refusedFriction : ℕ → FrictionAnswer
+refusedFriction n = record { value = zero64; support = NotAsked; refusal = n }
+
+abbrev pub frictionAnswer : Float → Ask Sample → FrictionAnswer
+frictionAnswer default (refused n) = refusedFriction n
+frictionAnswer default (found s) = record { value = sampleOr default s; support = Asked s; refusal = 0 }
+
+-- then 5
+unfoldable pub frictionEntry : List ℕ → List Float → List ℕ → Window → Rules → Vec3 → FrictionAnswer
+frictionEntry records shapes cells w rules feet =
+    frictionAnswer (rules .friction)
+    (fittingFriction records shapes cells w rules feet (livingSample (lookAt cells (withAir w (rules .air))) records rules feet))
+
+-- its number alone, as the Rust answers it; that the entry's is this one is a law (`number-kept`)
 abbrev pub numberAnswer : Ask Float → Answer
 numberAnswer (refused n) = record { refusal = n; value = zero64 }
 numberAnswer (found x) = record { refusal = 0; value = x }
 
--- living_block_friction: 1 to 4 in order, then 5
-unfoldable pub frictionEntry : List ℕ → List Float → List ℕ → Window → Rules → Vec3 → Answer
-frictionEntry records shapes cells w rules feet =
-    numberAnswer
-    (sound records shapes cells w
-    (unless (not (rulesFit records rules)) 3
-    (unless (not (isPosition feet)) 4
-    (livingBlockFriction (lookAt cells (withAir w (rules .air))) records rules feet))))
+abbrev pub frictionNumber : List ℕ → List Float → List ℕ → Window → Rules → Vec3 → Answer
+frictionNumber records shapes cells w rules feet =
+    numberAnswer (fittingFriction records shapes cells w rules feet (livingBlockFriction (lookAt cells (withAir w (rules .air))) records rules feet))

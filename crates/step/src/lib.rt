@@ -10,9 +10,10 @@ use bodies::number_refusal;
 use bodies::rules_fit;
 use bodies::yes_number;
 use boxes::Vec3;
-use floats::Answer;
+use drags::Sample;
+use drags::Support;
 use lent::check_lent;
-use samples::AskedSupport;
+use samples::AskedSample;
 use tables::LiquidKind;
 use ticks::AskedTick;
 use ticks::Tick;
@@ -20,12 +21,13 @@ use ticks::step_through;
 use window::Window;
 ghost use mathlib.Core.Path.{_≡_};
 ghost use Rattle.base.specs.Ask.{refused, found};
-ghost use Rattle.step.specs.Answers.{finiteTick, stepAnswer, checkedEntry, stepEntry, withoutLiquid, numberAnswer, frictionEntry};
+ghost use Rattle.step.specs.Answers.{finiteTick, stepAnswer, checkedEntry, stepEntry, motionAlone, refusedFriction, frictionAnswer, frictionEntry};
 
-// What a host is handed: refusal 0, the motion after the step and the liquid; or a refusal, the motion as given, and none.
+// What a host is handed: refusal 0, the motion after the step, the liquid and the sample; or a refusal, the motion as given, none, and not asked.
 pub struct StepAnswer {
     pub motion: MotionNumbers,
     pub liquid: LiquidKind,
+    pub support: Support,
     pub refusal: u32,
 }
 
@@ -34,12 +36,20 @@ pub struct MotionAnswer {
     pub refusal: u32,
 }
 
-// A refused step: position, velocity and ground flag as given, and liquid none.
+// The friction under a living body, and the sample that it comes from.
+pub struct FrictionAnswer {
+    pub value: f64,
+    pub support: Support,
+    pub refusal: u32,
+}
+
+// A refused step: position, velocity and ground flag as given, liquid none, and no sample asked for.
 fn refused_step(refusal: u32, given: MotionNumbers) -> StepAnswer
     ensures { λ r. ⌜ r ≡ stepAnswer given (refused refusal) ⌝ }
 {
     let feet = given.feet;
     let velocity = given.velocity;
+    let support = Support::NotAsked;
     StepAnswer {
         motion: MotionNumbers {
             feet,
@@ -47,6 +57,7 @@ fn refused_step(refusal: u32, given: MotionNumbers) -> StepAnswer
             ground: given.ground,
         },
         liquid: LiquidKind::None,
+        support,
         refusal,
     }
 }
@@ -57,6 +68,7 @@ fn step_to(given: MotionNumbers, t: Tick) -> StepAnswer
     let feet = t.motion.feet;
     let velocity = t.motion.velocity;
     let liquid = t.liquid;
+    let support = t.support;
     let ground = yes_number(t.motion.ground);
     StepAnswer {
         motion: MotionNumbers {
@@ -65,6 +77,7 @@ fn step_to(given: MotionNumbers, t: Tick) -> StepAnswer
             ground,
         },
         liquid,
+        support,
         refusal: 0,
     }
 }
@@ -113,7 +126,7 @@ pub fn step_checked(
     }
 }
 
-// For hosts: one tick of a body, and the liquid that a living body travelled in.
+// For hosts: one tick of a body, the liquid that a living body travelled in, and the sample of the block under it.
 pub fn step_body_sensed(
     records: &[u32],
     shapes: &[f32],
@@ -144,7 +157,7 @@ pub fn step_body(
     given: MotionNumbers,
     age: u64,
 ) -> MotionAnswer
-    ensures { λ r. ⌜ r ≡ withoutLiquid (stepEntry (now (records .entry)) (now (shapes .entry)) (now (cells .entry)) w rules body given age) ⌝ }
+    ensures { λ r. ⌜ r ≡ motionAlone (stepEntry (now (records .entry)) (now (shapes .entry)) (now (cells .entry)) w rules body given age) ⌝ }
 {
     let a = step_body_sensed(records, shapes, cells, w, rules, body, given, age);
     let motion = a.motion;
@@ -154,12 +167,24 @@ pub fn step_body(
     }
 }
 
-fn refused_number(refusal: u32) -> Answer
-    ensures { λ r. ⌜ r ≡ numberAnswer (refused refusal) ⌝ }
+fn refused_friction(n: u32) -> FrictionAnswer
+    ensures { λ r. ⌜ r ≡ refusedFriction n ⌝ }
 {
-    Answer {
-        refusal,
+    FrictionAnswer {
         value: 0.0,
+        support: Support::NotAsked,
+        refusal: n,
+    }
+}
+
+fn friction_by(default: f64, s: Sample) -> FrictionAnswer
+    ensures { λ r. ⌜ r ≡ frictionAnswer default (found s) ⌝ }
+{
+    let value = drags::sample_or(default, s);
+    FrictionAnswer {
+        value,
+        support: Support::Asked(s),
+        refusal: 0,
     }
 }
 
@@ -171,25 +196,22 @@ pub fn living_block_friction(
     w: Window,
     rules: Rules,
     feet: Vec3,
-) -> Answer
+) -> FrictionAnswer
     ensures { λ r. ⌜ r ≡ frictionEntry (now (records .entry)) (now (shapes .entry)) (now (cells .entry)) w rules feet ⌝ }
 {
     let refusal = check_lent(records, shapes, cells, w);
     if refusal != 0 {
-        return refused_number(refusal);
+        return refused_friction(refusal);
     }
     if rules_fit(records, rules) {
         if is_position(feet) {
             let told = samples::living_sample(records, cells, window::with_air(w, rules.air), rules, feet);
             return match told {
-                AskedSupport::Refused(n) => refused_number(n),
-                AskedSupport::Is(s) => Answer {
-                    refusal: 0,
-                    value: drags::sample_or(rules.friction, s),
-                },
+                AskedSample::Refused(n) => refused_friction(n),
+                AskedSample::Is(s) => friction_by(rules.friction, s),
             };
         }
-        return refused_number(4);
+        return refused_friction(4);
     }
-    refused_number(3)
+    refused_friction(3)
 }

@@ -29,7 +29,7 @@ use Rattle.bodies.specs.declared.Body.{Body}
 use Rattle.bodies.specs.declared.Rules.{Rules}
 use Rattle.bodies.specs.declared.Motion.{Motion}
 use Rattle.drags.specs.Drags.{pulled}
-use Rattle.samples.specs.Samples.{sampled, supportingFriction, livingSample, livingBlockFriction, livingSupport, groundSupport, supportAfter}
+use Rattle.samples.specs.Samples.{sampled, supportingFriction, livingSample, livingBlockFriction, told, livingSupport, groundSupport, supportAfter}
 use Rattle.ticks.specs.Step.{afterMove, moveOn, itemBegins, tickBegins, senses, stepBodySensed}
 
 -- ---- what asks for cells, where a look-up refuses by P
@@ -72,15 +72,15 @@ module _ {P : ℕ → Type 0} (look : Pos → Ask Block) (h : (p : Pos) → Refu
     friction-refuses = after _ _ living-sample-refuses (λ s. finds _)
 
     living-support-refuses : (onGround : Bool) (liquid : LiquidKind) → Refuses P (livingSupport look records rules feet onGround liquid)
-    unfolding livingSupport
-    living-support-refuses onGround None = either _ _ _ living-sample-refuses (finds _)
+    unfolding livingSupport told
+    living-support-refuses onGround None = either _ _ _ (after _ _ living-sample-refuses (λ s. finds _)) (finds _)
     living-support-refuses onGround Water = finds _
     living-support-refuses onGround Lava = finds _
 
     ground-support-refuses : (g : Ground) → Refuses P (groundSupport look records rules feet g)
-    unfolding supportingFriction
+    unfolding supportingFriction told
     ground-support-refuses ground.None = finds _
-    ground-support-refuses ground.Block = sample-refuses (rules .air) _
+    ground-support-refuses ground.Block = after _ _ (sample-refuses (rules .air) _) (λ s. finds _)
 
     support-refuses : (body : Body) (liquid : LiquidKind) (onGround : Bool) → Refuses P (supportAfter look records rules body liquid feet onGround)
     unfolding supportAfter

@@ -2,7 +2,7 @@
 -- is refused, and the first refusal ends the step. The mob constants and the air state come as `rules`. What the Rust changes through `&mut` goes
 -- in and comes back by value, and where it has an `Option<LiquidKind>` there is a `LiquidKind`, whose `None` is the Rust's. The sample of friction
 -- that it takes after its move is asked for first (`supportAfter` of `samples`), and what it does to the velocity is worked out from it (`drags`).
-use mathlib.Core.Bool.{Bool, false, _&&_}
+use mathlib.Core.Bool.{Bool, false, not, _&&_}
 use mathlib.Core.List.{List}
 use Prim.Native.Nat.{ℕ}
 use lib.Ieee.{Float}
@@ -29,10 +29,13 @@ use Rattle.bodies.specs.declared.Body.{Body}
 use Rattle.bodies.specs.declared.Rules.{Rules}
 use Rattle.bodies.specs.declared.Motion.{Motion}
 use Rattle.bodies.specs.Body.{isItem, isLiving, isFallingBlock}
+use Rattle.drags.specs.declared.Sample.{Sample}
 use Rattle.drags.specs.declared.Support.{Support}
 use Rattle.drags.specs.declared.Support.the-variants.{NotAsked}
+use Rattle.drags.specs.Constants.{defaultGrip}
+use Rattle.drags.specs.Cases.{sampleOr}
 use Rattle.drags.specs.Drags.{applyLivingDrag, floated, restsNow, pulled, keptAfter, dragged}
-use Rattle.samples.specs.Samples.{supportAfter}
+use Rattle.samples.specs.Samples.{supportAfter, takesSample}
 use Rattle.ticks.specs.declared.Begun.{Begun}
 use Rattle.ticks.specs.declared.Tick.{Tick}
 
@@ -92,3 +95,21 @@ stepBodySensed look records shapes rules body motion age = do
       (do
         liquid ← senses look records body aabb
         moveOn look records shapes rules body aabb (motion .ground) (begun .flotation) liquid (begun .velocity))
+
+-- ---- of its sample, for who reads cases
+
+-- "Each caller's number": where there is none a living body has the rules' default, and every other body 0.6
+abbrev pub numberFor : Rules → Body → Sample → Float
+numberFor rules body sample = sampleOr (choose (isLiving (body .model)) (rules .friction) defaultGrip) sample
+
+-- "at rest": before any move
+abbrev pub restsBy : Ask Begun → Bool
+restsBy (refused n) = false
+restsBy (found begun) = begun .rests
+
+unfoldable pub isAtRest : (Pos → Ask Block) → List ℕ → Body → Motion → ℕ → Bool
+isAtRest look records body motion age = restsBy (tickBegins look records body (fromFeet (motion .feet) (body .width) (body .height)) motion age)
+
+-- whether the Rust takes a sample in a tick that ends with this liquid and ground flag
+abbrev pub tellsSample : (Pos → Ask Block) → List ℕ → Body → Motion → ℕ → LiquidKind → Bool → Bool
+tellsSample look records body motion age liquid onGround = not (isAtRest look records body motion age) && takesSample body liquid onGround

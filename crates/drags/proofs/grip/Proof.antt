@@ -6,20 +6,17 @@ use Rattle.drags.proofs.grip.Tie as tie
 enum-known-s : tie.Need-enum-known-s
 enum-known-s c = search needs
 
+sample-or-requires : tie.Need-sample-or-requires
+sample-or-requires c κs = search needs
+
 enum-told : tie.Need-enum-told
 enum-told c = search needs
 
-enum-told-2 : tie.Need-enum-told-2
-enum-told-2 c = search needs
-
 returns : tie.Need-returns
-returns c = rw (c .before .s .given .1)
+returns c = rw (c .before .before .s .given .1, ← c .sample-or .ensures)
 
 returns-2 : tie.Need-returns-2
-returns-2 c = rw (c .enum-told .given .1)
-
-returns-3 : tie.Need-returns-3
-returns-3 c = search needs
+returns-2 c = search needs
 
 pub grip-spec : {M : Type 1} → statement M
-grip-spec = tie.close (tie.spec enum-known-s enum-told enum-told-2 returns returns-2 returns-3)
+grip-spec = tie.close (tie.spec enum-known-s sample-or-requires enum-told returns returns-2)

@@ -17,6 +17,9 @@ enum-told-3 c = search needs
 living-sample-requires : tie.Need-living-sample-requires
 living-sample-requires c κs = search needs
 
+told-requires : tie.Need-told-requires
+told-requires c κs = search needs
+
 returns : tie.Need-returns
 unfolding livingSupport choose
 returns c = rw (c .enum-told .given .1)
@@ -27,7 +30,10 @@ returns-2 c = rw (c .enum-told2 .given .1)
 
 returns-3 : tie.Need-returns-3
 unfolding livingSupport choose
-returns-3 c = rw (c .before .before .enum-told3 .given .1, c .before .if1 .taken, ← c .living-sample .ensures)
+returns-3 c =
+    let at-living-sample = c .before in
+    let at-if1 = at-living-sample .before in
+    rw (at-if1 .before .enum-told3 .given .1, at-if1 .if1 .taken, ← at-living-sample .living-sample .ensures, ← c .told .ensures)
 
 returns-4 : tie.Need-returns-4
 unfolding livingSupport choose
@@ -41,6 +47,7 @@ living-support-spec =
     enum-told-2
     enum-told-3
     living-sample-requires
+    told-requires
     returns
     returns-2
     returns-3

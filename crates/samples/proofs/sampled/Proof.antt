@@ -13,8 +13,8 @@ enum-told-2 c = search needs
 enum-known-cell : tie.Need-enum-known-cell
 enum-known-cell c = search needs
 
-friction-of-state-requires : tie.Need-friction-of-state-requires
-friction-of-state-requires c κs = search needs
+sample-of-state-requires : tie.Need-sample-of-state-requires
+sample-of-state-requires c κs = search needs
 
 returns : tie.Need-returns
 unfolding sampled
@@ -26,7 +26,7 @@ returns-2 c = rw (c .enum-told2 .given .1)
 
 returns-3 : tie.Need-returns-3
 unfolding sampled
-returns-3 c = rw (c .before .before .cell .given .1, ← c .friction-of-state .ensures)
+returns-3 c = rw (c .before .before .cell .given .1, ← c .sample-of-state .ensures)
 
 pub sampled-spec : {M : Type 1} → statement M
 sampled-spec =
@@ -35,7 +35,7 @@ sampled-spec =
     enum-told
     enum-told-2
     enum-known-cell
-    friction-of-state-requires
+    sample-of-state-requires
     returns
     returns-2
     returns-3)

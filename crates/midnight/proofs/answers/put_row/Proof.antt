@@ -1,7 +1,7 @@
 -- `midnight::answers::put_row` meets its contract. Assumes nothing.
 use mathlib.Core.Path.{sym}
 use Prim.Native.Nat.{_*_}
-use Rattle.midnight.specs.Rows.{answerNumbers}
+use Rattle.midnight.specs.Rows.{answerWidth, answerNumbers}
 use Rattle.midnight.proofs.Parts.{put-behind, stored-beyond}
 use borrow.Author.Needs.{needs}
 use Rattle.midnight.proofs.answers.put_row.Statement.{statement}
@@ -32,10 +32,10 @@ same-length : tie.Need-same-length
 same-length c = search needs
 
 returns : tie.Need-returns
-returns c = rw (← c .before .before .before .before .before .wide .ensures) (put-behind (c .before .before .before .before .before .before .before .args .out .now) (c .before .before .put-answer .last .0) (c .before .before .before .before .before .wide .result * 11) (answerNumbers (c .before .before .before .before .before .before .before .args .a)) (c .before .before .put-answer .ensures))
+returns c = rw (← c .before .before .before .before .before .wide .ensures) (put-behind (c .before .before .before .before .before .before .before .args .out .now) (c .before .before .put-answer .last .0) (c .before .before .before .before .before .wide .result * answerWidth) (answerNumbers (c .before .before .before .before .before .before .before .args .a)) (c .before .before .put-answer .ensures))
 
 returns-2 : tie.Need-returns-2
-returns-2 c = rw (← c .before .wide .ensures) (sym (stored-beyond (c .before .before .before .args .out .now) (c .before .wide .result * 11) (answerNumbers (c .before .before .before .args .a)) (c .if1 .left)))
+returns-2 c = rw (← c .before .wide .ensures) (sym (stored-beyond (c .before .before .before .args .out .now) (c .before .wide .result * answerWidth) (answerNumbers (c .before .before .before .args .a)) (c .if1 .left)))
 
 pub put-row-spec : {M : Type 1} → statement M
 put-row-spec =
