@@ -34,83 +34,17 @@ use Rattle.rounds.specs.Rounds.{ComesOut, ReadThenWritten}
 use Rattle.rounds.proofs.Passed.{Passed, passed}
 use Rattle.rounds.proofs.Known.{known, number-known, shape-known}
 
--- ---- what 8 says of a scene
-
-record Scene (file : List ℕ) (n : Counts) : Type 0 where
-  few : blocksFor n ≤ 128
-  size : length file ≡ blocksFor n * 512
-  flap : flapFits file ≡ true
-  body-fits : partFits file bodyPart ≡ true
-  records-fit : partFits file (recordPart (n .states)) ≡ true
-  boxes-fit : partFits file (boxPart (n .states) (n .boxes)) ≡ true
-  place-fits : partFits file (windowPart (n .states) (n .boxes)) ≡ true
-  cells-fit : partFits file (cellPart (n .states) (n .boxes) (n .cells)) ≡ true
-
-scene : (file : List ℕ) → isScene file ≡ true → Scene file (countsOf file)
-unfolding isScene blocksFit partsFit
-scene file h =
-    let n = countsOf file in
-    let a = partFits file bodyPart in
-    let b = partFits file (recordPart (n .states)) in
-    let d = partFits file (boxPart (n .states) (n .boxes)) in
-    let e = partFits file (windowPart (n .states) (n .boxes)) in
-    let f = partFits file (cellPart (n .states) (n .boxes) (n .cells)) in
-    let all : Bool = a && b && d && e && f in
-    let size : Bool = eqb (length file) (blocksFor n * 512) in
-    let few : Bool = leb (blocksFor n) 128 in
-    let t₁ = both (countsFit file) (flapFits file && (few && (size && all))) h in
-    let t₂ = both (flapFits file) (few && (size && all)) (t₁ .two) in
-    let t₃ = both few (size && all) (t₂ .two) in
-    let t₄ = both size all (t₃ .two) in
-    let p₁ = both (a && b && d && e) f (t₄ .two) in
-    let p₂ = both (a && b && d) e (p₁ .one) in
-    let p₃ = both (a && b) d (p₂ .one) in
-    let p₄ = both a b (p₃ .one) in
-    record {
-      few = leb-true _ _ (t₃ .one);
-      size = eqb-true _ _ (t₄ .one);
-      flap = t₂ .one;
-      body-fits = p₄ .one;
-      records-fit = p₄ .two;
-      boxes-fit = p₃ .two;
-      place-fits = p₂ .two;
-      cells-fit = p₁ .two;
-    }
-
 zero-bits : toBits binary64 zero64 ≡ 0
 unfolding toBits ofBits
 zero-bits = refl
 
--- ---- words of bytes
-
-four-fit : (a b c d : ℕ) → a < 256 → b < 256 → c < 256 → d < 256 → a + b * 256 + c * 65536 + d * 16777216 < 4294967296
-four-fit a b c d ha hb hc hd = omega arith
-
-word-fits : (l : List ℕ) → ((i : ℕ) → getD l i 0 < 256) → (k : ℕ) → fileWord l k < 4294967296
-unfolding fileWord
-word-fits l s k = four-fit _ _ _ _ (s (k * 4)) (s (k * 4 + 1)) (s (k * 4 + 2)) (s (k * 4 + 3))
-
 module _ (file : List ℕ) (small : (i : ℕ) → getD file i 0 < 256) where
-  taken-small : (b i : ℕ) → Dec (i < 512) → getD (take 512 (drop b file)) i 0 < 256
-  taken-small b i (yes h) = rw (getD-take 512 (drop b file) i 0 h, getD-drop b file i 0) (small (b + i))
-  taken-small b i (no h) =
-      let o : length (take 512 (drop b file)) ≤ i = rw (length-take 512 (drop b file)) (omega arith) in
-      rw (List·getD-eq-default (take 512 (drop b file)) 0 o) (omega arith)
-
-  block-small : (b i : ℕ) → getD (blockOf file b) i 0 < 256
-  unfolding blockOf choose
-  block-small b i = go (ltb b (length file / 512))
-    where
-      go : (t : Bool) → getD (choose t (take 512 (drop (b * 512) file)) []) i 0 < 256
-      go true = taken-small (b * 512) i (decLt i 512)
-      go false = omega arith
-
   part-word-fits : (p : Part) (i : ℕ) → partWord file p i < 4294967296
   unfolding partWord choose
   part-word-fits p i = go (ltb i (p .words))
     where
       go : (t : Bool) → choose t (fileWord (blockOf file (p .first + i / perBlock (p .kind))) (3 + i % perBlock (p .kind))) 0 < 4294967296
-      go true = word-fits _ (block-small _) _
+      go true = word-fits _ (block-small file small _) _
       go false = omega arith
 
   -- ---- what the contents come to, word by word
@@ -121,8 +55,8 @@ module _ (file : List ℕ) (small : (i : ℕ) → getD file i 0 < 256) where
     abbrev c : Contents
     c = contentsIn file
 
-    told : Scene file n
-    told = scene file s
+    sound : Told file n
+    sound = told file s
 
     pass : Passed c
     pass = passed c z
@@ -202,7 +136,7 @@ module _ (file : List ℕ) (small : (i : ℕ) → getD file i 0 < 256) where
     flap-words : eqb (bodyWord file (wordPlace presentWord)) 0 ≡ true → (bodyWord file (numberPlace flapNumber) ≡ 0) × (bodyWord file (numberPlace flapNumber + 1) ≡ 0)
     unfolding flapFits
     flap-words e =
-        let f : (eqb (bodyWord file (numberPlace flapNumber)) 0 && eqb (bodyWord file (numberPlace flapNumber + 1)) 0) ≡ true = rw e at (told .flap) in
+        let f : (eqb (bodyWord file (numberPlace flapNumber)) 0 && eqb (bodyWord file (numberPlace flapNumber + 1)) 0) ≡ true = rw e at (sound .flap) in
         let t = both (eqb (bodyWord file (numberPlace flapNumber)) 0) (eqb (bodyWord file (numberPlace flapNumber + 1)) 0) f in
         (eqb-true _ _ (t .one), eqb-true _ _ (t .two))
 
@@ -275,13 +209,13 @@ module _ (file : List ℕ) (small : (i : ℕ) → getD file i 0 < 256) where
     bytes-made : bytesBy c n ≡ file
     unfolding bytesBy
     bytes-made =
-        let q = told .few in
-        let l = told .size in
-        let h₁ = fits-holds file bodyPart small (told .body-fits) (omega arith) in
-        let h₂ = fits-holds file (recordPart (n .states)) small (told .records-fit) (omega arith) in
-        let h₃ = fits-holds file (boxPart (n .states) (n .boxes)) small (told .boxes-fit) (omega arith) in
-        let h₄ = fits-holds file (windowPart (n .states) (n .boxes)) small (told .place-fits) (omega arith) in
-        let h₅ = fits-holds file (cellPart (n .states) (n .boxes) (n .cells)) small (told .cells-fit) (omega arith) in
+        let q = sound .few in
+        let l = sound .size in
+        let h₁ = fits-holds file bodyPart small (sound .body-fits) (omega arith) in
+        let h₂ = fits-holds file (recordPart (n .states)) small (sound .records-fit) (omega arith) in
+        let h₃ = fits-holds file (boxPart (n .states) (n .boxes)) small (sound .boxes-fit) (omega arith) in
+        let h₄ = fits-holds file (windowPart (n .states) (n .boxes)) small (sound .place-fits) (omega arith) in
+        let h₅ = fits-holds file (cellPart (n .states) (n .boxes) (n .cells)) small (sound .cells-fit) (omega arith) in
         let e₁ = holds-next file bodyPart (partWord file bodyPart) h₁ in
         let e₂ = holds-next file (recordPart (n .states)) (partWord file (recordPart (n .states))) h₂ in
         let e₃ = holds-next file (boxPart (n .states) (n .boxes)) (partWord file (boxPart (n .states) (n .boxes))) h₃ in
@@ -297,14 +231,14 @@ module _ (file : List ℕ) (small : (i : ℕ) → getD file i 0 < 256) where
     none-refused : (out : List ℕ) → length file ≤ length out → sceneRefusal c (length out) ≡ 0
     unfolding sceneRefusal roomFor choose
     none-refused out h =
-        let q = told .few in
-        let l = told .size in
+        let q = sound .few in
+        let l = sound .size in
         rw (z, counts-same, le-leb (blocksFor n) 128 q, le-leb (blocksFor n * 512) (length out) (omega arith))
 
     pub comes-out : ComesOut file
     unfolding writtenBy answerBy choose
     comes-out =
-        let l = told .size in
+        let l = sound .size in
         record {
           bytes = bytes-same;
           buffer = λ out h. rw (none-refused out h, bytes-same);
