@@ -24,9 +24,9 @@ pub record Told (file : List ℕ) (n : Counts) : Type 0 where
   pub place-fits : partFits file (windowPart (n .states) (n .boxes)) ≡ true
   pub cells-fit : partFits file (cellPart (n .states) (n .boxes) (n .cells)) ≡ true
 
-pub told : (file : List ℕ) → isScene file ≡ true → Told file (countsOf file)
+pub tells : (file : List ℕ) → isScene file ≡ true → Told file (countsOf file)
 unfolding isScene blocksFit partsFit
-told file h =
+tells file h =
     let n = countsOf file in
     let a = partFits file bodyPart in
     let b = partFits file (recordPart (n .states)) in
@@ -71,7 +71,7 @@ of-part file p b fits first last =
 pub each-block : (file : List ℕ) → isScene file ≡ true → (b : ℕ) → b < length file / 512 → Fitting file b
 each-block file s b h =
     let n = countsOf file in
-    let t = told file s in
+    let t = tells file s in
     let size = t .size in
     let below : b < blocksFor n = omega arith in
     go n t below (decLt b (endOf bodyPart)) (decLt b (endOf (recordPart (n .states)))) (decLt b (endOf (boxPart (n .states) (n .boxes))))

@@ -118,6 +118,10 @@ module _ (number kind : ℕ) (f : ℕ → ℕ) (used : ℕ) where
   unfolding blockBytes withCheck
   check-at = four-last (withSecond before) 508 (checkOf (withSecond before)) second-length
 
+  pub made-marked : marked true (blockBytes number kind f used) ≡ true
+  unfolding marked choose
+  made-marked = rw mark-at (same-equal newMark)
+
   -- ---- reading it
   module _ (fit : Fit number kind f used) where
     pub made-used : (i : ℕ) → i < used → fileWord (blockBytes number kind f used) (3 + i) ≡ f i
@@ -151,10 +155,6 @@ module _ (number kind : ℕ) (f : ℕ → ℕ) (used : ℕ) where
     made-check =
         word-there (blockBytes number kind f used) 127 (checkOf (withSecond before)) (check-fits (withSecond before)) check-at
         ∙ sym (check-before (withSecond before) (wordBytes (checkOf (withSecond before))) second-length)
-
-    pub made-marked : marked true (blockBytes number kind f used) ≡ true
-    unfolding marked choose
-    made-marked = rw mark-at (same-equal newMark)
 
     pub made-fits : blockFits true (blockBytes number kind f used) number kind used ≡ true
     unfolding blockFits

@@ -16,13 +16,13 @@ use Rattle.base.specs.Loop.{stored}
 use Rattle.base.proofs.Every.{both, every-at, every-from}
 use Rattle.base.proofs.Fill.{stored-then}
 use Rattle.blocks.specs.declared.Part.{Part}
-use Rattle.blocks.specs.Blocks.{blockOf, fileWord, newMark, isSecond, blockFits, perBlock, blocksOf, endOf, usedIn, partFits, partWord}
+use Rattle.blocks.specs.Blocks.{blockOf, fileWord, newMark, isSecond, blockFits, perBlock, blocksOf, endOf, usedIn, partFits, partWord, bodyPart}
 use Rattle.blocks.proofs.Parts.{per-block}
 use Rattle.blocks.proofs.Words.{block-is, block-small}
 use Rattle.part_writer.specs.Bytes.{joined, partBlock, partBytes, partRoom, writtenPart}
 use Rattle.part_writer.proofs.Stored.{stored-length}
 use Rattle.part_writer.proofs.Joined.{joined-same, joined-length, joined-at, joined-cut}
-use Rattle.part_writer.proofs.Blocks.{Fit, block-same, block-length, made-used, made-fits, marked-there, block-made}
+use Rattle.part_writer.proofs.Blocks.{Fit, block-same, block-length, made-used, made-marked, made-fits, marked-there, block-made}
 use Rattle.part_writer.proofs.Counts.{in-block, at-place, used-most, within, used-word}
 
 -- ---- a block of a file
@@ -65,6 +65,11 @@ part-same p f g e = joined-same (partBlock p f) (partBlock p g) (blocksOf p) (λ
 pub record Holds (file : List ℕ) (p : Part) (f : ℕ → ℕ) : Type 0 where
   pub whole : endOf p * 512 ≤ length file
   pub blocks : (j : ℕ) → j < blocksOf p → blockOf file (p .first + j) ≡ partBlock p f j
+
+-- a file that begins with a body as the writer makes it has the new mark
+pub holds-new : (file : List ℕ) (f : ℕ → ℕ) → Holds file bodyPart f → isSecond file ≡ true
+unfolding isSecond partBlock blocksOf perBlock choose
+holds-new file f holds = rw (holds .blocks 0 (omega arith)) (made-marked _ _ _ _)
 
 -- written, then read
 module _ (file : List ℕ) (new : isSecond file ≡ true) (p : Part) (f : ℕ → ℕ) (holds : Holds file p f) (number-fits : endOf p ≤ 128) (kind-fits : p .kind < 4294967296)

@@ -55,8 +55,8 @@ module _ (file : List ℕ) (small : (i : ℕ) → getD file i 0 < 256) where
     abbrev c : Contents
     c = contentsIn file
 
-    sound : Told file n
-    sound = told file s
+    told : Told file n
+    told = tells file s
 
     pass : Passed c
     pass = passed c z
@@ -136,7 +136,7 @@ module _ (file : List ℕ) (small : (i : ℕ) → getD file i 0 < 256) where
     flap-words : eqb (bodyWord file (wordPlace presentWord)) 0 ≡ true → (bodyWord file (numberPlace flapNumber) ≡ 0) × (bodyWord file (numberPlace flapNumber + 1) ≡ 0)
     unfolding flapFits
     flap-words e =
-        let f : (eqb (bodyWord file (numberPlace flapNumber)) 0 && eqb (bodyWord file (numberPlace flapNumber + 1)) 0) ≡ true = rw e at (sound .flap) in
+        let f : (eqb (bodyWord file (numberPlace flapNumber)) 0 && eqb (bodyWord file (numberPlace flapNumber + 1)) 0) ≡ true = rw e at (told .flap) in
         let t = both (eqb (bodyWord file (numberPlace flapNumber)) 0) (eqb (bodyWord file (numberPlace flapNumber + 1)) 0) f in
         (eqb-true _ _ (t .one), eqb-true _ _ (t .two))
 
@@ -209,13 +209,13 @@ module _ (file : List ℕ) (small : (i : ℕ) → getD file i 0 < 256) where
     bytes-made : bytesBy c n ≡ file
     unfolding bytesBy
     bytes-made =
-        let q = sound .few in
-        let l = sound .size in
-        let h₁ = fits-holds file bodyPart small (sound .body-fits) (omega arith) in
-        let h₂ = fits-holds file (recordPart (n .states)) small (sound .records-fit) (omega arith) in
-        let h₃ = fits-holds file (boxPart (n .states) (n .boxes)) small (sound .boxes-fit) (omega arith) in
-        let h₄ = fits-holds file (windowPart (n .states) (n .boxes)) small (sound .place-fits) (omega arith) in
-        let h₅ = fits-holds file (cellPart (n .states) (n .boxes) (n .cells)) small (sound .cells-fit) (omega arith) in
+        let q = told .few in
+        let l = told .size in
+        let h₁ = fits-holds file bodyPart small (told .body-fits) (omega arith) in
+        let h₂ = fits-holds file (recordPart (n .states)) small (told .records-fit) (omega arith) in
+        let h₃ = fits-holds file (boxPart (n .states) (n .boxes)) small (told .boxes-fit) (omega arith) in
+        let h₄ = fits-holds file (windowPart (n .states) (n .boxes)) small (told .place-fits) (omega arith) in
+        let h₅ = fits-holds file (cellPart (n .states) (n .boxes) (n .cells)) small (told .cells-fit) (omega arith) in
         let e₁ = holds-next file bodyPart (partWord file bodyPart) h₁ in
         let e₂ = holds-next file (recordPart (n .states)) (partWord file (recordPart (n .states))) h₂ in
         let e₃ = holds-next file (boxPart (n .states) (n .boxes)) (partWord file (boxPart (n .states) (n .boxes))) h₃ in
@@ -231,14 +231,14 @@ module _ (file : List ℕ) (small : (i : ℕ) → getD file i 0 < 256) where
     none-refused : (out : List ℕ) → length file ≤ length out → sceneRefusal c (length out) ≡ 0
     unfolding sceneRefusal roomFor choose
     none-refused out h =
-        let q = sound .few in
-        let l = sound .size in
+        let q = told .few in
+        let l = told .size in
         rw (z, counts-same, le-leb (blocksFor n) 128 q, le-leb (blocksFor n * 512) (length out) (omega arith))
 
     pub comes-out : ComesOut file
     unfolding writtenBy answerBy choose
     comes-out =
-        let l = sound .size in
+        let l = told .size in
         record {
           bytes = bytes-same;
           buffer = λ out h. rw (none-refused out h, bytes-same);
