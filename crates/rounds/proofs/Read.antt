@@ -10,7 +10,7 @@ use lib.ListN.{length, getD, take, drop, List·getD-eq-default, length-take}
 use lib.Seq.{take-all, getD-take, getD-drop}
 use lib.Ieee.{Float, binary32, binary64, isNan, ofBits, toBits}
 use lib.Ieee.Bits.{toBits-ofBits}
-use borrow.Author.Tests.{lt-ltb, le-ltb, le-leb, eq-eqb, ne-eqb, eqb-true, leb-true}
+use borrow.Author.Tests.{lt-ltb, le-ltb, eq-eqb, ne-eqb, eqb-true, leb-true}
 use Rattle.base.specs.Choose.{choose}
 use Rattle.base.specs.Loop.{listed, stored}
 use Rattle.base.proofs.Every.{both}
@@ -29,7 +29,8 @@ use Rattle.part_writer.specs.Bytes.{partBytes, wordIn, bitsIn}
 use Rattle.part_writer.proofs.Listed.{listed-length, listed-from}
 use Rattle.part_writer.proofs.Parts.{Holds, fits-holds, holds-next, part-same}
 use Rattle.writer.specs.Contents.{countsFor, isAbsent, writtenNumber}
-use Rattle.writer.specs.Written.{halfOf, bodyWordOf, bytesBy, sceneBytes, roomFor, refusalOf, sceneRefusal, writtenBy, answerBy, writtenScene, sceneAnswer}
+use Rattle.writer.specs.Written.{halfOf, bodyWordOf, bytesBy, sceneBytes, sceneBlocks, roomFor, roomRefusal, refusalOf, sceneRefusal, writtenBy, answerBy, writtenScene, sceneAnswer}
+use Rattle.writer.proofs.Puts.{room-enough}
 use Rattle.rounds.specs.Rounds.{ComesOut, ReadThenWritten}
 use Rattle.rounds.proofs.Passed.{Passed, passed}
 use Rattle.rounds.proofs.Known.{known, number-known, shape-known}
@@ -228,21 +229,25 @@ module _ (file : List ℕ) (small : (i : ℕ) → getD file i 0 < 256) where
     bytes-same = rw counts-same bytes-made
 
     -- and there is room for it
-    none-refused : (out : List ℕ) → length file ≤ length out → sceneRefusal c (length out) ≡ 0
-    unfolding sceneRefusal roomFor choose
-    none-refused out h =
-        let q = told .few in
+    has-room : (size : ℕ) → length file ≤ size → roomRefusal c size ≡ 0
+    has-room size h =
         let l = told .size in
-        rw (z, counts-same, le-leb (blocksFor n) 128 q, le-leb (blocksFor n * 512) (length out) (omega arith))
+        ap (λ m. roomFor (blocksFor m) size) counts-same ∙ room-enough (blocksFor n) size (told .few) (omega arith)
+
+    none-refused : (out : List ℕ) → length file ≤ length out → sceneRefusal c (length out) ≡ 0
+    unfolding sceneRefusal choose
+    none-refused out h = rw (z, has-room (length out) h)
+
+    size-same : sceneBlocks c * 512 ≡ length file
+    size-same = ap (λ m. blocksFor m * 512) counts-same ∙ sym (told .size)
 
     pub comes-out : ComesOut file
     unfolding writtenBy answerBy choose
     comes-out =
-        let l = told .size in
         record {
           bytes = bytes-same;
           buffer = λ out h. rw (none-refused out h, bytes-same);
-          answer = λ out h. rw (none-refused out h, counts-same, l);
+          answer = λ out h. rw (none-refused out h, size-same);
         }
 
 pub read-then-written : ReadThenWritten

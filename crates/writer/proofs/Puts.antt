@@ -7,7 +7,7 @@ use native.Mathlib.Decide.{decLe}
 use native.Mathlib.Omega.{arith}
 use lib.Dec.{eqb, leb}
 use lib.ListN.{length, length-append}
-use borrow.Author.Tests.{lt-leb, leb-true, ne-eqb}
+use borrow.Author.Tests.{lt-leb, le-leb, leb-true, ne-eqb}
 use Rattle.base.specs.Choose.{choose}
 use Rattle.base.specs.Loop.{listed, stored}
 use Rattle.blocks.specs.declared.Part.{Part}
@@ -127,6 +127,10 @@ room-fits blocks size r e z = go (leb blocks 128) (leb-true blocks 128) (leb (bl
     go true f true g z = record { few = f refl; long = g refl }
     go true f false g z = absurd (omega arith)
     go false f b g z = absurd (omega arith)
+
+pub room-enough : (blocks size : ℕ) → blocks ≤ 128 → blocks * 512 ≤ size → roomFor blocks size ≡ 0
+unfolding roomFor choose
+room-enough blocks size few long = rw (le-leb blocks 128 few, le-leb (blocks * 512) size long)
 
 room-many : (blocks size : ℕ) → 128 < blocks → roomFor blocks size ≡ 12
 unfolding roomFor choose
