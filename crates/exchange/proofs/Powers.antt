@@ -63,7 +63,7 @@ small-cancels zero n d x t pos less h =
       where
         go : 1 * x ≡ p * t → x ≡ p * t
         go h = omega arith
-small-cancels (suc m) n d x t pos less h = go (decLt (d % 2) 1)
+small-cancels (suc m) n d x t pos less h = go (λ q l k e. small-cancels m n q x t l k e) (decLt (d % 2) 1)
   where
     z : suc m + n ≡ suc (m + n)
     z = omega arith
@@ -74,12 +74,12 @@ small-cancels (suc m) n d x t pos less h = go (decLt (d % 2) 1)
         half : 2 * q * x ≡ 2 * 2 ^ (m + n) * t → q * x ≡ 2 ^ (m + n) * t
         half h = omega arith
 
-    go : Dec (d % 2 < 1) → Multiple (2 ^ n) x
-    go (yes e) =
+    go : ((q : ℕ) → 0 < q → q < 2 ^ suc m → q * x ≡ 2 ^ (m + n) * t → Multiple (2 ^ n) x) → Dec (d % 2 < 1) → Multiple (2 ^ n) x
+    go again (yes e) =
         let l : d < 2 * 2 ^ suc m = rw (pow-succ' 2 (suc m)) at less in
         let h′ : d * x ≡ 2 * 2 ^ (m + n) * t = rw (z, pow-succ' 2 (m + n)) at h in
-        small-cancels m n (d / 2) x t (omega arith) (omega arith) (split (d / 2) (omega arith) h′)
-    go (no e) =
+        again (d / 2) (omega arith) (omega arith) (split (d / 2) (omega arith) h′)
+    go again (no e) =
         let q : d ≡ 2 * (d / 2) + 1 = omega arith in
         let o : (2 * (d / 2) + 1) * x ≡ 2 ^ (suc m + n) * t = ap (λ (k : ℕ). k * x) (sym q) ∙ h in
         fewer (2 ^ suc m) (2 ^ n) x (rw (pow-add 2 (suc m) n) at (odd-cancels (suc m + n) (d / 2) x t o))

@@ -20,8 +20,10 @@ use Rattle.table_check.specs.Check.{stateCount}
 use Rattle.lent_words.specs.Words.{wideOf, lowOf, highOf, windowFrom, windowWords}
 use Rattle.lent_words.proofs.Rounds.{low-wide, high-wide, words-back}
 use Rattle.blocks.specs.declared.Part.{Part}
-use Rattle.blocks.specs.Blocks.{blockOf, fileWord, partWord, partFits, perBlock, endOf, bodyPart, recordPart, boxPart, windowPart, cellPart}
+use Rattle.blocks.specs.Blocks.{blockOf, fileWord, isSecond, partWord, partFits, perBlock, endOf, bodyPart, recordPart, boxPart, windowPart, cellPart}
+use Rattle.blocks.proofs.Words.{word-fits, block-small}
 use Rattle.files.specs.declared.Counts.{Counts}
+use Rattle.files.proofs.Told.{Told, tells}
 use Rattle.files.specs.Places.{numberPlace, agePlace, wordPlace, statesPlace, boxesPlace, flapNumber, presentWord, airWord}
 use Rattle.files.specs.Files.{bodyWord, flapFits, windowIn, sizesIn, countsIn, countsFit, countsOf, partsFit, blocksFor, blocksFit, isScene}
 use Rattle.files.specs.Contents.{Contents, bodyFloat, numbersIn, lateWord, lateWords, ageIn, wordsOf, singlesOf, contentsIn}
@@ -40,7 +42,7 @@ unfolding toBits ofBits
 zero-bits = refl
 
 module _ (file : List ℕ) (small : (i : ℕ) → getD file i 0 < 256) where
-  part-word-fits : (p : Part) (i : ℕ) → partWord file p i < 4294967296
+  pub part-word-fits : (p : Part) (i : ℕ) → partWord file p i < 4294967296
   unfolding partWord choose
   part-word-fits p i = go (ltb i (p .words))
     where
@@ -62,7 +64,7 @@ module _ (file : List ℕ) (small : (i : ℕ) → getD file i 0 < 256) where
     pass : Passed c
     pass = passed c z
 
-    counts-same : countsFor c ≡ n
+    pub counts-same : countsFor c ≡ n
     unfolding wordsOf singlesOf
     counts-same =
         let a = listed-length (partWord file (recordPart (n .states))) (n .states * 20) 0 in
@@ -104,10 +106,10 @@ module _ (file : List ℕ) (small : (i : ℕ) → getD file i 0 < 256) where
         ap (λ (l : List ℕ). wordIn l i) (words-back (partWord file p) (bodyWord file (wordPlace airWord)) (part-word-fits p)) ∙ listed-from (partWord file p) 8 i 0 h
 
     -- the body
-    word-same : (k : ℕ) → k < 6 → wordIn (c .words) k ≡ bodyWord file (wordPlace k)
+    pub word-same : (k : ℕ) → k < 6 → wordIn (c .words) k ≡ bodyWord file (wordPlace k)
     word-same k h = listed-from (lateWord file) 6 k 0 h
 
-    number-same : (k : ℕ) → k < 19 → getD (c .numbers) k zero64 ≡ bodyFloat file k
+    pub number-same : (k : ℕ) → k < 19 → getD (c .numbers) k zero64 ≡ bodyFloat file k
     number-same k h = listed-from (bodyFloat file) 19 k zero64 h
 
     abbrev wide : ℕ → ℕ
@@ -141,7 +143,7 @@ module _ (file : List ℕ) (small : (i : ℕ) → getD file i 0 < 256) where
         let t = both (eqb (bodyWord file (numberPlace flapNumber)) 0) (eqb (bodyWord file (numberPlace flapNumber + 1)) 0) f in
         (eqb-true _ _ (t .one), eqb-true _ _ (t .two))
 
-    flap-wide : eqb (bodyWord file (wordPlace presentWord)) 0 ≡ true → wide flapNumber ≡ 0
+    pub flap-wide : eqb (bodyWord file (wordPlace presentWord)) 0 ≡ true → wide flapNumber ≡ 0
     flap-wide e = let w = flap-words e in rw (w .0, w .1)
 
     written-same : (k : ℕ) → k < 19 → toBits binary64 (writtenNumber (c .numbers) (c .words) k) ≡ wide k
@@ -200,23 +202,23 @@ module _ (file : List ℕ) (small : (i : ℕ) → getD file i 0 < 256) where
         number (no l) (no m) (yes k) = late-word i (omega arith) k
         number (no l) (no m) (no k) = count-word i (omega arith) h
 
-    -- ---- byte for byte
+    -- ---- byte for byte, where the file's mark is the new one
     body-bytes : partBytes bodyPart (bodyWordOf (c .numbers) (c .words) (c .age) n) ≡ partBytes bodyPart (partWord file bodyPart)
     body-bytes = part-same bodyPart _ _ body-same
 
     abbrev up : ℕ → List ℕ
     up b = take (b * 512) file
 
-    bytes-made : bytesBy c n ≡ file
+    bytes-made : isSecond file ≡ true → bytesBy c n ≡ file
     unfolding bytesBy
-    bytes-made =
+    bytes-made new =
         let q = told .few in
         let l = told .size in
-        let h₁ = fits-holds file bodyPart small (told .body-fits) (omega arith) in
-        let h₂ = fits-holds file (recordPart (n .states)) small (told .records-fit) (omega arith) in
-        let h₃ = fits-holds file (boxPart (n .states) (n .boxes)) small (told .boxes-fit) (omega arith) in
-        let h₄ = fits-holds file (windowPart (n .states) (n .boxes)) small (told .place-fits) (omega arith) in
-        let h₅ = fits-holds file (cellPart (n .states) (n .boxes) (n .cells)) small (told .cells-fit) (omega arith) in
+        let h₁ = fits-holds file new bodyPart small (told .body-fits) (omega arith) in
+        let h₂ = fits-holds file new (recordPart (n .states)) small (told .records-fit) (omega arith) in
+        let h₃ = fits-holds file new (boxPart (n .states) (n .boxes)) small (told .boxes-fit) (omega arith) in
+        let h₄ = fits-holds file new (windowPart (n .states) (n .boxes)) small (told .place-fits) (omega arith) in
+        let h₅ = fits-holds file new (cellPart (n .states) (n .boxes) (n .cells)) small (told .cells-fit) (omega arith) in
         let e₁ = holds-next file bodyPart (partWord file bodyPart) h₁ in
         let e₂ = holds-next file (recordPart (n .states)) (partWord file (recordPart (n .states))) h₂ in
         let e₃ = holds-next file (boxPart (n .states) (n .boxes)) (partWord file (boxPart (n .states) (n .boxes))) h₃ in
@@ -225,8 +227,8 @@ module _ (file : List ℕ) (small : (i : ℕ) → getD file i 0 < 256) where
         rw (body-bytes, part-same (recordPart (n .states)) _ _ record-same, part-same (boxPart (n .states) (n .boxes)) _ _ box-same, part-same (windowPart (n .states) (n .boxes)) _ _ place-same, part-same (cellPart (n .states) (n .boxes) (n .cells)) _ _ cell-same)
         (sym (rw (e₄, e₃, e₂, e₁) at e₅) ∙ take-all (blocksFor n * 512) file (omega arith))
 
-    bytes-same : sceneBytes c ≡ file
-    bytes-same = rw counts-same bytes-made
+    bytes-same : isSecond file ≡ true → sceneBytes c ≡ file
+    bytes-same new = rw counts-same (bytes-made new)
 
     -- and there is room for it
     has-room : (size : ℕ) → length file ≤ size → roomRefusal c size ≡ 0
@@ -234,21 +236,21 @@ module _ (file : List ℕ) (small : (i : ℕ) → getD file i 0 < 256) where
         let l = told .size in
         ap (λ m. roomFor (blocksFor m) size) counts-same ∙ room-enough (blocksFor n) size (told .few) (omega arith)
 
-    none-refused : (out : List ℕ) → length file ≤ length out → sceneRefusal c (length out) ≡ 0
+    pub none-refused : (out : List ℕ) → length file ≤ length out → sceneRefusal c (length out) ≡ 0
     unfolding sceneRefusal choose
     none-refused out h = rw (z, has-room (length out) h)
 
-    size-same : sceneBlocks c * 512 ≡ length file
+    pub size-same : sceneBlocks c * 512 ≡ length file
     size-same = ap (λ m. blocksFor m * 512) counts-same ∙ sym (told .size)
 
-    pub comes-out : ComesOut file
+    pub comes-out : isSecond file ≡ true → ComesOut file
     unfolding writtenBy answerBy choose
-    comes-out =
+    comes-out new =
         record {
-          bytes = bytes-same;
-          buffer = λ out h. rw (none-refused out h, bytes-same);
+          bytes = bytes-same new;
+          buffer = λ out h. rw (none-refused out h, bytes-same new);
           answer = λ out h. rw (none-refused out h, size-same);
         }
 
 pub read-then-written : ReadThenWritten
-read-then-written file small s z = comes-out file small s z
+read-then-written file small s new z = comes-out file small s z new

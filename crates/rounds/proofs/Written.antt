@@ -52,7 +52,7 @@ unfolding halfOf
 half-fits n j h = chosen (eqb j 0) (lowOf n) (highOf n) 4294967296 (omega arith) (omega arith)
 
 -- a list is what stands at its places
-listed-list : {A : Type 0} (f : ℕ → A) (l : List A) (n : ℕ) (d : A) → length l ≡ n → ((i : ℕ) → i < n → f i ≡ getD l i d) → listed f n 0 ≡ l
+pub listed-list : {A : Type 0} (f : ℕ → A) (l : List A) (n : ℕ) (d : A) → length l ≡ n → ((i : ℕ) → i < n → f i ≡ getD l i d) → listed f n 0 ≡ l
 listed-list f l n d e h =
     ext-getD d (listed f n 0) l (listed-length f n 0 ∙ sym e)
     (λ i g. let m : i < n = rw (listed-length f n 0) at g in listed-from f n i d m ∙ h i m)
