@@ -1,8 +1,7 @@
 -- A scene written anew, whichever mark it has: the new scene holds the same numbers. Assumes nothing.
 use mathlib.Core.Bool.{Bool, true, false, _&&_}
 use mathlib.Core.List.{List}
-use mathlib.Core.Path.{_≡_, refl, sym, ap, _∙_}
-use mathlib.Core.Int.{pos, negsuc}
+use mathlib.Core.Path.{_≡_, refl, sym, ap, subst, _∙_}
 use Prim.Native.Nat.{ℕ, _+_, _-_, _*_, _<_, _≤_}
 use native.Mathlib.Decide.{decLt}
 use native.Mathlib.Omega.{arith}
@@ -44,14 +43,15 @@ at-place P f n d h g i = go (decLt i n)
     go (yes l) = rw (listed-from f n i d l) (h i)
     go (no l) =
         let s = listed-length f n 0 in
-        rw (List·getD-eq-default (listed f n 0) d (omega arith)) g
+        let o : length (listed f n 0) ≤ i = omega arith in
+        rw (List·getD-eq-default (listed f n 0) d o) g
 
 -- a word as a signed number is of 32 bits
 signed-fits : (w : ℕ) → w < 4294967296 → mag (signedWord w) < 2147483648
 unfolding signedWord choose
 signed-fits w h = go (decLt w 2147483648)
   where
-    go : Dec (w < 2147483648) → mag (choose (ltb w 2147483648) (pos w) (negsuc (4294967295 - w))) < 2147483648
+    go : Dec (w < 2147483648) → mag (signedWord w) < 2147483648
     go (yes l) = rw (lt-ltb w 2147483648 l) l
     go (no l) = let g : 2147483648 ≤ w = omega arith in rw (le-ltb w 2147483648 g) (omega arith)
 
@@ -114,7 +114,7 @@ module _ (file : List ℕ) (small : (i : ℕ) → getD file i 0 < 256) (s : isSc
       rw (m, word-same file small s z 5 (omega arith))
 
   few : sceneBlocks c ≤ 128
-  few = let l = tells file s .few in rw (counts-same file small s z) l
+  few = subst (λ k. k ≤ 128) (sym (ap (λ m. blocksFor m) (counts-same file small s z))) (tells file s .few)
 
   pub same-numbers : SameNumbers file
   unfolding writtenBy choose
