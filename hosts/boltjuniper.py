@@ -35,7 +35,7 @@ SENTENCES = {
     9: "The computed motion is not finite.",
     10: "In the midnight run: the body names no window.",
     11: "In a direct call: the memory lent for the answer is too short.",
-    12: "The scene to be written has more than 128 blocks.",
+    12: "In a direct call that writes a scene: it has more than 128 blocks.",
     14: "In the midnight run: more than 16 windows, or more than 4,096 bodies.",
 }
 

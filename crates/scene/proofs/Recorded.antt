@@ -79,7 +79,7 @@ same-measures b h =
 
 module _ (records : List ℕ) (rules : Rules) (b : BodyNumbers) (given : MotionNumbers) where
   same-refusal : numberRefusal records rules b given ≡ 0 → numberRefusal records rules (flapped b zero64) given ≡ 0
-  unfolding numberRefusal numbersFit casesFit
+  unfolding numberRefusal numbersFit casesFit choose
   same-refusal h =
       let n = held (numbersFit records rules b (given .ground)) (choose (motionFits (given .feet) (given .velocity)) 0 4) 2 h in
       let t₁ = both (measuresFit b && casesFit b && rulesFit records rules) (ltb (given .ground) 2) (n .test) in

@@ -28,24 +28,23 @@ all k h = omega arith
 
 -- what the program takes out of the file's blocks is what the scene holds
 module _ (file : List ℕ) (n : Counts) (records : List ℕ) (shapes : List Float) (cells : List ℕ) (a b c : ℕ) (w : Window)
-    (few : blocksFor n ≤ 128)
     (er : take (min (n .states * 20) 15744) records ≡ listed (partWord file (recordPart (n .states))) (min (n .states * 20) 15744) 0)
     (es : take (min (n .boxes * 6) 15744) shapes ≡ listed (λ i. ofBits binary32 (partWord file (boxPart (n .states) (n .boxes)) i)) (min (n .boxes * 6) 15744) 0)
     (ec : take (min (n .cells) 15744) cells ≡ listed (partWord file (cellPart (n .states) (n .boxes) (n .cells))) (min (n .cells) 15744) 0)
     (ea : a ≡ min (n .states * 20) 15744) (eb : b ≡ min (n .boxes * 6) 15744) (en : c ≡ min (n .cells) 15744)
     (ew : w ≡ windowIn file (windowPart (n .states) (n .boxes))) where
-  pub taken : contentsOf (take a records) (take b shapes) (take c cells) w (numbersIn file) (lateWords file) (ageIn file) ≡ contentsBehind file n
+  pub taken : blocksFor n ≤ 128 → contentsOf (take a records) (take b shapes) (take c cells) w (numbersIn file) (lateWords file) (ageIn file) ≡ contentsBehind file n
   unfolding wordsOf singlesOf
-  taken =
+  taken few =
       let r = rooms n few in
       let p = all (n .states * 20) (r .records) in
       let q = all (n .boxes * 6) (r .shapes) in
       let s = all (n .cells) (r .cells) in
       rw (ea, eb, en, er, es, ec, p, q, s, ew)
 
-  pub stepped : stepOf (contentsOf (take a records) (take b shapes) (take c cells) w (numbersIn file) (lateWords file) (ageIn file)) ≡ stepIn file n
+  pub stepped : blocksFor n ≤ 128 → stepOf (contentsOf (take a records) (take b shapes) (take c cells) w (numbersIn file) (lateWords file) (ageIn file)) ≡ stepIn file n
   unfolding stepIn
-  stepped = ap stepOf taken
+  stepped few = ap stepOf (taken few)
 
 -- ---- the tick
 

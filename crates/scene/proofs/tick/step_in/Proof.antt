@@ -65,7 +65,7 @@ returns : tie.Need-returns
 returns c =
     λ few.
     c .step-among .ensures
-    ∙ stepped (c .before .before .before .before .before .before .before .before .before .before .before .before .before .before .args .file .now) (c .before .before .before .before .before .before .before .before .before .before .before .before .before .before .args .n) _ _ _ _ _ _ _ few (c .before .before .before .before .before .before .before .before .before .before .before .before .records-of .ensures .0) (c .before .before .before .before .before .before .before .before .before .before .before .shapes-of .ensures .0) (c .before .before .before .before .before .before .before .before .before .before .cells-of .ensures .0) (c .before .before .before .before .before .before .before .before .held .ensures) (c .before .before .before .before .before .before .held2 .ensures) (c .before .before .before .before .before .held3 .ensures) (c .before .before .before .before .window-in .ensures)
+    ∙ stepped (c .before .before .before .before .before .before .before .before .before .before .before .before .before .before .args .file .now) (c .before .before .before .before .before .before .before .before .before .before .before .before .before .before .args .n) _ _ _ _ _ _ _ (c .before .before .before .before .before .before .before .before .before .before .before .before .records-of .ensures .0) (c .before .before .before .before .before .before .before .before .before .before .before .shapes-of .ensures .0) (c .before .before .before .before .before .before .before .before .before .before .cells-of .ensures .0) (c .before .before .before .before .before .before .before .before .held .ensures) (c .before .before .before .before .before .before .held2 .ensures) (c .before .before .before .before .before .held3 .ensures) (c .before .before .before .before .window-in .ensures) few
 
 pub step-in-spec : {M : Type 1} → statement M
 step-in-spec =
