@@ -72,9 +72,14 @@ fn run_scene(n: u32) {
     libc::close(fd);
 }
 
+// The scenes that were made with heights and columns, and those of both marks.
 pub(crate) fn run_scenes() {
     let most: u32 = 260;
     for n in 0..most {
         run_scene(n);
+    }
+    let marked: u32 = 124;
+    for n in 0..marked {
+        run_scene(2000 + n);
     }
 }

@@ -1,7 +1,7 @@
 // The scene files of data/, by number: each with what `onetick` prints of it, its lines joined by `; `, and behind them the case of its sample; then
-// with what `rewrite` does. From 1000 on they are scenes of the layout without heights and columns, converted (tools/convert): not each has a likeness,
-// so a number without a file is passed over, and of none is the case among the original's answers. The stored answers have a line for each that must be
-// there.
+// with what `rewrite` does. From 1000 to 1999 they are scenes of the layout without heights and columns, converted (tools/convert): not each has a
+// likeness, so a number without a file is passed over, and of none is the case among the original's answers. From 2000 on they are of both marks. The
+// stored answers have a line for each that must be there.
 ghost use mathlib.Core.Path.{_≡_};
 ghost use lib.ListN.{length};
 
@@ -49,13 +49,18 @@ fn put_joined(text: &[u8]) {
     }
 }
 
+fn is_converted(n: u32) -> bool {
+    (1000 <= n) & (n < 2000)
+}
+
 fn put_answer(n: u32, file: &[u8]) {
     let mut out = answer_room();
     let m = scene::answer(file, &mut out);
     put_joined(crate::text::part(&out, 0, m));
-    if n < 1000 {
-        crate::cases::put_case(file);
+    if is_converted(n) {
+        return;
     }
+    crate::cases::put_case(file);
 }
 
 fn put_refusal(refusal: u32) {
@@ -64,7 +69,49 @@ fn put_refusal(refusal: u32) {
     crate::text::put(&last);
 }
 
-// The file as the writer makes it of its contents: the same, or its refusal.
+// Whether byte k is of a mark or of a check: words 0, 126 and 127 of a block.
+fn is_sealing(k: usize) -> bool {
+    let at = k % 512;
+    if at < 4 {
+        return true;
+    }
+    at >= 504
+}
+
+fn differs(a: &[u8], b: &[u8], k: usize) -> bool {
+    if is_sealing(k) {
+        return false;
+    }
+    crate::text::byte(a, k) != crate::text::byte(b, k)
+}
+
+// The same blocks but for their marks and checks.
+fn same_numbers(a: &[u8], b: &[u8]) -> bool {
+    let mut same = a.len() == b.len();
+    for k in 0..a.len() {
+        if differs(a, b, k) {
+            same = false;
+        }
+    }
+    same
+}
+
+// What became of a file that was written anew: the same file; where it had the old mark, the same numbers under the new one.
+fn put_likeness(anew: &[u8], file: &[u8]) {
+    if suffixes::equals(anew, file) {
+        crate::text::put(b"same");
+        return;
+    }
+    if suffixes::equals(crate::text::part(anew, 0, 4), b"SCN2") {
+        if same_numbers(anew, file) {
+            crate::text::put(b"same numbers, new mark");
+            return;
+        }
+    }
+    crate::text::put(b"another file");
+}
+
+// The file as the writer makes it of its contents, or its refusal.
 fn put_rewritten(file: &[u8]) {
     let mut out = file_room();
     let a = scene::rewrite(file, &mut out);
@@ -72,11 +119,7 @@ fn put_rewritten(file: &[u8]) {
         put_refusal(a.refusal);
         return;
     }
-    if suffixes::equals(crate::text::part(&out, 0, a.bytes), file) {
-        crate::text::put(b"same");
-        return;
-    }
-    crate::text::put(b"another file");
+    put_likeness(crate::text::part(&out, 0, a.bytes), file);
 }
 
 // What a scene's line begins with: its number, and a space.
@@ -105,7 +148,7 @@ fn run(n: u32) {
 }
 
 pub(crate) fn run_all() {
-    let most: u32 = 1701;
+    let most: u32 = 2124;
     for n in 0..most {
         run(n);
     }
