@@ -11,7 +11,8 @@ use Rattle.base.specs.Choose.{choose}
 use Rattle.base.specs.Ask.{Ask, _>>=_}
 use Rattle.bodies.specs.Body.{bodyOf, motionOf}
 use Rattle.bodies.specs.Numbers.{lengthsFit}
-pub use Rattle.bodies.specs.Lent.{motionAt, bodyAt, rulesAt, bodyRefusal}
+pub use Rattle.bodies.specs.Lent.{motionAt, bodyAt, rulesAt}
+unfoldable pub use Rattle.bodies.specs.Lent.{bodyRefusal}
 use Rattle.lent.specs.Lent.{lentRefusal}
 use Rattle.window.specs.declared.Window.{Window}
 use Rattle.window.specs.Look.{lookAt}
