@@ -31,7 +31,7 @@ SENTENCES = {
     5: "The rules ask for a cell that the window does not hold.",
     6: "More than 128 boxes lie in the way.",
     7: "The flow test meets a state that is not registered. The original program would have ended there.",
-    8: "The file is no scene: a mark, number, check, kind, count or unused word is wrong, or blocks are missing or left over.",
+    8: "The file is no scene: a mark, number, check, kind, count or unused word is wrong, both marks are in it, or blocks are missing or left over.",
     9: "The computed motion is not finite.",
     10: "In the midnight run: the body names no window.",
     11: "In a direct call: the memory lent for the answer is too short.",
@@ -321,7 +321,7 @@ def move_over_list(boxes, mover):
 
 
 def write_scene(tables, window, body):
-    """The scene file of a body, its tables and its window, as bytes: what `tick` reads."""
+    """The scene file of a body, its tables and its window, as bytes, of the new mark: what `tick` reads."""
     lent, out = _Lent().tables(tables).window(window).body(body), (ctypes.c_uint8 * SCENE_BYTES)()
     n = _function("write_scene")(*lent.arguments, ctypes.addressof(out), SCENE_BYTES)
     return bytes(out[:n]) if n >= BLOCK else _judged(Refused(n))

@@ -294,7 +294,7 @@ fn written(n: u64) -> Result<usize, Refusal> {
     if n < 512 { Err(n as Refusal) } else { Ok(n as usize) }
 }
 
-/// The scene file of a body, its tables and its window, into `out`: how many bytes it has. Bytes past it keep their values, and a refusal writes nothing:
+/// The scene file of a body, its tables and its window, of the new mark, into `out`: how many bytes it has. Bytes past it keep their values, and a refusal writes nothing:
 /// 1 to 4 as `step` has them, then 12 for more than 128 blocks, then 11 for an `out` too short. Where no flap is present its number is written as zero.
 pub fn write_scene(t: Tables, w: Window, b: &Body, out: &mut [u8]) -> Result<usize, Refusal> {
     let ([ox, oy, oz], [sx, sy, sz]) = (w.origin, w.sizes);

@@ -119,6 +119,17 @@ static void step(struct count *c, step_function *f, const char *theirs) {
     add(c, ours, theirs);
 }
 
+/* The file under the new mark with its two checks, as a writer makes it of a scene of either mark. */
+static void renew(size_t bytes) {
+    for (size_t b = 0; b < bytes / 512; b++) {
+        uint32_t *w = file + 128 * b, sum = 0, second = 0;
+        w[0] = 0x324E4353;
+        for (uint32_t k = 0; k < 126; k++) second += (k + 1) * w[k], sum += w[k];
+        w[126] = second;
+        w[127] = sum + second;
+    }
+}
+
 typedef uint64_t write_function(const uint32_t *, size_t, const float *, size_t, const uint32_t *, size_t, int32_t, int32_t, int32_t, uint32_t,
                                 uint32_t, uint32_t, int32_t, int32_t, const double *, size_t, const uint32_t *, size_t, uint64_t, uint8_t *, size_t);
 
@@ -219,6 +230,7 @@ static void one_scene(char *theirs) {
     if (!early) step(&checked, boltjuniper_step_checked, theirs);
     sprintf(ours, "%" PRIu32, boltjuniper_check_tables(records, n, shapes, m));
     add(&tables, ours, bad ? "1" : "0");
+    renew(bytes);
     writes_as(&writes, boltjuniper_write_scene, bytes, ROOM, first ? theirs : "same");
     writes_as(&writes, boltjuniper_write_scene, bytes, bytes, first ? theirs : "same");
     writes_as(&writes, boltjuniper_write_scene, bytes, bytes - 1, first ? theirs : "refused 11");

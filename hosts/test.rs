@@ -63,6 +63,17 @@ fn move_text(m: Mover, a: Result<Moved, Refusal>) -> String {
     format!("{refusal}box{} moved{} ground {}", bits(&r.aabb), bits(&r.moved), r.ground as u32)
 }
 
+// A file under the new mark with its two checks, as a writer makes it of a scene of either mark.
+fn renewed(file: &[u8]) -> Vec<u8> {
+    let mut words: Vec<u32> = file.chunks_exact(4).map(|b| u32::from_le_bytes(b.try_into().unwrap())).collect();
+    for w in words.chunks_exact_mut(128) {
+        w[0] = u32::from_le_bytes(*b"SCN2");
+        w[126] = w[..126].iter().zip(1u32..).fold(0, |sum, (x, k)| sum.wrapping_add(x.wrapping_mul(k)));
+        w[127] = w[..127].iter().fold(0, |sum, &x| sum.wrapping_add(x));
+    }
+    words.iter().flat_map(|w| w.to_le_bytes()).collect()
+}
+
 // A scene written anew, into a buffer that was full of 170: bytes past the scene are kept, and a refusal keeps them all.
 fn written_text(a: Result<usize, Refusal>, out: &[u8], file: &[u8]) -> String {
     let (n, text) = a.map_or_else(|n| (0, format!("refused {n}")), |n| (n, String::from(if out[..n] == *file { "same" } else { "another file" })));
@@ -258,6 +269,7 @@ fn main() {
         let early = theirs == "refused 1" || theirs == "refused 2";
         tables.add(name, &check_tables(t).err().unwrap_or(0).to_string(), if theirs == "refused 1" { "1" } else { "0" });
         let first = early || theirs == "refused 3" || theirs == "refused 4";
+        let file = renewed(&file);
         let mut out = [170; SCENE_BYTES + 1];
         writes.add(name, &written_text(write_scene(t, w, &s.body, &mut out), &out, &file), if first { theirs } else { "same" });
         let mut short = vec![170; file.len() - 1];

@@ -10,7 +10,9 @@ import struct
 from types import SimpleNamespace as Scene
 from typing import Callable, NamedTuple
 
-MARK = 0x314E4353
+OLD, NEW = 0x314E4353, 0x324E4353
+RULES = {NEW: "the new rule: mark 53 43 4e 32, checks in words 126 and 127",
+         OLD: "the old rule: mark 53 43 4e 31, one check, in word 127"}
 WORD = 2**32
 BLOCK, PAYLOAD, MOST_BLOCKS = 128, 123, 128
 
@@ -241,25 +243,49 @@ def arrays(scene):
 
 # ---- files
 
-def packed(scene):
+def second_of(w):
+    """The second check: each of words 0 to 125 times its index and 1."""
+    return sum((k + 1) * x for k, x in enumerate(w[:126])) % WORD
+
+
+def word_126(w, mark):
+    return second_of(w) if mark == NEW else 0
+
+
+def sealed(words):
+    """The bytes of a block of these words, 0 to 125, by the rule of its mark."""
+    w = words + [word_126(words, words[0])]
+    return struct.pack("<128I", *w, sum(w) % WORD)
+
+
+def packed(scene, mark=NEW):
     out, block = b"", 0
     for part in PARTS:
         words = getattr(scene, part.name)
         for at in range(0, len(words), part.per):
             payload = words[at:at + part.per]
-            w = [MARK, part.kind, block] + payload + [0] * (BLOCK - 4 - len(payload))
-            out += struct.pack("<128I", *w, sum(w) % WORD)
+            out += sealed([mark, part.kind, block] + payload + [0] * (PAYLOAD - len(payload)))
             block += 1
     return out
 
 
-def block_causes(n, w):
-    if w[0] != MARK:
-        yield "block %d, word 0: is %08x, the mark is %08x" % (n, w[0], MARK)
+def mark_of(data):
+    """The mark by whose rule a file is read: its first. None where that is neither."""
+    first = int.from_bytes(data[:4], "little")
+    return first if len(data) >= 512 and first in RULES else None
+
+
+def block_causes(n, w, mark):
+    if w[0] not in RULES:
+        yield "block %d, word 0: is %08x, the mark is %08x" % (n, w[0], mark)
+    elif w[0] != mark:
+        yield "block %d, word 0: is %08x, the first block's mark is %08x, and a file has one" % (n, w[0], mark)
     if w[2] != n:
         yield "block %d, word 2: is %d, must be the block's number" % (n, w[2])
-    if w[126]:
+    if mark == OLD and w[126]:
         yield "block %d, word 126: is %d, must be 0" % (n, w[126])
+    if mark == NEW and w[126] != second_of(w):
+        yield "block %d, word 126: is %08x, words 0 to 125, each times its index and 1, sum to %08x" % (n, w[126], second_of(w))
     if w[127] != sum(w[:127]) % WORD:
         yield "block %d, word 127: is %08x, words 0 to 126 sum to %08x" % (n, w[127], sum(w[:127]) % WORD)
 
@@ -278,7 +304,8 @@ def unpacked(data):
     if not data or len(data) % 512 or len(data) > 512 * MOST_BLOCKS:
         raise Malformed(["the file has %d bytes, must be 1 to %d blocks of 512" % (len(data), MOST_BLOCKS)])
     blocks = [list(struct.unpack_from("<128I", data, at)) for at in range(0, len(data), 512)]
-    causes = [c for n, w in enumerate(blocks) for c in block_causes(n, w)]
+    mark = mark_of(data) or next((w[0] for w in blocks if w[0] in RULES), NEW)  # where the first is neither, what the others have is of use
+    causes = [c for n, w in enumerate(blocks) for c in block_causes(n, w, mark)]
     if causes:
         raise Malformed(causes)
     scene, at = Scene(), 0

@@ -1,10 +1,10 @@
 // How a scene file is laid out: words, blocks, and the parts that the blocks are of. A look-up past the end of a file answers nothing, or 0.
 ghost use mathlib.Core.Path.{_≡_};
-ghost use mathlib.Core.Bool.{_||_};
-ghost use Prim.Native.Nat.{_+_, _*_};
+ghost use mathlib.Core.Bool.{true, _||_};
+ghost use Prim.Native.Nat.{_+_, _*_, _%_};
 ghost use lib.Dec.{eqb, ltb};
 ghost use lib.ListN.{getD};
-ghost use Rattle.blocks.specs.Blocks.{blockOf, fileWord, mark, marked, checkOf, restZero, blockFits, perBlock, blocksOf, endOf, usedIn, partFits, partWord, bodyPart, recordPart, boxPart, windowPart, cellPart};
+ghost use Rattle.blocks.specs.Blocks.{blockOf, fileWord, newMark, marked, checkOf, secondOf, word126, restZero, blockFits, perBlock, blocksOf, endOf, usedIn, partFits, partWord, bodyPart, recordPart, boxPart, windowPart, cellPart};
 
 // The blocks of one kind, one after the other: the first of them, the kind, and how many payload words there are in all.
 pub struct Part {
@@ -47,20 +47,24 @@ fn word(block: &[u8], k: u32) -> u32
     four(byte(block, i), byte(block, i + 1), byte(block, i + 2), byte(block, i + 3))
 }
 
-fn is_marked(block: &[u8]) -> bool
-    ensures { λ r. ⌜ r ≡ marked (now (block .entry)) ⌝ }
+// A block has the mark of a rule: the second, or the first.
+fn is_marked(second: bool, block: &[u8]) -> bool
+    ensures { λ r. ⌜ r ≡ marked second (now (block .entry)) ⌝ }
 {
     if block.len() < 4 {
         return false;
     }
+    if second {
+        return suffixes::equals(&block[..4], b"SCN2");
+    }
     suffixes::equals(&block[..4], b"SCN1")
 }
 
-// The same four bytes as a word.
+// The new mark's four bytes as a word.
 pub fn mark_word() -> u32
-    ensures { λ r. ⌜ r ≡ fileWord mark 0 ⌝ }
+    ensures { λ r. ⌜ r ≡ fileWord newMark 0 ⌝ }
 {
-    word(b"SCN1", 0)
+    word(b"SCN2", 0)
 }
 
 // The sum of words 0 to 126, wrapping at 2^32.
@@ -76,6 +80,36 @@ pub fn check_of(block: &[u8]) -> u32
     sum
 }
 
+// (k + 1) times a word, wrapping at 2^32. The kit wraps sums alone, so the product is taken in 64 bits.
+fn weighted(k: u8, w: u32) -> u32
+    ensures { λ r. ⌜ r ≡ (k + 1) * w % 4294967296 ⌝ }
+{
+    ((k as u64 + 1) * w as u64 % 4294967296) as u32
+}
+
+// The sum over words 0 to 125 of (index + 1) times the word, wrapping at 2^32.
+pub fn second_of(block: &[u8]) -> u32
+    ensures { λ r. ⌜ r ≡ secondOf (now (block .entry)) ⌝ }
+{
+    let mut sum = 0u32;
+    let mut k = 0u8;
+    while k < 126 {
+        sum = std::num::wrapping_add_u32(sum, weighted(k, word(block, k as u32)));
+        k += 1;
+    }
+    sum
+}
+
+// What word 126 is to be: the second check, or by the first rule zero.
+fn word_126(second: bool, block: &[u8]) -> u32
+    ensures { λ r. ⌜ r ≡ word126 second (now (block .entry)) ⌝ }
+{
+    if second {
+        return second_of(block);
+    }
+    0
+}
+
 // Word 3 + i is one of those in use, or zero.
 fn used_or_zero(block: &[u8], used: u32, i: u8) -> bool
     ensures { λ r. ⌜ r ≡ (ltb i used || eqb (fileWord (now (block .entry)) (3 + i)) 0) ⌝ }
@@ -86,12 +120,12 @@ fn used_or_zero(block: &[u8], used: u32, i: u8) -> bool
     word(block, 3 + i as u32) == 0
 }
 
-// Each word from 3 to 126 is one of those in use, or zero.
+// Each word from 3 to 125 is one of those in use, or zero.
 fn rest_zero(block: &[u8], used: u32) -> bool
     ensures { λ r. ⌜ r ≡ restZero (now (block .entry)) used ⌝ }
 {
     let mut i = 0u8;
-    while i < 124 {
+    while i < 123 {
         if used_or_zero(block, used, i) {
             i += 1;
         } else {
@@ -101,14 +135,16 @@ fn rest_zero(block: &[u8], used: u32) -> bool
     true
 }
 
-fn block_fits(block: &[u8], number: usize, kind: u32, used: u32) -> bool
-    ensures { λ r. ⌜ r ≡ blockFits (now (block .entry)) number kind used ⌝ }
+fn block_fits(second: bool, block: &[u8], number: usize, kind: u32, used: u32) -> bool
+    ensures { λ r. ⌜ r ≡ blockFits second (now (block .entry)) number kind used ⌝ }
 {
-    if is_marked(block) {
+    if is_marked(second, block) {
         if word(block, 1) == kind {
             if word(block, 2) as usize == number {
                 if rest_zero(block, used) {
-                    return word(block, 127) == check_of(block);
+                    if word(block, 126) == word_126(second, block) {
+                        return word(block, 127) == check_of(block);
+                    }
                 }
             }
         }
@@ -161,16 +197,24 @@ pub fn used_in(p: Part, j: usize) -> u32
     p.words % per
 }
 
-// Each block of a part is as document 01 has it.
+// Block b of a file has the new mark.
+fn has_new_mark(file: &[u8], b: usize) -> bool
+    ensures { λ r. ⌜ r ≡ marked true (blockOf (now (file .entry)) b) ⌝ }
+{
+    is_marked(true, block_of(file, b))
+}
+
+// Each block of a part is as documents 01 and 02 have it, by the rule of the file's first mark.
 pub fn part_fits(file: &[u8], p: Part) -> bool
     ensures { λ r. ⌜ r ≡ partFits (now (file .entry)) p ⌝ }
 {
     let n = blocks_of(p);
     let first = p.first as usize;
+    let second = has_new_mark(file, 0);
     let mut j = 0usize;
     while j < n {
         let used = used_in(p, j);
-        if block_fits(block_of(file, first + j), first + j, p.kind, used) {
+        if block_fits(second, block_of(file, first + j), first + j, p.kind, used) {
             j += 1;
         } else {
             return false;

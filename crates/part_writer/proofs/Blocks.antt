@@ -15,10 +15,10 @@ use Rattle.base.proofs.Every.{both, every-at, every-from}
 use Rattle.base.proofs.Fill.{stored-then}
 use Rattle.suffixes.specs.Bytes.{equal}
 use Rattle.suffixes.proofs.Texts.{equal-same, same-equal}
-use Rattle.blocks.specs.Blocks.{fileWord, mark, marked, checkOf, restZero, blockFits}
-use Rattle.part_writer.specs.Bytes.{joined, wordBytes, bytesOf, headBytes, payloadWord, withCheck, blockBytes}
+use Rattle.blocks.specs.Blocks.{fileWord, newMark, marked, checkOf, secondOf, word126, restZero, blockFits}
+use Rattle.part_writer.specs.Bytes.{joined, wordBytes, bytesOf, headBytes, payloadWord, withSecond, withCheck, blockBytes}
 use Rattle.part_writer.proofs.Stored.{stored-front, stored-all}
-use Rattle.part_writer.proofs.Words.{word-there, word-bytes, word-length, bytes-length, bytes-at, bytes-same, words-back, check-before, check-fits}
+use Rattle.part_writer.proofs.Words.{word-there, word-bytes, word-length, bytes-length, bytes-at, bytes-same, words-back, check-before, check-fits, second-before, second-fits}
 
 -- ---- the payload
 
@@ -34,7 +34,7 @@ payload-spare f used i h = rw (le-ltb i used h)
 pub block-same : (number kind : ℕ) (f g : ℕ → ℕ) (used : ℕ) → ((i : ℕ) → i < used → f i ≡ g i) → blockBytes number kind f used ≡ blockBytes number kind g used
 unfolding blockBytes
 block-same number kind f g used e =
-    ap (λ (l : List ℕ). withCheck (headBytes number kind ++ l)) (bytes-same (payloadWord f used) (payloadWord g used) 124 (λ i h. go i (decLt i used)))
+    ap (λ (l : List ℕ). withCheck (withSecond (headBytes number kind ++ l))) (bytes-same (payloadWord f used) (payloadWord g used) 123 (λ i h. go i (decLt i used)))
   where
     go : (i : ℕ) → Dec (i < used) → payloadWord f used i ≡ payloadWord g used i
     go i (yes h) = payload-used f used i h ∙ e i h ∙ sym (payload-used g used i h)
@@ -53,50 +53,74 @@ pub head-length : (number kind : ℕ) → length (headBytes number kind) ≡ 12
 unfolding headBytes wordBytes
 head-length number kind = refl
 
+-- four bytes that stand before what was put behind them
+four-before : (l m : List ℕ) (i : ℕ) → i + 4 ≤ length l → take 4 (drop i (l ++ m)) ≡ take 4 (drop i l)
+four-before l m i h =
+    let n : 4 ≤ length (drop i l) = rw (length-drop i l) (omega arith) in
+    rw (drop-append-le i l m (omega arith), take-append-le 4 (drop i l) m n)
+
+-- and four bytes at the end
+four-last : (l : List ℕ) (i w : ℕ) → length l ≡ i → take 4 (drop i (l ++ wordBytes w)) ≡ wordBytes w
+four-last l i w e = rw (drop-at l (wordBytes w) i e) (take-all 4 (wordBytes w) (let n = word-length w in omega arith))
+
 module _ (number kind : ℕ) (f : ℕ → ℕ) (used : ℕ) where
   abbrev payload : List ℕ
-  payload = bytesOf (payloadWord f used) 124
+  payload = bytesOf (payloadWord f used) 123
 
   abbrev before : List ℕ
   before = headBytes number kind ++ payload
 
-  before-length : length before ≡ 508
-  before-length = length-append (headBytes number kind) payload ∙ (let a = head-length number kind in let b = bytes-length (payloadWord f used) 124 in omega arith)
+  before-length : length before ≡ 504
+  before-length = length-append (headBytes number kind) payload ∙ (let a = head-length number kind in let b = bytes-length (payloadWord f used) 123 in omega arith)
+
+  second-length : length (withSecond before) ≡ 508
+  unfolding withSecond
+  second-length = length-append before (wordBytes (secondOf before)) ∙ (let a = before-length in let b = word-length (secondOf before) in omega arith)
 
   pub block-length : length (blockBytes number kind f used) ≡ 512
   unfolding blockBytes withCheck
-  block-length = length-append before (wordBytes (checkOf before)) ∙ (let a = before-length in let b = word-length (checkOf before) in omega arith)
+  block-length =
+      length-append (withSecond before) (wordBytes (checkOf (withSecond before)))
+      ∙ (let a = second-length in let b = word-length (checkOf (withSecond before)) in omega arith)
 
   -- ---- the four bytes of each word
-  mark-at : take 4 (blockBytes number kind f used) ≡ mark
-  unfolding blockBytes withCheck headBytes
+  mark-at : take 4 (blockBytes number kind f used) ≡ newMark
+  unfolding blockBytes withCheck withSecond headBytes
   mark-at = refl
 
   kind-at : take 4 (drop 4 (blockBytes number kind f used)) ≡ wordBytes kind
-  unfolding blockBytes withCheck headBytes wordBytes
+  unfolding blockBytes withCheck withSecond headBytes wordBytes
   kind-at = refl
 
   number-at : take 4 (drop 8 (blockBytes number kind f used)) ≡ wordBytes number
-  unfolding blockBytes withCheck headBytes wordBytes
+  unfolding blockBytes withCheck withSecond headBytes wordBytes
   number-at = refl
 
-  payload-at : (i : ℕ) → i < 124 → take 4 (drop ((3 + i) * 4) (blockBytes number kind f used)) ≡ wordBytes (payloadWord f used i)
-  unfolding blockBytes withCheck
+  payload-at : (i : ℕ) → i < 123 → take 4 (drop ((3 + i) * 4) (blockBytes number kind f used)) ≡ wordBytes (payloadWord f used i)
+  unfolding blockBytes withCheck withSecond
   payload-at i h =
       let a = head-length number kind in
       let b = before-length in
-      let c = bytes-length (payloadWord f used) 124 in
+      let s = second-length in
       let q : (3 + i) * 4 ≡ length (headBytes number kind) + i * 4 = omega arith in
-      let d = drop-append-le ((3 + i) * 4) before (wordBytes (checkOf before)) (omega arith) in
       let e : drop ((3 + i) * 4) before ≡ drop (i * 4) payload = rw q (drop-append-add (headBytes number kind) payload (i * 4)) in
-      let l : 4 ≤ length (drop (i * 4) payload) = rw (length-drop (i * 4) payload) (omega arith) in
-      rw (d, e, take-append-le 4 (drop (i * 4) payload) (wordBytes (checkOf before)) l) (bytes-at (payloadWord f used) 124 i h)
+      four-before (withSecond before) (wordBytes (checkOf (withSecond before))) ((3 + i) * 4) (omega arith)
+      ∙ four-before before (wordBytes (secondOf before)) ((3 + i) * 4) (omega arith)
+      ∙ rw e (bytes-at (payloadWord f used) 123 i h)
 
-  check-at : take 4 (drop 508 (blockBytes number kind f used)) ≡ wordBytes (checkOf before)
+  second-at : take 4 (drop 504 (blockBytes number kind f used)) ≡ wordBytes (secondOf before)
+  unfolding blockBytes withCheck withSecond
+  second-at =
+      let s = second-length in
+      four-before (withSecond before) (wordBytes (checkOf (withSecond before))) 504 (omega arith) ∙ four-last before 504 (secondOf before) before-length
+
+  check-at : take 4 (drop 508 (blockBytes number kind f used)) ≡ wordBytes (checkOf (withSecond before))
   unfolding blockBytes withCheck
-  check-at =
-      rw (drop-at before (wordBytes (checkOf before)) 508 before-length)
-      (take-all 4 (wordBytes (checkOf before)) (let w = word-length (checkOf before) in omega arith))
+  check-at = four-last (withSecond before) 508 (checkOf (withSecond before)) second-length
+
+  pub made-marked : marked true (blockBytes number kind f used) ≡ true
+  unfolding marked choose
+  made-marked = rw mark-at (same-equal newMark)
 
   -- ---- reading it
   module _ (fit : Fit number kind f used) where
@@ -108,9 +132,9 @@ module _ (number kind : ℕ) (f : ℕ → ℕ) (used : ℕ) where
 
     made-rest : restZero (blockBytes number kind f used) used ≡ true
     unfolding restZero
-    made-rest = every-from 124 _ (λ i h. go i h (decLt i used))
+    made-rest = every-from 123 _ (λ i h. go i h (decLt i used))
       where
-        go : (i : ℕ) → i < 124 → Dec (i < used) → (ltb i used || eqb (fileWord (blockBytes number kind f used) (3 + i)) 0) ≡ true
+        go : (i : ℕ) → i < 123 → Dec (i < used) → (ltb i used || eqb (fileWord (blockBytes number kind f used) (3 + i)) 0) ≡ true
         go i h (yes l) = rw (lt-ltb i used l)
         go i h (no l) =
             let g : used ≤ i = omega arith in
@@ -118,55 +142,63 @@ module _ (number kind : ℕ) (f : ℕ → ℕ) (used : ℕ) where
             let z : fileWord (blockBytes number kind f used) (3 + i) ≡ 0 = word-there (blockBytes number kind f used) (3 + i) 0 (omega arith) (rw e at (payload-at i h)) in
             rw (le-ltb i used g, z)
 
+    made-second : fileWord (blockBytes number kind f used) 126 ≡ word126 true (blockBytes number kind f used)
+    unfolding blockBytes withCheck withSecond word126 choose
+    made-second =
+        let b = before-length in
+        let s = second-length in
+        word-there (blockBytes number kind f used) 126 (secondOf before) (second-fits before) second-at
+        ∙ sym (second-before (withSecond before) (wordBytes (checkOf (withSecond before))) (omega arith) ∙ second-before before (wordBytes (secondOf before)) (omega arith))
+
     made-check : fileWord (blockBytes number kind f used) 127 ≡ checkOf (blockBytes number kind f used)
     unfolding blockBytes withCheck
     made-check =
-        word-there (blockBytes number kind f used) 127 (checkOf before) (check-fits before) check-at
-        ∙ sym (check-before before (wordBytes (checkOf before)) before-length)
+        word-there (blockBytes number kind f used) 127 (checkOf (withSecond before)) (check-fits (withSecond before)) check-at
+        ∙ sym (check-before (withSecond before) (wordBytes (checkOf (withSecond before))) second-length)
 
-    made-marked : marked (blockBytes number kind f used) ≡ true
-    unfolding marked
-    made-marked = rw mark-at (same-equal mark)
-
-    pub made-fits : blockFits (blockBytes number kind f used) number kind used ≡ true
+    pub made-fits : blockFits true (blockBytes number kind f used) number kind used ≡ true
     unfolding blockFits
     made-fits =
         let k = word-there (blockBytes number kind f used) 1 kind (fit .kind-fits) kind-at in
         let n = word-there (blockBytes number kind f used) 2 number (fit .number-fits) number-at in
-        rw (made-marked, made-rest, eq-eqb _ _ k, eq-eqb _ _ n, eq-eqb _ _ made-check)
+        rw (made-marked, made-rest, eq-eqb _ _ k, eq-eqb _ _ n, eq-eqb _ _ made-second, eq-eqb _ _ made-check)
 
 -- ---- a block that fits
 
 -- what the reader's test says, one by one
 record Fitting (block : List ℕ) (number kind used : ℕ) : Type 0 where
-  mark-there : take 4 block ≡ mark
+  mark-there : take 4 block ≡ newMark
   kind-there : fileWord block 1 ≡ kind
   number-there : fileWord block 2 ≡ number
   rest-there : restZero block used ≡ true
+  second-there : fileWord block 126 ≡ secondOf block
   check-there : fileWord block 127 ≡ checkOf block
 
-fitting : (block : List ℕ) (number kind used : ℕ) → blockFits block number kind used ≡ true → Fitting block number kind used
-unfolding blockFits marked
+fitting : (block : List ℕ) (number kind used : ℕ) → blockFits true block number kind used ≡ true → Fitting block number kind used
+unfolding blockFits marked word126 choose
 fitting block number kind used h =
-    let m : Bool = equal (take 4 block) mark in
+    let m : Bool = equal (take 4 block) newMark in
     let k : Bool = eqb (fileWord block 1) kind in
     let n : Bool = eqb (fileWord block 2) number in
     let r : Bool = restZero block used in
+    let w : Bool = eqb (fileWord block 126) (secondOf block) in
     let c : Bool = eqb (fileWord block 127) (checkOf block) in
-    let t₁ = both (m && k && n && r) c h in
+    let t₀ = both (m && k && n && r && w) c h in
+    let t₁ = both (m && k && n && r) w (t₀ .one) in
     let t₂ = both (m && k && n) r (t₁ .one) in
     let t₃ = both (m && k) n (t₂ .one) in
     let t₄ = both m k (t₃ .one) in
     record {
-      mark-there = equal-same (take 4 block) mark (t₄ .one);
+      mark-there = equal-same (take 4 block) newMark (t₄ .one);
       kind-there = eqb-true _ _ (t₄ .two);
       number-there = eqb-true _ _ (t₃ .two);
       rest-there = t₂ .two;
-      check-there = eqb-true _ _ (t₁ .two);
+      second-there = eqb-true _ _ (t₁ .two);
+      check-there = eqb-true _ _ (t₀ .two);
     }
 
 -- a block that fits begins with the mark: it is there
-pub marked-there : (block : List ℕ) (number kind used : ℕ) → blockFits block number kind used ≡ true → take 4 block ≡ mark
+pub marked-there : (block : List ℕ) (number kind used : ℕ) → blockFits true block number kind used ≡ true → take 4 block ≡ newMark
 marked-there block number kind used h = fitting block number kind used h .mark-there
 
 word-behind : (l : List ℕ) (i : ℕ) → fileWord (drop 12 l) i ≡ fileWord l (3 + i)
@@ -179,26 +211,26 @@ word-behind l i =
     rw (getD-drop 12 l (i * 4) 0, getD-drop 12 l (i * 4 + 1) 0, getD-drop 12 l (i * 4 + 2) 0, getD-drop 12 l (i * 4 + 3) 0, e₀, e₁, e₂, e₃)
 
 module _ (block : List ℕ) (number kind : ℕ) (f : ℕ → ℕ) (used : ℕ) (small : (i : ℕ) → getD block i 0 < 256) (size : length block ≡ 512)
-    (fits : blockFits block number kind used ≡ true) (same : (i : ℕ) → i < used → f i ≡ fileWord block (3 + i)) where
+    (fits : blockFits true block number kind used ≡ true) (same : (i : ℕ) → i < used → f i ≡ fileWord block (3 + i)) where
   told : Fitting block number kind used
   told = fitting block number kind used fits
 
-  payload-word : (i : ℕ) → i < 124 → Dec (i < used) → fileWord (drop 12 block) i ≡ payloadWord f used i
+  payload-word : (i : ℕ) → i < 123 → Dec (i < used) → fileWord (drop 12 block) i ≡ payloadWord f used i
   unfolding restZero
   payload-word i h (yes l) = word-behind block i ∙ sym (same i l) ∙ sym (payload-used f used i l)
   payload-word i h (no l) =
       let g : used ≤ i = omega arith in
-      let t = every-at 124 _ (told .rest-there) i h in
+      let t = every-at 123 _ (told .rest-there) i h in
       let z : eqb (fileWord block (3 + i)) 0 ≡ true = rw (le-ltb i used g) at t in
       word-behind block i ∙ eqb-true _ _ z ∙ sym (payload-spare f used i g)
 
   small-behind : (i : ℕ) → getD (drop 12 block) i 0 < 256
   small-behind i = rw (getD-drop 12 block i 0) (small (12 + i))
 
-  payload-there : take 496 (drop 12 block) ≡ bytesOf (payloadWord f used) 124
+  payload-there : take 492 (drop 12 block) ≡ bytesOf (payloadWord f used) 123
   payload-there =
-      words-back (drop 12 block) small-behind 124 (rw (length-drop 12 block) (omega arith))
-      ∙ bytes-same (fileWord (drop 12 block)) (payloadWord f used) 124 (λ i h. payload-word i h (decLt i used))
+      words-back (drop 12 block) small-behind 123 (rw (length-drop 12 block) (omega arith))
+      ∙ bytes-same (fileWord (drop 12 block)) (payloadWord f used) 123 (λ i h. payload-word i h (decLt i used))
 
   word-is : (k w : ℕ) → k * 4 + 4 ≤ 512 → fileWord block k ≡ w → take 4 (drop (k * 4) block) ≡ wordBytes w
   word-is k w h e = sym (word-bytes block small k (omega arith)) ∙ ap wordBytes e
@@ -213,10 +245,22 @@ module _ (block : List ℕ) (number kind : ℕ) (f : ℕ → ℕ) (used : ℕ) (
       let n : take 4 (drop 8 block) ≡ wordBytes number = word-is 2 number (omega arith) (told .number-there) in
       rw (a, b, c, told .mark-there, k, n)
 
-  before-there : take 508 block ≡ before number kind f used
+  before-there : take 504 block ≡ before number kind f used
   before-there =
-      let a : take 508 block ≡ take 12 block ++ take 496 (drop 12 block) = take-add 12 496 block in
+      let a : take 504 block ≡ take 12 block ++ take 492 (drop 12 block) = take-add 12 492 block in
       rw (a, head-there, payload-there)
+
+  second-there : take 4 (drop 504 block) ≡ wordBytes (secondOf (take 504 block))
+  second-there =
+      let l : 504 ≤ length (take 504 block) = rw (length-take 504 block) (omega arith) in
+      let c : secondOf block ≡ secondOf (take 504 block) = ap secondOf (sym (take-append-drop 504 block)) ∙ second-before (take 504 block) (drop 504 block) l in
+      word-is 126 (secondOf (take 504 block)) (omega arith) (told .second-there ∙ c)
+
+  seconded : take 508 block ≡ withSecond (before number kind f used)
+  unfolding withSecond
+  seconded =
+      let a : take 508 block ≡ take 504 block ++ take 4 (drop 504 block) = take-add 504 4 block in
+      a ∙ ap (λ (l : List ℕ). take 504 block ++ l) second-there ∙ ap (λ (l : List ℕ). l ++ wordBytes (secondOf l)) before-there
 
   check-there : drop 508 block ≡ wordBytes (checkOf (take 508 block))
   check-there =
@@ -231,29 +275,44 @@ module _ (block : List ℕ) (number kind : ℕ) (f : ℕ → ℕ) (used : ℕ) (
   block-made =
       sym (take-append-drop 508 block)
       ∙ ap (λ (l : List ℕ). take 508 block ++ l) check-there
-      ∙ ap (λ (l : List ℕ). l ++ wordBytes (checkOf l)) before-there
+      ∙ ap (λ (l : List ℕ). l ++ wordBytes (checkOf l)) seconded
 
--- ---- what the program leaves of a block: the head, the payload behind it, and the check of both
-pub filled : (l₀ l₁ l₂ l₃ : List ℕ) (number kind : ℕ) (f : ℕ → ℕ) (used check : ℕ) → length l₀ ≡ 512
-    → l₁ ≡ stored l₀ 0 (headBytes number kind) → l₂ ≡ stored l₁ 12 (bytesOf (payloadWord f used) 124)
-    → check ≡ checkOf l₂ → l₃ ≡ stored l₂ 508 (wordBytes check) → l₃ ≡ blockBytes number kind f used
+-- ---- what the program leaves of a block: the head, the payload behind it, and behind each the check of what stands before it
+
+-- a check more, read off what was written
+put-behind : (l₀ l l′ done : List ℕ) (w : ℕ) → l ≡ stored l₀ 0 done → l′ ≡ stored l (length done) (wordBytes w) → l′ ≡ stored l₀ 0 (done ++ wordBytes w)
+put-behind l₀ l l′ done w e put =
+    let z : 0 + length done ≡ length done = omega arith in
+    put ∙ ap (λ (k : List ℕ). stored k (length done) (wordBytes w)) e ∙ (rw z at (stored-then l₀ 0 done (wordBytes w)))
+
+second-as : (l₀ l words : List ℕ) (second : ℕ) → second ≡ secondOf words → l ≡ stored l₀ 0 (words ++ wordBytes second) → l ≡ stored l₀ 0 (withSecond words)
+unfolding withSecond
+second-as l₀ l words second s e = e ∙ ap (λ (k : ℕ). stored l₀ 0 (words ++ wordBytes k)) s
+
+pub filled : (l₀ l₁ l₂ l₃ l₄ : List ℕ) (number kind : ℕ) (f : ℕ → ℕ) (used second check : ℕ) → length l₀ ≡ 512
+    → l₁ ≡ stored l₀ 0 (headBytes number kind) → l₂ ≡ stored l₁ 12 (bytesOf (payloadWord f used) 123)
+    → second ≡ secondOf l₂ → l₃ ≡ stored l₂ 504 (wordBytes second) → check ≡ checkOf l₃ → l₄ ≡ stored l₃ 508 (wordBytes check) → l₄ ≡ blockBytes number kind f used
 unfolding blockBytes withCheck
-filled l₀ l₁ l₂ l₃ number kind f used check size e₁ e₂ e e₃ =
+filled l₀ l₁ l₂ l₃ l₄ number kind f used second check size e₁ e₂ es e₃ ec e₄ =
     let head : List ℕ = headBytes number kind in
-    let rest : List ℕ = bytesOf (payloadWord f used) 124 in
+    let rest : List ℕ = bytesOf (payloadWord f used) 123 in
+    let words : List ℕ = head ++ rest in
     let a = head-length number kind in
     let b = before-length number kind f used in
-    let two : l₂ ≡ stored l₀ 0 (head ++ rest) = e₂ ∙ ap (λ (l : List ℕ). stored l 12 rest) e₁ ∙ (rw a at (stored-then l₀ 0 head rest)) in
-    let c : check ≡ checkOf (head ++ rest) =
-        e ∙ ap checkOf (two ∙ stored-front l₀ (head ++ rest) (omega arith)) ∙ check-before (head ++ rest) (drop (length (head ++ rest)) l₀) b in
+    let d = second-length number kind f used in
+    let two : l₂ ≡ stored l₀ 0 words = e₂ ∙ ap (λ (l : List ℕ). stored l 12 rest) e₁ ∙ (rw a at (stored-then l₀ 0 head rest)) in
+    let s : second ≡ secondOf words =
+        es ∙ ap secondOf (two ∙ stored-front l₀ words (omega arith)) ∙ second-before words (drop (length words) l₀) (omega arith) in
+    let three : l₃ ≡ stored l₀ 0 (withSecond words) = second-as l₀ l₃ words second s (put-behind l₀ l₂ l₃ words second two (rw b e₃)) in
+    let c : check ≡ checkOf (withSecond words) =
+        ec ∙ ap checkOf (three ∙ stored-front l₀ (withSecond words) (omega arith)) ∙ check-before (withSecond words) (drop (length (withSecond words)) l₀) d in
+    let four : l₄ ≡ stored l₀ 0 (withSecond words ++ wordBytes check) = put-behind l₀ l₃ l₄ (withSecond words) check three (rw d e₄) in
     let w = word-length check in
-    let three : l₃ ≡ stored l₀ 0 (head ++ rest ++ wordBytes check) =
-        e₃ ∙ ap (λ (l : List ℕ). stored l 508 (wordBytes check)) two ∙ (rw b at (stored-then l₀ 0 (head ++ rest) (wordBytes check))) in
-    let n = length-append (head ++ rest) (wordBytes check) in
-    three ∙ stored-all l₀ (head ++ rest ++ wordBytes check) (omega arith) ∙ ap (λ (k : ℕ). head ++ rest ++ wordBytes k) c
+    let n = length-append (withSecond words) (wordBytes check) in
+    four ∙ stored-all l₀ (withSecond words ++ wordBytes check) (omega arith) ∙ ap (λ (k : ℕ). withSecond words ++ wordBytes k) c
 
 -- its first three words
-pub head-put : (l₀ l₁ l₂ l₃ : List ℕ) (number kind m : ℕ) → m ≡ fileWord mark 0
+pub head-put : (l₀ l₁ l₂ l₃ : List ℕ) (number kind m : ℕ) → m ≡ fileWord newMark 0
     → l₁ ≡ stored l₀ 0 (wordBytes m) → l₂ ≡ stored l₁ 4 (wordBytes kind) → l₃ ≡ stored l₂ 8 (wordBytes number) → l₃ ≡ stored l₀ 0 (headBytes number kind)
 unfolding headBytes wordBytes fileWord stored
 head-put l₀ l₁ l₂ l₃ number kind m e e₁ e₂ e₃ = rw (e₃, e₂, e₁, e)

@@ -16,36 +16,33 @@ use Rattle.base.specs.Loop.{stored}
 use Rattle.base.proofs.Every.{both, every-at, every-from}
 use Rattle.base.proofs.Fill.{stored-then}
 use Rattle.blocks.specs.declared.Part.{Part}
-use Rattle.blocks.specs.Blocks.{blockOf, fileWord, mark, blockFits, perBlock, blocksOf, endOf, usedIn, partFits, partWord}
+use Rattle.blocks.specs.Blocks.{blockOf, fileWord, newMark, isSecond, blockFits, perBlock, blocksOf, endOf, usedIn, partFits, partWord, bodyPart}
 use Rattle.blocks.proofs.Parts.{per-block}
+use Rattle.blocks.proofs.Words.{block-is, block-small}
 use Rattle.part_writer.specs.Bytes.{joined, partBlock, partBytes, partRoom, writtenPart}
 use Rattle.part_writer.proofs.Stored.{stored-length}
 use Rattle.part_writer.proofs.Joined.{joined-same, joined-length, joined-at, joined-cut}
-use Rattle.part_writer.proofs.Blocks.{Fit, block-same, block-length, made-used, made-fits, marked-there, block-made}
+use Rattle.part_writer.proofs.Blocks.{Fit, block-same, block-length, made-used, made-marked, made-fits, marked-there, block-made}
 use Rattle.part_writer.proofs.Counts.{in-block, at-place, used-most, within, used-word}
 
 -- ---- a block of a file
-
-pub block-is : (file : List ℕ) (b : ℕ) → b < length file / 512 → blockOf file b ≡ take 512 (drop (b * 512) file)
-unfolding blockOf choose
-block-is file b h = rw (lt-ltb b (length file / 512) h)
 
 taken-length : (file : List ℕ) (i : ℕ) → i + 512 ≤ length file → length (take 512 (drop i file)) ≡ 512
 taken-length file i h = rw (length-take 512 (drop i file), length-drop i file) (omega arith)
 
 -- a block that is not there does not fit
-block-there : (file : List ℕ) (b number kind used : ℕ) → blockFits (blockOf file b) number kind used ≡ true → b < length file / 512
+block-there : (file : List ℕ) (b number kind used : ℕ) → blockFits true (blockOf file b) number kind used ≡ true → b < length file / 512
 unfolding blockOf choose
 block-there file b number kind used h = go (decLt b (length file / 512)) (marked-there (blockOf file b) number kind used h)
   where
-    long : (l : List ℕ) → take 4 l ≡ mark → length l ≡ 0 → ⊥
+    long : (l : List ℕ) → take 4 l ≡ newMark → length l ≡ 0 → ⊥
     long l e z = let n : min 4 (length l) ≡ 4 = sym (length-take 4 l) ∙ ap length e in omega arith
 
-    go : Dec (b < length file / 512) → take 4 (blockOf file b) ≡ mark → b < length file / 512
+    go : Dec (b < length file / 512) → take 4 (blockOf file b) ≡ newMark → b < length file / 512
     go (yes l) m = l
     go (no l) m =
         let g : length file / 512 ≤ b = omega arith in
-        let e : take 4 [] ≡ mark = rw (le-ltb b (length file / 512) g) at m in
+        let e : take 4 [] ≡ newMark = rw (le-ltb b (length file / 512) g) at m in
         absurd (long [] e refl)
 
 -- ---- a part as the writer makes it
@@ -69,8 +66,13 @@ pub record Holds (file : List ℕ) (p : Part) (f : ℕ → ℕ) : Type 0 where
   pub whole : endOf p * 512 ≤ length file
   pub blocks : (j : ℕ) → j < blocksOf p → blockOf file (p .first + j) ≡ partBlock p f j
 
+-- a file that begins with a body as the writer makes it has the new mark
+pub holds-new : (file : List ℕ) (f : ℕ → ℕ) → Holds file bodyPart f → isSecond file ≡ true
+unfolding isSecond partBlock blocksOf perBlock choose
+holds-new file f holds = rw (holds .blocks 0 (omega arith)) (made-marked _ _ _ _)
+
 -- written, then read
-module _ (file : List ℕ) (p : Part) (f : ℕ → ℕ) (holds : Holds file p f) (number-fits : endOf p ≤ 128) (kind-fits : p .kind < 4294967296)
+module _ (file : List ℕ) (new : isSecond file ≡ true) (p : Part) (f : ℕ → ℕ) (holds : Holds file p f) (number-fits : endOf p ≤ 128) (kind-fits : p .kind < 4294967296)
     (words-fit : (i : ℕ) → i < p .words → f i < 4294967296) where
   fit : (j : ℕ) → j < blocksOf p → Fit (p .first + j) (p .kind) (λ k. f (j * perBlock (p .kind) + k)) (usedIn p j)
   fit j h =
@@ -80,7 +82,7 @@ module _ (file : List ℕ) (p : Part) (f : ℕ → ℕ) (holds : Holds file p f)
 
   pub holds-fits : partFits file p ≡ true
   unfolding partFits partBlock
-  holds-fits = every-from (blocksOf p) _ (λ j h. rw (holds .blocks j h) (made-fits _ _ _ _ (fit j h)))
+  holds-fits = every-from (blocksOf p) _ (λ j h. rw (new, holds .blocks j h) (made-fits _ _ _ _ (fit j h)))
 
   pub holds-word : (i : ℕ) → i < p .words → partWord file p i ≡ f i
   unfolding partWord partBlock choose
@@ -90,10 +92,10 @@ module _ (file : List ℕ) (p : Part) (f : ℕ → ℕ) (holds : Holds file p f)
       (made-used _ _ _ _ (fit _ (w .block-there)) (i % perBlock (p .kind)) (w .place-used) ∙ ap f (div-add-mod' i (perBlock (p .kind))))
 
 -- read, then written
-module _ (file : List ℕ) (p : Part) (small : (i : ℕ) → getD file i 0 < 256) (fits : partFits file p ≡ true) where
-  block-fits : (j : ℕ) → j < blocksOf p → blockFits (blockOf file (p .first + j)) (p .first + j) (p .kind) (usedIn p j) ≡ true
+module _ (file : List ℕ) (new : isSecond file ≡ true) (p : Part) (small : (i : ℕ) → getD file i 0 < 256) (fits : partFits file p ≡ true) where
+  block-fits : (j : ℕ) → j < blocksOf p → blockFits true (blockOf file (p .first + j)) (p .first + j) (p .kind) (usedIn p j) ≡ true
   unfolding partFits
-  block-fits j h = every-at (blocksOf p) _ fits j h
+  block-fits j h = rw new at (every-at (blocksOf p) _ fits j h)
 
   there : (j : ℕ) → j < blocksOf p → p .first + j < length file / 512
   there j h = block-there file (p .first + j) (p .first + j) (p .kind) (usedIn p j) (block-fits j h)
@@ -105,19 +107,13 @@ module _ (file : List ℕ) (p : Part) (small : (i : ℕ) → getD file i 0 < 256
       let m : k < perBlock (p .kind) = omega arith in
       rw (lt-ltb _ _ (used-word p j k h l), in-block p j k m, at-place p j k m)
 
-  byte-small : (l : List ℕ) (b i : ℕ) → ((i : ℕ) → getD l i 0 < 256) → Dec (i < 512) → getD (take 512 (drop b l)) i 0 < 256
-  byte-small l b i s (yes h) = rw (getD-take 512 (drop b l) i 0 h, getD-drop b l i 0) (s (b + i))
-  byte-small l b i s (no h) =
-      let o : length (take 512 (drop b l)) ≤ i = rw (length-take 512 (drop b l)) (omega arith) in
-      rw (List·getD-eq-default (take 512 (drop b l)) 0 o) (omega arith)
-
   part-block : (j : ℕ) → j < blocksOf p → blockOf file (p .first + j) ≡ partBlock p (partWord file p) j
   unfolding partBlock
   part-block j h =
       let t = there j h in
       let e = block-is file (p .first + j) t in
       block-made (blockOf file (p .first + j)) (p .first + j) (p .kind) (λ k. partWord file p (j * perBlock (p .kind) + k)) (usedIn p j)
-      (λ i. rw e (byte-small file ((p .first + j) * 512) i small (decLt i 512)))
+      (block-small file small (p .first + j))
       (ap length e ∙ taken-length file ((p .first + j) * 512) (omega arith))
       (block-fits j h) (λ k l. word-same j k h l)
 

@@ -1,4 +1,4 @@
--- A word is its four bytes, four bytes are a word, and the check reads the first 508 bytes of a block alone. Assumes nothing.
+-- A word is its four bytes, four bytes are a word, and each check reads what stands before it alone. Assumes nothing.
 use mathlib.Core.List.{List, [], _∷_, _++_}
 use mathlib.Core.Path.{_≡_, refl, sym, ap, _∙_}
 use Prim.Native.Nat.{ℕ, zero, suc, _+_, _*_, _/_, _%_, _<_, _≤_}
@@ -8,7 +8,8 @@ use native.Mathlib.Omega.{arith}
 use lib.ListN.{length, getD, take, drop, set, List·getD-append}
 use lib.Seq.{drop-cons, getD-take, getD-drop, take-all}
 use Rattle.base.specs.Loop.{stored}
-use Rattle.blocks.specs.Blocks.{fileWord, sumOf, checkOf}
+use Rattle.blocks.specs.Blocks.{fileWord, sumOf, checkOf, secondOf}
+use Rattle.blocks.proofs.Words.{sum-same}
 use Rattle.part_writer.specs.Bytes.{byteOf, wordBytes, bytesOf, joined}
 use Rattle.part_writer.proofs.Joined.{joined-same, joined-length, joined-at, joined-cut}
 
@@ -123,12 +124,7 @@ words-back l b n h =
     joined-cut 4 l n
     ∙ joined-same (λ (k : ℕ). take 4 (drop (k * 4) l)) (λ (k : ℕ). wordBytes (fileWord l k)) n (λ k g. sym (word-bytes l b k (omega arith)))
 
--- ---- the check
-
-sum-same : (f g : ℕ → ℕ) (n : ℕ) → ((k : ℕ) → k < n → f k ≡ g k) → sumOf f n ≡ sumOf g n
-unfolding sumOf
-sum-same f g zero h = refl
-sum-same f g (suc n) h = rw (sum-same f g n (λ k l. h k (omega arith)), h n (omega arith))
+-- ---- the two checks
 
 word-before : (h t : List ℕ) (k : ℕ) → k * 4 + 4 ≤ length h → fileWord (h ++ t) k ≡ fileWord h k
 unfolding fileWord
@@ -143,3 +139,13 @@ check-before h t e =
 pub check-fits : (l : List ℕ) → checkOf l < 4294967296
 unfolding checkOf
 check-fits l = mod-lt (sumOf (fileWord l) 127) (omega arith)
+
+pub second-before : (h t : List ℕ) → 504 ≤ length h → secondOf (h ++ t) ≡ secondOf h
+unfolding secondOf
+second-before h t e =
+    ap (λ (s : ℕ). s % 4294967296)
+    (sum-same (λ k. (k + 1) * fileWord (h ++ t) k) (λ k. (k + 1) * fileWord h k) 126 (λ k l. ap (λ (w : ℕ). (k + 1) * w) (word-before h t k (omega arith))))
+
+pub second-fits : (l : List ℕ) → secondOf l < 4294967296
+unfolding secondOf
+second-fits l = mod-lt (sumOf (λ k. (k + 1) * fileWord l k) 126) (omega arith)

@@ -1,5 +1,5 @@
--- What the writer makes of a part: its blocks, byte for byte, and the buffer with these in it. Document 01's words stand in quotes. A part's words
--- are a function f of their places.
+-- What the writer makes of a part: its blocks, byte for byte, and the buffer with these in it. Document 01's and 02's words stand in quotes. A
+-- part's words are a function f of their places.
 use mathlib.Core.Bool.{Bool, _&&_}
 use mathlib.Core.List.{List, [], _∷_, _++_}
 use Prim.Native.Nat.{ℕ, zero, suc, _+_, _*_, _/_, _%_, _^_}
@@ -10,7 +10,7 @@ use Rattle.base.specs.Choose.{choose}
 use Rattle.base.specs.Loop.{stored}
 use Rattle.floats.specs.Numbers.{zero64}
 use Rattle.blocks.specs.declared.Part.{Part}
-use Rattle.blocks.specs.Blocks.{mark, checkOf, perBlock, blocksOf, endOf, usedIn}
+use Rattle.blocks.specs.Blocks.{newMark, checkOf, secondOf, perBlock, blocksOf, endOf, usedIn}
 
 -- lists one behind the other: g 0, g 1 and so on, as many as the number says
 unfoldable pub joined : (ℕ → List ℕ) → ℕ → List ℕ
@@ -31,20 +31,24 @@ bytesOf word n = joined (λ k. wordBytes (word k)) n
 
 -- ---- a block
 
--- "Word 0 is the four bytes 53 43 4E 31; word 1 the kind; word 2 the block's number from 0"
+-- "The mark becomes 53 43 4E 32", "word 1 the kind; word 2 the block's number from 0"
 unfoldable pub headBytes : ℕ → ℕ → List ℕ
-headBytes number kind = mark ++ (wordBytes kind ++ wordBytes number)
+headBytes number kind = newMark ++ (wordBytes kind ++ wordBytes number)
 
--- "3 to 125 payload; 126 zero", "unused words zero": word 3 + i
+-- "3 to 125 payload", "unused words zero": word 3 + i
 unfoldable pub payloadWord : (ℕ → ℕ) → ℕ → ℕ → ℕ
 payloadWord f used i = choose (ltb i used) (f i) 0
 
--- "127 the check" of what stands before it
+-- "Word 126 becomes the second check" of what stands before it
+unfoldable pub withSecond : List ℕ → List ℕ
+withSecond before = before ++ wordBytes (secondOf before)
+
+-- "127 the check" of what stands before it, word 126 with it
 unfoldable pub withCheck : List ℕ → List ℕ
 withCheck before = before ++ wordBytes (checkOf before)
 
 unfoldable pub blockBytes : ℕ → ℕ → (ℕ → ℕ) → ℕ → List ℕ
-blockBytes number kind f used = withCheck (headBytes number kind ++ bytesOf (payloadWord f used) 124)
+blockBytes number kind f used = withCheck (withSecond (headBytes number kind ++ bytesOf (payloadWord f used) 123))
 
 -- ---- a part: its blocks, one after the other
 

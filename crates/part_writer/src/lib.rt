@@ -48,25 +48,27 @@ fn put_head(block: &mut [u8], number: u32, kind: u32)
     put_word(block, 2, number);
 }
 
-// Words 3 to 126.
+// Words 3 to 125.
 fn put_payload(block: &mut [u8], words: &[u32], from: u32, used: u32)
-    requires { ⌜ 508 ≤ length (now block) ⌝ }
-    ensures { λ _. ⌜ now (block .exit) ≡ stored (now (block .entry)) 12 (bytesOf (payloadWord (λ k. wordIn (now (words .entry)) (from + k)) used) 124) ⌝ }
+    requires { ⌜ 504 ≤ length (now block) ⌝ }
+    ensures { λ _. ⌜ now (block .exit) ≡ stored (now (block .entry)) 12 (bytesOf (payloadWord (λ k. wordIn (now (words .entry)) (from + k)) used) 123) ⌝ }
 {
     let mut i = 0u32;
-    while i < 124 {
+    while i < 123 {
         put_word(block, 3 + i, payload_word(words, from, used, i));
         i += 1;
     }
 }
 
-// A block: its words, and behind them the check of what was written.
+// A block of the new mark: its words, and behind them the two checks of what was written.
 fn fill_block(block: &mut [u8], number: u32, kind: u32, words: &[u32], from: u32, used: u32)
     requires { ⌜ length (now block) ≡ 512 ⌝ }
     ensures { λ _. ⌜ now (block .exit) ≡ blockBytes number kind (λ k. wordIn (now (words .entry)) (from + k)) used ⌝ }
 {
     put_head(block, number, kind);
     put_payload(block, words, from, used);
+    let second = blocks::second_of(block);
+    put_word(block, 126, second);
     let check = blocks::check_of(block);
     put_word(block, 127, check);
 }

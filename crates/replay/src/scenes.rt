@@ -1,7 +1,7 @@
 // The scene files of data/, by number: each with what `onetick` prints of it, its lines joined by `; `, and behind them the case of its sample; then
-// with what `rewrite` does. From 1000 on they are scenes of the layout without heights and columns, converted (tools/convert): not each has a likeness,
-// so a number without a file is passed over, and of none is the case among the original's answers. The stored answers have a line for each that must be
-// there.
+// with what `rewrite` does. From 1000 to 1999 they are scenes of the layout without heights and columns, converted (tools/convert): not each has a
+// likeness, so a number without a file is passed over, and of none is the case among the original's answers. From 2000 on they are of both marks. The
+// stored answers have a line for each that must be there.
 ghost use mathlib.Core.Path.{_≡_};
 ghost use lib.ListN.{length};
 
@@ -49,13 +49,22 @@ fn put_joined(text: &[u8]) {
     }
 }
 
-fn put_answer(n: u32, file: &[u8]) {
+fn put_lines(file: &[u8]) {
     let mut out = answer_room();
     let m = scene::answer(file, &mut out);
     put_joined(crate::text::part(&out, 0, m));
-    if n < 1000 {
-        crate::cases::put_case(file);
+}
+
+fn is_converted(n: u32) -> bool {
+    (1000 <= n) & (n < 2000)
+}
+
+fn put_answer(n: u32, file: &[u8]) {
+    put_lines(file);
+    if is_converted(n) {
+        return;
     }
+    crate::cases::put_case(file);
 }
 
 fn put_refusal(refusal: u32) {
@@ -64,7 +73,21 @@ fn put_refusal(refusal: u32) {
     crate::text::put(&last);
 }
 
-// The file as the writer makes it of its contents: the same, or its refusal.
+// What became of a file that was written anew: the same file; or, where it had the old mark, one of the new mark, with its tick.
+fn put_likeness(anew: &[u8], file: &[u8]) {
+    if suffixes::equals(anew, file) {
+        crate::text::put(b"same");
+        return;
+    }
+    if suffixes::equals(crate::text::part(anew, 0, 4), b"SCN2") {
+        crate::text::put(b"new mark, ");
+        put_lines(anew);
+        return;
+    }
+    crate::text::put(b"another file");
+}
+
+// The file as the writer makes it of its contents, or its refusal.
 fn put_rewritten(file: &[u8]) {
     let mut out = file_room();
     let a = scene::rewrite(file, &mut out);
@@ -72,11 +95,7 @@ fn put_rewritten(file: &[u8]) {
         put_refusal(a.refusal);
         return;
     }
-    if suffixes::equals(crate::text::part(&out, 0, a.bytes), file) {
-        crate::text::put(b"same");
-        return;
-    }
-    crate::text::put(b"another file");
+    put_likeness(crate::text::part(&out, 0, a.bytes), file);
 }
 
 // What a scene's line begins with: its number, and a space.
@@ -105,7 +124,7 @@ fn run(n: u32) {
 }
 
 pub(crate) fn run_all() {
-    let most: u32 = 1701;
+    let most: u32 = 2124;
     for n in 0..most {
         run(n);
     }

@@ -3,3 +3,4 @@ pub mod Passed
 pub mod Known
 pub mod Written
 pub mod Read
+pub mod Anew

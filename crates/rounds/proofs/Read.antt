@@ -1,117 +1,50 @@
 -- Read, then written: a file that passes 8 and 1 to 4 is, byte for byte, what the writer makes of its contents. Assumes nothing.
 use mathlib.Core.Bool.{Bool, true, false, _&&_}
-use mathlib.Core.List.{List, [], _++_}
+use mathlib.Core.List.{List}
 use mathlib.Core.Path.{_≡_, refl, sym, ap, _∙_}
 use Prim.Native.Nat.{ℕ, zero, suc, _+_, _-_, _*_, _/_, _%_, _<_, _≤_}
 use native.Mathlib.Decide.{decLt}
 use native.Mathlib.Omega.{arith}
-use lib.Dec.{T, eqb, leb, ltb}
-use lib.ListN.{length, getD, take, drop, List·getD-eq-default, length-take}
-use lib.Seq.{take-all, getD-take, getD-drop}
-use lib.Ieee.{Float, binary32, binary64, isNan, ofBits, toBits}
+use lib.Dec.{eqb, ltb}
+use lib.ListN.{length, getD, take}
+use lib.Seq.{take-all}
+use lib.Ieee.{binary32, binary64, isNan, ofBits, toBits}
 use lib.Ieee.Bits.{toBits-ofBits}
-use borrow.Author.Tests.{lt-ltb, le-ltb, eq-eqb, ne-eqb, eqb-true, leb-true}
+use borrow.Author.Tests.{lt-ltb, le-ltb, eqb-true}
 use Rattle.base.specs.Choose.{choose}
-use Rattle.base.specs.Loop.{listed, stored}
 use Rattle.base.proofs.Every.{both}
 use Rattle.floats.specs.Numbers.{zero64}
-use Rattle.cover.specs.Cover.{boxCount}
-use Rattle.table_check.specs.Check.{stateCount}
-use Rattle.lent_words.specs.Words.{wideOf, lowOf, highOf, windowFrom, windowWords}
+use Rattle.lent_words.specs.Words.{wideOf, windowWords}
 use Rattle.lent_words.proofs.Rounds.{low-wide, high-wide, words-back}
 use Rattle.blocks.specs.declared.Part.{Part}
-use Rattle.blocks.specs.Blocks.{blockOf, fileWord, partWord, partFits, perBlock, endOf, bodyPart, recordPart, boxPart, windowPart, cellPart}
+use Rattle.blocks.specs.Blocks.{blockOf, fileWord, isSecond, partWord, perBlock, bodyPart, recordPart, boxPart, windowPart, cellPart}
+use Rattle.blocks.proofs.Words.{word-fits, block-small}
 use Rattle.files.specs.declared.Counts.{Counts}
-use Rattle.files.specs.Places.{numberPlace, agePlace, wordPlace, statesPlace, boxesPlace, flapNumber, presentWord, airWord}
-use Rattle.files.specs.Files.{bodyWord, flapFits, windowIn, sizesIn, countsIn, countsFit, countsOf, partsFit, blocksFor, blocksFit, isScene}
-use Rattle.files.specs.Contents.{Contents, bodyFloat, numbersIn, lateWord, lateWords, ageIn, wordsOf, singlesOf, contentsIn}
+use Rattle.files.proofs.Told.{Told, tells}
+use Rattle.files.specs.Places.{numberPlace, wordPlace, statesPlace, boxesPlace, flapNumber, presentWord, airWord}
+use Rattle.files.specs.Files.{bodyWord, flapFits, windowIn, countsIn, countsOf, blocksFor, isScene}
+use Rattle.files.specs.Contents.{Contents, bodyFloat, lateWord, ageIn, wordsOf, singlesOf, contentsIn}
 use Rattle.part_writer.specs.Bytes.{partBytes, wordIn, bitsIn}
 use Rattle.part_writer.proofs.Listed.{listed-length, listed-from}
-use Rattle.part_writer.proofs.Parts.{Holds, fits-holds, holds-next, part-same}
+use Rattle.part_writer.proofs.Parts.{fits-holds, holds-next, part-same}
 use Rattle.writer.specs.Contents.{countsFor, isAbsent, writtenNumber}
-use Rattle.writer.specs.Written.{halfOf, bodyWordOf, bytesBy, sceneBytes, sceneBlocks, roomFor, roomRefusal, refusalOf, sceneRefusal, writtenBy, answerBy, writtenScene, sceneAnswer}
+use Rattle.writer.specs.Written.{halfOf, bodyWordOf, bytesBy, sceneBytes, sceneBlocks, roomFor, roomRefusal, refusalOf, sceneRefusal, writtenBy, answerBy}
 use Rattle.writer.proofs.Puts.{room-enough}
 use Rattle.rounds.specs.Rounds.{ComesOut, ReadThenWritten}
 use Rattle.rounds.proofs.Passed.{Passed, passed}
 use Rattle.rounds.proofs.Known.{known, number-known, shape-known}
 
--- ---- what 8 says of a scene
-
-record Scene (file : List ℕ) (n : Counts) : Type 0 where
-  few : blocksFor n ≤ 128
-  size : length file ≡ blocksFor n * 512
-  flap : flapFits file ≡ true
-  body-fits : partFits file bodyPart ≡ true
-  records-fit : partFits file (recordPart (n .states)) ≡ true
-  boxes-fit : partFits file (boxPart (n .states) (n .boxes)) ≡ true
-  place-fits : partFits file (windowPart (n .states) (n .boxes)) ≡ true
-  cells-fit : partFits file (cellPart (n .states) (n .boxes) (n .cells)) ≡ true
-
-scene : (file : List ℕ) → isScene file ≡ true → Scene file (countsOf file)
-unfolding isScene blocksFit partsFit
-scene file h =
-    let n = countsOf file in
-    let a = partFits file bodyPart in
-    let b = partFits file (recordPart (n .states)) in
-    let d = partFits file (boxPart (n .states) (n .boxes)) in
-    let e = partFits file (windowPart (n .states) (n .boxes)) in
-    let f = partFits file (cellPart (n .states) (n .boxes) (n .cells)) in
-    let all : Bool = a && b && d && e && f in
-    let size : Bool = eqb (length file) (blocksFor n * 512) in
-    let few : Bool = leb (blocksFor n) 128 in
-    let t₁ = both (countsFit file) (flapFits file && (few && (size && all))) h in
-    let t₂ = both (flapFits file) (few && (size && all)) (t₁ .two) in
-    let t₃ = both few (size && all) (t₂ .two) in
-    let t₄ = both size all (t₃ .two) in
-    let p₁ = both (a && b && d && e) f (t₄ .two) in
-    let p₂ = both (a && b && d) e (p₁ .one) in
-    let p₃ = both (a && b) d (p₂ .one) in
-    let p₄ = both a b (p₃ .one) in
-    record {
-      few = leb-true _ _ (t₃ .one);
-      size = eqb-true _ _ (t₄ .one);
-      flap = t₂ .one;
-      body-fits = p₄ .one;
-      records-fit = p₄ .two;
-      boxes-fit = p₃ .two;
-      place-fits = p₂ .two;
-      cells-fit = p₁ .two;
-    }
-
 zero-bits : toBits binary64 zero64 ≡ 0
 unfolding toBits ofBits
 zero-bits = refl
 
--- ---- words of bytes
-
-four-fit : (a b c d : ℕ) → a < 256 → b < 256 → c < 256 → d < 256 → a + b * 256 + c * 65536 + d * 16777216 < 4294967296
-four-fit a b c d ha hb hc hd = omega arith
-
-word-fits : (l : List ℕ) → ((i : ℕ) → getD l i 0 < 256) → (k : ℕ) → fileWord l k < 4294967296
-unfolding fileWord
-word-fits l s k = four-fit _ _ _ _ (s (k * 4)) (s (k * 4 + 1)) (s (k * 4 + 2)) (s (k * 4 + 3))
-
 module _ (file : List ℕ) (small : (i : ℕ) → getD file i 0 < 256) where
-  taken-small : (b i : ℕ) → Dec (i < 512) → getD (take 512 (drop b file)) i 0 < 256
-  taken-small b i (yes h) = rw (getD-take 512 (drop b file) i 0 h, getD-drop b file i 0) (small (b + i))
-  taken-small b i (no h) =
-      let o : length (take 512 (drop b file)) ≤ i = rw (length-take 512 (drop b file)) (omega arith) in
-      rw (List·getD-eq-default (take 512 (drop b file)) 0 o) (omega arith)
-
-  block-small : (b i : ℕ) → getD (blockOf file b) i 0 < 256
-  unfolding blockOf choose
-  block-small b i = go (ltb b (length file / 512))
-    where
-      go : (t : Bool) → getD (choose t (take 512 (drop (b * 512) file)) []) i 0 < 256
-      go true = taken-small (b * 512) i (decLt i 512)
-      go false = omega arith
-
-  part-word-fits : (p : Part) (i : ℕ) → partWord file p i < 4294967296
+  pub part-word-fits : (p : Part) (i : ℕ) → partWord file p i < 4294967296
   unfolding partWord choose
   part-word-fits p i = go (ltb i (p .words))
     where
       go : (t : Bool) → choose t (fileWord (blockOf file (p .first + i / perBlock (p .kind))) (3 + i % perBlock (p .kind))) 0 < 4294967296
-      go true = word-fits _ (block-small _) _
+      go true = word-fits _ (block-small file small _) _
       go false = omega arith
 
   -- ---- what the contents come to, word by word
@@ -122,13 +55,13 @@ module _ (file : List ℕ) (small : (i : ℕ) → getD file i 0 < 256) where
     abbrev c : Contents
     c = contentsIn file
 
-    told : Scene file n
-    told = scene file s
+    told : Told file n
+    told = tells file s
 
     pass : Passed c
     pass = passed c z
 
-    counts-same : countsFor c ≡ n
+    pub counts-same : countsFor c ≡ n
     unfolding wordsOf singlesOf
     counts-same =
         let a = listed-length (partWord file (recordPart (n .states))) (n .states * 20) 0 in
@@ -170,10 +103,10 @@ module _ (file : List ℕ) (small : (i : ℕ) → getD file i 0 < 256) where
         ap (λ (l : List ℕ). wordIn l i) (words-back (partWord file p) (bodyWord file (wordPlace airWord)) (part-word-fits p)) ∙ listed-from (partWord file p) 8 i 0 h
 
     -- the body
-    word-same : (k : ℕ) → k < 6 → wordIn (c .words) k ≡ bodyWord file (wordPlace k)
+    pub word-same : (k : ℕ) → k < 6 → wordIn (c .words) k ≡ bodyWord file (wordPlace k)
     word-same k h = listed-from (lateWord file) 6 k 0 h
 
-    number-same : (k : ℕ) → k < 19 → getD (c .numbers) k zero64 ≡ bodyFloat file k
+    pub number-same : (k : ℕ) → k < 19 → getD (c .numbers) k zero64 ≡ bodyFloat file k
     number-same k h = listed-from (bodyFloat file) 19 k zero64 h
 
     abbrev wide : ℕ → ℕ
@@ -207,7 +140,7 @@ module _ (file : List ℕ) (small : (i : ℕ) → getD file i 0 < 256) where
         let t = both (eqb (bodyWord file (numberPlace flapNumber)) 0) (eqb (bodyWord file (numberPlace flapNumber + 1)) 0) f in
         (eqb-true _ _ (t .one), eqb-true _ _ (t .two))
 
-    flap-wide : eqb (bodyWord file (wordPlace presentWord)) 0 ≡ true → wide flapNumber ≡ 0
+    pub flap-wide : eqb (bodyWord file (wordPlace presentWord)) 0 ≡ true → wide flapNumber ≡ 0
     flap-wide e = let w = flap-words e in rw (w .0, w .1)
 
     written-same : (k : ℕ) → k < 19 → toBits binary64 (writtenNumber (c .numbers) (c .words) k) ≡ wide k
@@ -266,23 +199,23 @@ module _ (file : List ℕ) (small : (i : ℕ) → getD file i 0 < 256) where
         number (no l) (no m) (yes k) = late-word i (omega arith) k
         number (no l) (no m) (no k) = count-word i (omega arith) h
 
-    -- ---- byte for byte
+    -- ---- byte for byte, where the file's mark is the new one
     body-bytes : partBytes bodyPart (bodyWordOf (c .numbers) (c .words) (c .age) n) ≡ partBytes bodyPart (partWord file bodyPart)
     body-bytes = part-same bodyPart _ _ body-same
 
     abbrev up : ℕ → List ℕ
     up b = take (b * 512) file
 
-    bytes-made : bytesBy c n ≡ file
+    bytes-made : isSecond file ≡ true → bytesBy c n ≡ file
     unfolding bytesBy
-    bytes-made =
+    bytes-made new =
         let q = told .few in
         let l = told .size in
-        let h₁ = fits-holds file bodyPart small (told .body-fits) (omega arith) in
-        let h₂ = fits-holds file (recordPart (n .states)) small (told .records-fit) (omega arith) in
-        let h₃ = fits-holds file (boxPart (n .states) (n .boxes)) small (told .boxes-fit) (omega arith) in
-        let h₄ = fits-holds file (windowPart (n .states) (n .boxes)) small (told .place-fits) (omega arith) in
-        let h₅ = fits-holds file (cellPart (n .states) (n .boxes) (n .cells)) small (told .cells-fit) (omega arith) in
+        let h₁ = fits-holds file new bodyPart small (told .body-fits) (omega arith) in
+        let h₂ = fits-holds file new (recordPart (n .states)) small (told .records-fit) (omega arith) in
+        let h₃ = fits-holds file new (boxPart (n .states) (n .boxes)) small (told .boxes-fit) (omega arith) in
+        let h₄ = fits-holds file new (windowPart (n .states) (n .boxes)) small (told .place-fits) (omega arith) in
+        let h₅ = fits-holds file new (cellPart (n .states) (n .boxes) (n .cells)) small (told .cells-fit) (omega arith) in
         let e₁ = holds-next file bodyPart (partWord file bodyPart) h₁ in
         let e₂ = holds-next file (recordPart (n .states)) (partWord file (recordPart (n .states))) h₂ in
         let e₃ = holds-next file (boxPart (n .states) (n .boxes)) (partWord file (boxPart (n .states) (n .boxes))) h₃ in
@@ -291,8 +224,8 @@ module _ (file : List ℕ) (small : (i : ℕ) → getD file i 0 < 256) where
         rw (body-bytes, part-same (recordPart (n .states)) _ _ record-same, part-same (boxPart (n .states) (n .boxes)) _ _ box-same, part-same (windowPart (n .states) (n .boxes)) _ _ place-same, part-same (cellPart (n .states) (n .boxes) (n .cells)) _ _ cell-same)
         (sym (rw (e₄, e₃, e₂, e₁) at e₅) ∙ take-all (blocksFor n * 512) file (omega arith))
 
-    bytes-same : sceneBytes c ≡ file
-    bytes-same = rw counts-same bytes-made
+    bytes-same : isSecond file ≡ true → sceneBytes c ≡ file
+    bytes-same new = rw counts-same (bytes-made new)
 
     -- and there is room for it
     has-room : (size : ℕ) → length file ≤ size → roomRefusal c size ≡ 0
@@ -300,21 +233,21 @@ module _ (file : List ℕ) (small : (i : ℕ) → getD file i 0 < 256) where
         let l = told .size in
         ap (λ m. roomFor (blocksFor m) size) counts-same ∙ room-enough (blocksFor n) size (told .few) (omega arith)
 
-    none-refused : (out : List ℕ) → length file ≤ length out → sceneRefusal c (length out) ≡ 0
+    pub none-refused : (out : List ℕ) → length file ≤ length out → sceneRefusal c (length out) ≡ 0
     unfolding sceneRefusal choose
     none-refused out h = rw (z, has-room (length out) h)
 
-    size-same : sceneBlocks c * 512 ≡ length file
+    pub size-same : sceneBlocks c * 512 ≡ length file
     size-same = ap (λ m. blocksFor m * 512) counts-same ∙ sym (told .size)
 
-    pub comes-out : ComesOut file
+    pub comes-out : isSecond file ≡ true → ComesOut file
     unfolding writtenBy answerBy choose
-    comes-out =
+    comes-out new =
         record {
-          bytes = bytes-same;
-          buffer = λ out h. rw (none-refused out h, bytes-same);
+          bytes = bytes-same new;
+          buffer = λ out h. rw (none-refused out h, bytes-same new);
           answer = λ out h. rw (none-refused out h, size-same);
         }
 
 pub read-then-written : ReadThenWritten
-read-then-written file small s z = comes-out file small s z
+read-then-written file small s new z = comes-out file small s z new

@@ -24,7 +24,7 @@ use Rattle.window.specs.Numbers.{withAir}
 use Rattle.lent_words.specs.Words.{signedWord, unsignedWord, wideOf, lowOf, highOf, windowFrom, windowWords}
 use Rattle.lent_words.proofs.Rounds.{unsigned-fits, wide-halves, window-back}
 use Rattle.blocks.specs.declared.Part.{Part}
-use Rattle.blocks.specs.Blocks.{partWord, partFits, endOf, bodyPart, recordPart, boxPart, windowPart, cellPart}
+use Rattle.blocks.specs.Blocks.{blockOf, isSecond, partWord, partFits, endOf, bodyPart, recordPart, boxPart, windowPart, cellPart}
 use Rattle.files.specs.declared.Counts.{Counts}
 use Rattle.files.specs.Places.{numberPlace, agePlace, wordPlace, statesPlace, boxesPlace, flapNumber, presentWord, airWord}
 use Rattle.files.specs.Files.{bodyWord, flapFits, windowIn, sizesIn, countsIn, countsFit, countsOf, partsFit, blocksFor, blocksFit, isScene}
@@ -32,7 +32,7 @@ use Rattle.files.specs.Contents.{Contents, bodyFloat, numbersIn, lateWord, late
 use Rattle.part_writer.specs.Bytes.{partBytes, wordIn, bitsIn}
 use Rattle.part_writer.proofs.Listed.{listed-length, listed-from}
 use Rattle.part_writer.proofs.Stored.{stored-front}
-use Rattle.part_writer.proofs.Parts.{Holds, holds-last, holds-more, holds-fits, holds-word}
+use Rattle.part_writer.proofs.Parts.{Holds, holds-last, holds-more, holds-new, holds-fits, holds-word}
 use Rattle.writer.specs.Contents.{countsFor, isAbsent, writtenNumber, asWritten}
 use Rattle.writer.specs.Written.{halfOf, bodyWordOf, bytesBy, sceneBytes, sceneBlocks, roomFor, roomRefusal, refusalOf, sceneRefusal, writtenBy, answerBy, writtenScene, sceneAnswer}
 use Rattle.writer.proofs.Puts.{first, second, third, fourth, one-length, two-length, three-length, four-length, bytes-length, room-fits}
@@ -52,7 +52,7 @@ unfolding halfOf
 half-fits n j h = chosen (eqb j 0) (lowOf n) (highOf n) 4294967296 (omega arith) (omega arith)
 
 -- a list is what stands at its places
-listed-list : {A : Type 0} (f : ℕ → A) (l : List A) (n : ℕ) (d : A) → length l ≡ n → ((i : ℕ) → i < n → f i ≡ getD l i d) → listed f n 0 ≡ l
+pub listed-list : {A : Type 0} (f : ℕ → A) (l : List A) (n : ℕ) (d : A) → length l ≡ n → ((i : ℕ) → i < n → f i ≡ getD l i d) → listed f n 0 ≡ l
 listed-list f l n d e h =
     ext-getD d (listed f n 0) l (listed-length f n 0 ∙ sym e)
     (λ i g. let m : i < n = rw (listed-length f n 0) at g in listed-from f n i d m ∙ h i m)
@@ -146,9 +146,13 @@ module _ (c : Contents) (t : Typed c) (p : Passed c) (few : sceneBlocks c ≤ 12
   unfolding bytesBy
   cells-held = holds-last (first c n ++ second c n ++ third c n ++ fourth c n) (cellPart (n .states) (n .boxes) (n .cells)) (wordIn (c .cells)) (four-length c n)
 
+  -- ---- its first mark is the new one
+  pub new-mark : isSecond file ≡ true
+  new-mark = holds-new file body body-held
+
   -- ---- the body's words
   body-word : (i : ℕ) → i < 48 → bodyWord file i ≡ body i
-  body-word i h = holds-word file bodyPart body body-held (omega arith) (omega arith) (λ i g. body-fits i) i h
+  body-word i h = holds-word file new-mark bodyPart body body-held (omega arith) (omega arith) (λ i g. body-fits i) i h
 
   states-read : bodyWord file statesPlace ≡ n .states
   unfolding bodyWordOf choose
@@ -193,7 +197,7 @@ module _ (c : Contents) (t : Typed c) (p : Passed c) (few : sceneBlocks c ≤ 12
 
   -- ---- the window
   place-word : (k : ℕ) → k < 8 → partWord file (windowPart (n .states) (n .boxes)) k ≡ wordIn (windowWords (c .window)) k
-  place-word k h = holds-word file (windowPart (n .states) (n .boxes)) (wordIn (windowWords (c .window))) place-held (omega arith) (omega arith) (λ i g. place-fits i) k h
+  place-word k h = holds-word file new-mark (windowPart (n .states) (n .boxes)) (wordIn (windowWords (c .window))) place-held (omega arith) (omega arith) (λ i g. place-fits i) k h
 
   window-read : windowIn file (windowPart (n .states) (n .boxes)) ≡ withAir (c .window) (wordIn (c .words) airWord)
   unfolding windowIn
@@ -232,11 +236,11 @@ module _ (c : Contents) (t : Typed c) (p : Passed c) (few : sceneBlocks c ≤ 12
   parts-fit : partsFit file n ≡ true
   unfolding partsFit
   parts-fit =
-      rw (holds-fits file bodyPart body body-held (omega arith) (omega arith) (λ i h. body-fits i),
-      holds-fits file (recordPart (n .states)) (wordIn (c .records)) records-held (omega arith) (omega arith) (λ i h. t .records i),
-      holds-fits file (boxPart (n .states) (n .boxes)) (bitsIn (c .shapes)) shapes-held (omega arith) (omega arith) (λ i h. bits-fit i),
-      holds-fits file (windowPart (n .states) (n .boxes)) (wordIn (windowWords (c .window))) place-held (omega arith) (omega arith) (λ i h. place-fits i),
-      holds-fits file (cellPart (n .states) (n .boxes) (n .cells)) (wordIn (c .cells)) cells-held few (omega arith) (λ i h. t .cells i))
+      rw (holds-fits file new-mark bodyPart body body-held (omega arith) (omega arith) (λ i h. body-fits i),
+      holds-fits file new-mark (recordPart (n .states)) (wordIn (c .records)) records-held (omega arith) (omega arith) (λ i h. t .records i),
+      holds-fits file new-mark (boxPart (n .states) (n .boxes)) (bitsIn (c .shapes)) shapes-held (omega arith) (omega arith) (λ i h. bits-fit i),
+      holds-fits file new-mark (windowPart (n .states) (n .boxes)) (wordIn (windowWords (c .window))) place-held (omega arith) (omega arith) (λ i h. place-fits i),
+      holds-fits file new-mark (cellPart (n .states) (n .boxes) (n .cells)) (wordIn (c .cells)) cells-held few (omega arith) (λ i h. t .cells i))
 
   pub is-scene : isScene file ≡ true
   unfolding isScene blocksFit
@@ -251,10 +255,10 @@ module _ (c : Contents) (t : Typed c) (p : Passed c) (few : sceneBlocks c ≤ 12
   unfolding wordsOf singlesOf
   contents-read =
       let r = listed-list (partWord file (recordPart (n .states))) (c .records) (n .states * 20) 0 (p .records-whole)
-          (λ i h. holds-word file (recordPart (n .states)) (wordIn (c .records)) records-held (omega arith) (omega arith) (λ i h. t .records i) i h) in
+          (λ i h. holds-word file new-mark (recordPart (n .states)) (wordIn (c .records)) records-held (omega arith) (omega arith) (λ i h. t .records i) i h) in
       let s = listed-list (λ (i : ℕ). ofBits binary32 (partWord file (boxPart (n .states) (n .boxes)) i)) (c .shapes) (n .boxes * 6) zero64 (p .shapes-whole) (λ i h. single i h) in
       let l = listed-list (partWord file (cellPart (n .states) (n .boxes) (n .cells))) (c .cells) (n .cells) 0 refl
-          (λ i h. holds-word file (cellPart (n .states) (n .boxes) (n .cells)) (wordIn (c .cells)) cells-held few (omega arith) (λ i h. t .cells i) i h) in
+          (λ i h. holds-word file new-mark (cellPart (n .states) (n .boxes) (n .cells)) (wordIn (c .cells)) cells-held few (omega arith) (λ i h. t .cells i) i h) in
       let m = listed-list (bodyFloat file) (listed (writtenNumber (c .numbers) (c .words)) 19 0) 19 zero64 (listed-length (writtenNumber (c .numbers) (c .words)) 19 0)
           (λ k h. number-read k h ∙ sym (listed-from (writtenNumber (c .numbers) (c .words)) 19 k zero64 h)) in
       let w = listed-list (lateWord file) (c .words) 6 0 (p .words-whole) (λ k h. word-read k h) in
@@ -262,7 +266,7 @@ module _ (c : Contents) (t : Typed c) (p : Passed c) (few : sceneBlocks c ≤ 12
     where
       single : (i : ℕ) → i < n .boxes * 6 → ofBits binary32 (partWord file (boxPart (n .states) (n .boxes)) i) ≡ getD (c .shapes) i zero64
       single i h =
-          rw (holds-word file (boxPart (n .states) (n .boxes)) (bitsIn (c .shapes)) shapes-held (omega arith) (omega arith) (λ i h. bits-fit i) i h) (single-back i)
+          rw (holds-word file new-mark (boxPart (n .states) (n .boxes)) (bitsIn (c .shapes)) shapes-held (omega arith) (omega arith) (λ i h. bits-fit i) i h) (single-back i)
 
 -- ---- the theorem
 
@@ -296,6 +300,7 @@ written-then-read out c t z =
     let e = file-is out c z (f .long) in
     record {
       scene = rw e (is-scene c t p (f .few));
+      new = rw e (new-mark c t p (f .few));
       same = rw e (contents-read c t p (f .few));
       past = past-is out c z (f .long);
     }

@@ -9,6 +9,7 @@ use lib.Ieee.{binary32, binary64, fits}
 use Rattle.base.specs.Loop.{stored}
 use Rattle.floats.specs.Numbers.{zero64}
 use Rattle.lent_words.specs.Words.{Signed}
+use Rattle.blocks.specs.Blocks.{isSecond}
 use Rattle.files.specs.Files.{isScene}
 use Rattle.files.specs.Contents.{Contents, contentsIn}
 use Rattle.writer.specs.Contents.{asWritten}
@@ -29,9 +30,10 @@ abbrev pub fileOf : List ℕ → Contents → List ℕ
 fileOf out c = take (sceneAnswer (length out) c .bytes) (writtenScene out c)
 
 -- "Reading what it wrote gives back the same numbers, bit for bit": a flap's as zero where none is present, and the window with the body's air state.
--- "Bytes past the scene keep their values."
+-- "Bytes past the scene keep their values." "the writer writes the new one".
 pub record ReadsBack (out : List ℕ) (c : Contents) : Type 0 where
   pub scene : isScene (fileOf out c) ≡ true
+  pub new : isSecond (fileOf out c) ≡ true
   pub same : contentsIn (fileOf out c) ≡ asWritten c
   pub past : drop (sceneAnswer (length out) c .bytes) (writtenScene out c) ≡ drop (sceneAnswer (length out) c .bytes) out
 
@@ -44,6 +46,18 @@ pub record ComesOut (file : List ℕ) : Type 0 where
   pub buffer : (out : List ℕ) → length file ≤ length out → writtenScene out (contentsIn file) ≡ stored out 0 file
   pub answer : (out : List ℕ) → length file ≤ length out → sceneAnswer (length out) (contentsIn file) ≡ record { refusal = 0; bytes = length file }
 
--- a file is bytes
+-- as long as the file, and for a buffer with room what comes of it
+pub record SameNumbers (file : List ℕ) : Type 0 where
+  pub scene : isScene (sceneBytes (contentsIn file)) ≡ true
+  pub new : isSecond (sceneBytes (contentsIn file)) ≡ true
+  pub same : contentsIn (sceneBytes (contentsIn file)) ≡ contentsIn file
+  pub long : length (sceneBytes (contentsIn file)) ≡ length file
+  pub buffer : (out : List ℕ) → length file ≤ length out → writtenScene out (contentsIn file) ≡ stored out 0 (sceneBytes (contentsIn file))
+
+-- a file is bytes; "request Four's file proof is of those" that have the new mark
 abbrev pub ReadThenWritten : Type 0
-ReadThenWritten = (file : List ℕ) → ((i : ℕ) → getD file i 0 < 256) → isScene file ≡ true → refusalOf (contentsIn file) ≡ 0 → ComesOut file
+ReadThenWritten = (file : List ℕ) → ((i : ℕ) → getD file i 0 < 256) → isScene file ≡ true → isSecond file ≡ true → refusalOf (contentsIn file) ≡ 0 → ComesOut file
+
+-- what the writer makes of a file's contents, whichever mark that has: a scene of the new mark that holds the same numbers
+abbrev pub WrittenAnew : Type 0
+WrittenAnew = (file : List ℕ) → ((i : ℕ) → getD file i 0 < 256) → isScene file ≡ true → refusalOf (contentsIn file) ≡ 0 → SameNumbers file

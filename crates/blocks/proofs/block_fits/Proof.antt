@@ -1,6 +1,5 @@
 -- `blocks::block_fits` meets its contract. Assumes nothing.
 use borrow.Author.Tests.{eq-eqb, ne-eqb}
--- `blocks::block_fits` meets its contract. Assumes nothing.
 use Rattle.blocks.specs.Blocks.{blockFits}
 use borrow.Author.Needs.{needs}
 use Rattle.blocks.proofs.block_fits.Statement.{statement}
@@ -24,13 +23,22 @@ rest-zero-requires c κs = search needs
 word-requires-3 : tie.Need-word-requires-3
 word-requires-3 c κs = search needs
 
+word-126-requires : tie.Need-word-126-requires
+word-126-requires c κs = search needs
+
+word-requires-4 : tie.Need-word-requires-4
+word-requires-4 c κs = search needs
+
 check-of-requires : tie.Need-check-of-requires
 check-of-requires c κs = search needs
 
 returns : tie.Need-returns
 unfolding blockFits
 returns c =
-    let at-if4 = c .before .before in
+    let at-if5 = c .before .before in
+    let at-word-126 = at-if5 .before in
+    let at-word3 = at-word-126 .before in
+    let at-if4 = at-word3 .before in
     let at-rest-zero = at-if4 .before in
     let at-if3 = at-rest-zero .before in
     let at-word2 = at-if3 .before in
@@ -38,11 +46,25 @@ returns c =
     let at-word = at-if2 .before in
     let at-if1 = at-word .before in
     let at-is-marked = at-if1 .before in
-    rw (← at-is-marked .is-marked .ensures, at-if1 .if1 .taken, ← at-word .word .ensures, eq-eqb _ _ (at-if2 .if2 .taken), ← at-word2 .word2 .ensures, eq-eqb _ _ (at-if3 .if3 .taken), ← at-rest-zero .rest-zero .ensures, at-if4 .if4 .taken, ← c .before .word3 .ensures, ← c .check-of .ensures)
+    rw (← at-is-marked .is-marked .ensures, at-if1 .if1 .taken, ← at-word .word .ensures, eq-eqb _ _ (at-if2 .if2 .taken), ← at-word2 .word2 .ensures, eq-eqb _ _ (at-if3 .if3 .taken), ← at-rest-zero .rest-zero .ensures, at-if4 .if4 .taken, ← at-word3 .word3 .ensures, ← at-word-126 .word-126 .ensures, eq-eqb _ _ (at-if5 .if5 .taken), ← c .before .word4 .ensures, ← c .check-of .ensures)
 
 returns-2 : tie.Need-returns-2
 unfolding blockFits
 returns-2 c =
+    let at-word3 = c .before .before in
+    let at-if4 = at-word3 .before in
+    let at-rest-zero = at-if4 .before in
+    let at-if3 = at-rest-zero .before in
+    let at-word2 = at-if3 .before in
+    let at-if2 = at-word2 .before in
+    let at-word = at-if2 .before in
+    let at-if1 = at-word .before in
+    let at-is-marked = at-if1 .before in
+    rw (← at-is-marked .is-marked .ensures, at-if1 .if1 .taken, ← at-word .word .ensures, eq-eqb _ _ (at-if2 .if2 .taken), ← at-word2 .word2 .ensures, eq-eqb _ _ (at-if3 .if3 .taken), ← at-rest-zero .rest-zero .ensures, at-if4 .if4 .taken, ← at-word3 .word3 .ensures, ← c .before .word-126 .ensures, ne-eqb _ _ (c .if5 .left))
+
+returns-3 : tie.Need-returns-3
+unfolding blockFits
+returns-3 c =
     let at-if3 = c .before .before in
     let at-word2 = at-if3 .before in
     let at-if2 = at-word2 .before in
@@ -51,25 +73,25 @@ returns-2 c =
     let at-is-marked = at-if1 .before in
     rw (← at-is-marked .is-marked .ensures, at-if1 .if1 .taken, ← at-word .word .ensures, eq-eqb _ _ (at-if2 .if2 .taken), ← at-word2 .word2 .ensures, eq-eqb _ _ (at-if3 .if3 .taken), ← c .before .rest-zero .ensures, c .if4 .left)
 
-returns-3 : tie.Need-returns-3
+returns-4 : tie.Need-returns-4
 unfolding blockFits
-returns-3 c =
+returns-4 c =
     let at-if2 = c .before .before in
     let at-word = at-if2 .before in
     let at-if1 = at-word .before in
     let at-is-marked = at-if1 .before in
     rw (← at-is-marked .is-marked .ensures, at-if1 .if1 .taken, ← at-word .word .ensures, eq-eqb _ _ (at-if2 .if2 .taken), ← c .before .word2 .ensures, ne-eqb _ _ (c .if3 .left))
 
-returns-4 : tie.Need-returns-4
+returns-5 : tie.Need-returns-5
 unfolding blockFits
-returns-4 c =
+returns-5 c =
     let at-if1 = c .before .before in
     let at-is-marked = at-if1 .before in
     rw (← at-is-marked .is-marked .ensures, at-if1 .if1 .taken, ← c .before .word .ensures, ne-eqb _ _ (c .if2 .left))
 
-returns-5 : tie.Need-returns-5
+returns-6 : tie.Need-returns-6
 unfolding blockFits
-returns-5 c = rw (← c .before .is-marked .ensures, c .if1 .left)
+returns-6 c = rw (← c .before .is-marked .ensures, c .if1 .left)
 
 pub block-fits-spec : {M : Type 1} → statement M
 block-fits-spec =
@@ -81,9 +103,12 @@ block-fits-spec =
     cast-if3
     rest-zero-requires
     word-requires-3
+    word-126-requires
+    word-requires-4
     check-of-requires
     returns
     returns-2
     returns-3
     returns-4
-    returns-5)
+    returns-5
+    returns-6)

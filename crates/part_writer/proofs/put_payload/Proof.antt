@@ -13,10 +13,10 @@ use Rattle.part_writer.proofs.put_payload.Tie as tie
 
 abbrev Inv-loop : tie.InvT-loop
 Inv-loop block₀ words from used i₀ block i =
-    (i ≤ 124) × (length block ≡ length block₀) × (block ≡ stored block₀ 12 (bytesOf (payloadWord (λ k. wordIn words (from + k)) used) i))
+    (i ≤ 123) × (length block ≡ length block₀) × (block ≡ stored block₀ 12 (bytesOf (payloadWord (λ k. wordIn words (from + k)) used) i))
 
 abbrev μ-loop : tie.MeasureT-loop
-μ-loop block₀ words from used i₀ block i = 124 - i
+μ-loop block₀ words from used i₀ block i = 123 - i
 
 loop-holds : tie.Need-loop-holds Inv-loop μ-loop
 unfolding stored bytesOf joined
@@ -48,7 +48,7 @@ same-length : tie.Need-same-length Inv-loop μ-loop
 same-length c = c .before .loop .inv .1
 
 returns : tie.Need-returns Inv-loop μ-loop
-returns c = let k : c .before .loop .i ≡ 124 = omega arith in rw k at (c .before .loop .inv .2)
+returns c = let k : c .before .loop .i ≡ 123 = omega arith in rw k at (c .before .loop .inv .2)
 
 pub put-payload-spec : {M : Type 1} → statement M
 put-payload-spec =

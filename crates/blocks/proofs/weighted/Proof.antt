@@ -1,0 +1,20 @@
+-- `blocks::weighted` meets its contract. Assumes nothing.
+use borrow.Author.Needs.{needs}
+use Rattle.blocks.proofs.Parts.{weighted-most}
+use Rattle.blocks.proofs.weighted.Statement.{statement}
+use Rattle.blocks.proofs.weighted.Tie as tie
+
+add-result : tie.Need-add-result
+add-result c = search needs
+
+mul-result : tie.Need-mul-result
+mul-result c = let m = weighted-most (c .args .k) (c .args .w) (search needs) (search needs) in search needs
+
+cast-result : tie.Need-cast-result
+cast-result c = search needs
+
+returns : tie.Need-returns
+returns c = search needs
+
+pub weighted-spec : {M : Type 1} → statement M
+weighted-spec = tie.close (tie.spec add-result mul-result cast-result returns)

@@ -1,0 +1,28 @@
+-- The theorem is of something, and needs its "odd": computed. Assumes nothing.
+use mathlib.Core.Bool.{true, false}
+use mathlib.Core.Path.{_≡_, refl}
+use Rattle.base.specs.Choose.{choose}
+use Rattle.base.specs.Every.{every}
+use Rattle.base.specs.Loop.{listed}
+use Rattle.suffixes.specs.Bytes.{equal}
+use Rattle.blocks.specs.Blocks.{fileWord, marked, sumOf, checkOf, secondOf, word126, restZero, blockFits}
+use Rattle.exchange.specs.Exchange.{from, exchange}
+use Rattle.exchange.specs.Samples.{byteOf, blockWith, plain, halfway}
+
+-- a sound block; two neighbouring words exchanged; the same read by the first rule
+plain-fits : blockFits true plain 0 4 8 ≡ true
+unfolding byteOf blockWith plain choose every listed equal fileWord marked sumOf checkOf secondOf word126 restZero blockFits
+plain-fits = refl
+
+plain-exchanged : blockFits true (exchange 0 4 5 plain) 0 4 8 ≡ false
+unfolding byteOf blockWith plain choose every listed equal fileWord marked sumOf checkOf secondOf word126 restZero blockFits from exchange
+plain-exchanged = refl
+
+plain-first : blockFits false plain 0 4 8 ≡ false
+unfolding byteOf blockWith plain choose every listed equal fileWord marked sumOf checkOf secondOf word126 restZero blockFits
+plain-first = refl
+
+-- two places apart, a difference of 2^31 does not show
+halfway-exchanged : blockFits true (exchange 0 3 5 halfway) 0 4 8 ≡ true
+unfolding byteOf blockWith halfway choose every listed equal fileWord marked sumOf checkOf secondOf word126 restZero blockFits from exchange
+halfway-exchanged = refl
