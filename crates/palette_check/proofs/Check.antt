@@ -39,7 +39,7 @@ unfolding P.paletteRecords P.paletteWord choose
 word-at s k h g =
     let p : (0 + (s * 20 + k)) / 20 ≡ s = omega arith in
     let q : (0 + (s * 20 + k)) % 20 ≡ k = omega arith in
-    listed-at (λ i. P.paletteWord (i / 20) (i % 20)) 4240 0 (s * 20 + k) 0 (omega arith) ∙ rw (p, q, lt-ltb s 212 h)
+    rw (lt-ltb k 20 g) (listed-at (λ i. P.paletteWord (i / 20) (i % 20)) 4240 0 (s * 20 + k) 0 (omega arith) ∙ rw (p, q, lt-ltb s 212 h))
 
 -- ---- words 0 to 6, and "an unregistered record is all zero": the record alone, as a table of one
 abbrev row : ℕ → List ℕ
@@ -57,7 +57,7 @@ words-fit s h =
 registered : ℕ → Bool
 registered s = eqb (P.flags s % 2) 1
 
-is-registered : (s : ℕ) → s < 212 → isRegistered P.paletteRecords s ≡ true
+pub is-registered : (s : ℕ) → s < 212 → isRegistered P.paletteRecords s ≡ true
 unfolding registered isRegistered every choose P.recordWord P.flags
 is-registered s h = rw (word-at s 0 h (omega arith)) (every-at 212 registered refl s h)
 
