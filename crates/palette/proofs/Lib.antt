@@ -1,5 +1,3 @@
--- Laws of this crate's definitions, and the theorems on the palette.
+-- Laws of the palette's records.
 pub mod Ranges
-pub mod Joins
-pub mod Boxes
-pub mod Counts
+pub mod Records

@@ -7,7 +7,7 @@ use borrow.Author.Tests.{leb-true, ltb-true, eq-eqb, ne-eqb}
 use Rattle.base.specs.Choose.{choose}
 use Rattle.base.specs.Every.{every}
 use Rattle.base.proofs.Every.{every-at}
-use Rattle.palette.specs.States.{kind, index, bit, bitAt}
+use Rattle.palette_states.specs.States.{kind, index, bit, bitAt}
 
 -- a bit that is set is at or below the state
 cleared : ℕ → ℕ → Bool

@@ -3,7 +3,7 @@ use Prim.Native.Nat.{ℕ, _+_, _-_, _/_}
 use lib.Dec.{leb, eqb}
 use Rattle.base.specs.Choose.{choose}
 use Rattle.turns.specs.Turns.{isOn, wallTurn}
-use Rattle.palette.specs.States.{kind, index, bit, bitAt}
+use Rattle.palette_states.specs.States.{kind, index, bit, bitAt}
 
 -- a fence or pane sets or clears its bit of the side, and its posts are its own index
 unfoldable pub fenceLink : ℕ → ℕ → ℕ

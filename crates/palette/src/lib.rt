@@ -1,16 +1,16 @@
-// The classroom palette: 212 states built in, handed out as lent tables of records and boxes, and looked up word by word and box by box.
-use tables::ShapeBox;
+// The records of the classroom palette: a word of a state, and the table of all. Its boxes are in `palette_boxes`.
+use palette_boxes::box_count;
+use palette_boxes::first_box;
+use palette_states::kind_of;
+use palette_states::post_digit;
 ghost use mathlib.Core.Path.{_≡_};
 ghost use Prim.Native.Nat.{_<_};
 ghost use lib.ListN.{set};
 ghost use Rattle.base.specs.Loop.{stored};
-ghost use Rattle.tables.specs.Tables.{boxAt};
-ghost use Rattle.palette.specs.Shapes.{boxesOf};
-ghost use Rattle.palette.specs.Palette.{flags, faces, recordWord, paletteWord, recordWords, shapeNumbers, paletteRecords, paletteShapes, fillRefusal, filled};
+ghost use Rattle.palette_boxes.specs.Fill.{fillRefusal, filled};
+ghost use Rattle.palette.specs.Palette.{flags, faces, recordWord, paletteWord, recordWords, paletteRecords};
 
 mod links;
-mod shapes;
-mod states;
 
 fn flags_of(state: u32) -> u32
     ensures { λ r. ⌜ r ≡ flags state ⌝ }
@@ -35,16 +35,16 @@ fn record_word(state: u32, k: u32) -> u32
         return 0x3f19_999a;
     }
     if k == 4 {
-        return states::kind_of(state);
+        return kind_of(state);
     }
     if k == 6 {
-        return states::post_digit(state);
+        return post_digit(state);
     }
     if k == 7 {
-        return shapes::first_box(state);
+        return first_box(state);
     }
     if k == 8 {
-        return shapes::box_count(state);
+        return box_count(state);
     }
     if k < 9 {
         return 0;
@@ -96,38 +96,5 @@ pub fn fill_records(out: &mut [u32]) -> u32
         return 11;
     }
     put_words(out);
-    0
-}
-
-// Box k of a state: zeros where there is none.
-pub fn box_at(state: u32, k: u32) -> ShapeBox
-    ensures { λ r. ⌜ r ≡ boxAt (boxesOf state) k ⌝ }
-{
-    let i = (k as usize) * 6;
-    let x0 = shapes::number_of(state, i);
-    let y0 = shapes::number_of(state, i + 1);
-    let z0 = shapes::number_of(state, i + 2);
-    let x1 = shapes::number_of(state, i + 3);
-    let y1 = shapes::number_of(state, i + 4);
-    let z1 = shapes::number_of(state, i + 5);
-    ShapeBox {
-        x0,
-        y0,
-        z0,
-        x1,
-        y1,
-        z1,
-    }
-}
-
-// The 3,948 numbers of the boxes, or 11 and nothing written where the buffer is too short.
-pub fn fill_shapes(out: &mut [f32]) -> u32
-    ensures { λ r. ⌜ r ≡ fillRefusal shapeNumbers (now (out .entry)) ⌝ }
-    ensures written { λ _. ⌜ now (out .exit) ≡ filled shapeNumbers (now (out .entry)) paletteShapes ⌝ }
-{
-    if out.len() < 3948 {
-        return 11;
-    }
-    shapes::put_all(out);
     0
 }

@@ -1,8 +1,8 @@
 // Transitions and posts.
-use crate::states::bit_at;
-use crate::states::bit_of;
-use crate::states::index_of;
-use crate::states::kind_of;
+use palette_states::bit_at;
+use palette_states::bit_of;
+use palette_states::index_of;
+use palette_states::kind_of;
 use turns::turn;
 ghost use mathlib.Core.Path.{_≡_};
 ghost use Prim.Native.Nat.{_<_};

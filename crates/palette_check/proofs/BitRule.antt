@@ -8,7 +8,7 @@ use borrow.Author.Tests.{eqb-true}
 use Rattle.base.specs.Choose.{choose}
 use Rattle.base.specs.Every.{every}
 use Rattle.base.proofs.Every.{both, every-at}
-use Rattle.palette.specs.States.{kind, index, bit, bitAt}
+use Rattle.palette_states.specs.States.{kind, index, bit, bitAt}
 use Rattle.turns.specs.Turns.{isOn}
 use Rattle.palette.specs.Links.{fenceLink}
 

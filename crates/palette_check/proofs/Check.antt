@@ -12,7 +12,7 @@ use lib.ListN.{length, getD, drop, drop-of-length-le}
 use lib.Seq.{getD-drop}
 use lib.Ieee as I
 use lib.Ieee.{Float}
-use borrow.Author.Tests.{eqb-true, ltb-true, eq-eqb, le-leb, lt-ltb, le-ltb}
+use borrow.Author.Tests.{eqb-true, ltb-true, eq-eqb, le-leb, lt-ltb, le-ltb, lt-leb}
 use Rattle.base.specs.Choose.{choose}
 use Rattle.base.specs.Every.{every, any}
 use Rattle.base.specs.Loop.{listed}
@@ -25,13 +25,15 @@ use Rattle.cover.proofs.Examples.{allFit, full-search}
 use Rattle.tables.specs.Tables.{wordAt, isRegistered, frictionAt, boxesAt, stateBoxes}
 use Rattle.table_check.specs.Check as K
 use Rattle.turns.specs.Turns as T
-use Rattle.palette.specs.States as S
+use Rattle.palette_states.specs.States as S
 use Rattle.palette.specs.Links as L
-use Rattle.palette.specs.Shapes as H
+use Rattle.palette_boxes.specs.Shapes as H
+use Rattle.palette_boxes.specs.Fill as F
 use Rattle.palette.specs.Palette as P
-use Rattle.palette.proofs.Joins.{listed-at, joined-part}
-use Rattle.palette.proofs.Counts.{records-length, all-boxes, shapes-length}
-use Rattle.palette.proofs.Boxes.{boxes-length, count-most, first-length}
+use Rattle.palette_boxes.proofs.Joins.{listed-at, joined-part}
+use Rattle.palette.proofs.Records.{records-length}
+use Rattle.palette_boxes.proofs.Counts.{all-boxes, shapes-length}
+use Rattle.palette_boxes.proofs.Boxes.{boxes-length, count-most, first-length}
 
 -- ---- word k of a state
 pub word-at : (s k : ℕ) → s < 212 → k < 20 → wordAt P.paletteRecords s k ≡ P.recordWord s k
@@ -79,22 +81,22 @@ inside : (s : ℕ) → s < 212 → H.firstBox s + H.boxCountOf s ≤ 658
 inside s h = rw (← all-boxes) (first-grows s 212 h)
 
 word-7 : (s : ℕ) → s < 212 → wordAt P.paletteRecords s 7 ≡ H.firstBox s
-unfolding P.recordWord choose
-word-7 s h = word-at s 7 h (omega arith)
+unfolding P.recordWord H.firstBoxOf choose
+word-7 s h = word-at s 7 h (omega arith) ∙ rw (lt-leb 212 s h)
 
 word-8 : (s : ℕ) → s < 212 → wordAt P.paletteRecords s 8 ≡ H.boxCountOf s
 unfolding P.recordWord choose
 word-8 s h = word-at s 8 h (omega arith)
 
-part-fits : (s : ℕ) → s < 212 → K.stateBoxesFit P.paletteRecords P.paletteShapes s ≡ true
+part-fits : (s : ℕ) → s < 212 → K.stateBoxesFit P.paletteRecords H.paletteShapes s ≡ true
 unfolding K.stateBoxesFit
 part-fits s h =
     rw (word-7 s h, word-8 s h, shapes-length, le-leb (H.boxCountOf s) 16 (omega (arith, count-most s)))
     (le-leb (H.firstBox s + H.boxCountOf s) 658 (inside s h))
 
 -- the part is the state's boxes
-pub boxes-at : (s : ℕ) → s < 212 → stateBoxes P.paletteRecords P.paletteShapes s ≡ H.boxesOf s
-unfolding boxesAt choose P.paletteShapes
+pub boxes-at : (s : ℕ) → s < 212 → stateBoxes P.paletteRecords H.paletteShapes s ≡ H.boxesOf s
+unfolding boxesAt choose H.paletteShapes
 boxes-at s h =
     rw (word-7 s h, word-8 s h, shapes-length, le-leb (H.firstBox s + H.boxCountOf s) 658 (inside s h))
     (joined-part H.boxesOf 212 s (H.firstBox s * 6) (H.boxCountOf s * 6) h (first-length s) (boxes-length s))
@@ -122,7 +124,7 @@ faces-are s h =
     let b = both (allFit (H.boxesOf s)) (eqb (P.faces s) (searched (H.boxesOf s))) t in
     eqb-true (P.faces s) (searched (H.boxesOf s)) (b .two) ∙ sym (full-search (H.boxesOf s) (subst T (sym (b .one)) tt))
 
-faces-fit : (s : ℕ) → s < 212 → K.facesFit P.paletteRecords P.paletteShapes s ≡ true
+faces-fit : (s : ℕ) → s < 212 → K.facesFit P.paletteRecords H.paletteShapes s ≡ true
 unfolding K.facesFit
 faces-fit s h = rw (word-19 s h, boxes-at s h) (eq-eqb (P.faces s) (Q.fullFaces (H.boxesOf s)) (faces-are s h))
 
@@ -170,7 +172,7 @@ links-fit s h = rw (word-4 s h, word-at s 17 h (omega arith), word-at s 18 h (om
         and-true _ _ (every-from 10 (λ i. K.leadsOn P.paletteRecords (S.kind s) (wordAt P.paletteRecords s (9 + i))) (λ i l. leads s i h l (every-at 10 (leading s) (b .one) i l))) (b .two)
 
 -- ---- a record
-record-fits : (s : ℕ) → s < 212 → K.recordFits P.paletteRecords P.paletteShapes s ≡ true
+record-fits : (s : ℕ) → s < 212 → K.recordFits P.paletteRecords H.paletteShapes s ≡ true
 unfolding K.recordFits
 record-fits s h = rw (words-fit s h, part-fits s h, links-fit s h, faces-fit s h, registered-fits s h)
 
@@ -179,8 +181,8 @@ boxed : ℕ → List Float → Bool
 boxed zero l = true
 boxed (suc n) l = K.boxFits l 0 && boxed n (drop 6 l)
 
-all-boxed : boxed 658 P.paletteShapes ≡ true
-unfolding boxed K.boxFits K.sideFits choose N.sizeOf I.lt I.eq I.le I.ofBits I.ofInt I.div I.round P.paletteShapes H.boxesOf H.joined H.partOf H.hasPart H.boxOf H.postEdge H.armEdge H.armLength H.height S.kind S.index S.bit S.bitAt T.weight T.digitAt S.sideOf S.hasPost
+all-boxed : boxed 658 H.paletteShapes ≡ true
+unfolding boxed K.boxFits K.sideFits choose N.sizeOf I.lt I.eq I.le I.ofBits I.ofInt I.div I.round H.paletteShapes H.boxesOf H.joined H.partOf H.hasPart H.boxOf H.postEdge H.armEdge H.armLength H.height S.kind S.index S.bit S.bitAt T.weight T.digitAt S.sideOf S.hasPost
 all-boxed = refl
 
 moved : (l : List Float) (k c : ℕ) → Q.boxNumber (drop 6 l) k c ≡ Q.boxNumber l (suc k) c
@@ -197,7 +199,7 @@ box-fits (suc n) l t zero h = both (K.boxFits l 0) (boxed n (drop 6 l)) t .one
 box-fits (suc n) l t (suc k) h = sym (next-fits l k) ∙ box-fits n (drop 6 l) (both (K.boxFits l 0) (boxed n (drop 6 l)) t .two) k (le-of-suc-le-suc h)
 
 -- ---- a buffer that has just the room holds the table
-just-filled : {A : Type 0} (n : ℕ) (l xs : List A) → length l ≡ n → P.filled n l xs ≡ xs
+just-filled : {A : Type 0} (n : ℕ) (l xs : List A) → length l ≡ n → F.filled n l xs ≡ xs
 unfolding choose
 just-filled n l xs e =
     let h : n ≤ length l = omega arith in
@@ -205,20 +207,20 @@ just-filled n l xs e =
     rw (le-ltb (length l) n h, drop-of-length-le l g) (append-nil xs)
 
 -- ---- the check
-counts-fit : K.tableCountsFit P.paletteRecords P.paletteShapes ≡ true
+counts-fit : K.tableCountsFit P.paletteRecords H.paletteShapes ≡ true
 unfolding K.tableCountsFit
 counts-fit = rw (records-length, shapes-length)
 
-tables-fit : K.tablesFit P.paletteRecords P.paletteShapes ≡ true
+tables-fit : K.tablesFit P.paletteRecords H.paletteShapes ≡ true
 unfolding K.tablesFit
 tables-fit =
-    rw (counts-fit, records-length, shapes-length, every-from 212 (K.recordFits P.paletteRecords P.paletteShapes) record-fits)
-    (every-from 658 (K.boxFits P.paletteShapes) (box-fits 658 P.paletteShapes all-boxed))
+    rw (counts-fit, records-length, shapes-length, every-from 212 (K.recordFits P.paletteRecords H.paletteShapes) record-fits)
+    (every-from 658 (K.boxFits H.paletteShapes) (box-fits 658 H.paletteShapes all-boxed))
 
-pub passes : K.tableRefusal P.paletteRecords P.paletteShapes ≡ 0
+pub passes : K.tableRefusal P.paletteRecords H.paletteShapes ≡ 0
 unfolding choose
 passes = rw tables-fit
 
 -- buffers that have just the room: what the palette is filled into passes
-pub filled-passes : (a : List ℕ) (b : List Float) → length a ≡ P.recordWords → length b ≡ P.shapeNumbers → K.tableRefusal (P.filled P.recordWords a P.paletteRecords) (P.filled P.shapeNumbers b P.paletteShapes) ≡ 0
-filled-passes a b p q = rw (just-filled P.recordWords a P.paletteRecords p, just-filled P.shapeNumbers b P.paletteShapes q) passes
+pub filled-passes : (a : List ℕ) (b : List Float) → length a ≡ P.recordWords → length b ≡ H.shapeNumbers → K.tableRefusal (F.filled P.recordWords a P.paletteRecords) (F.filled H.shapeNumbers b H.paletteShapes) ≡ 0
+filled-passes a b p q = rw (just-filled P.recordWords a P.paletteRecords p, just-filled H.shapeNumbers b H.paletteShapes q) passes

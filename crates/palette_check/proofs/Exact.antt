@@ -7,7 +7,7 @@ use lib.Dec.{eqb}
 use lib.Ieee.{Float, nan, inf, fin, up, down, binary32, ofInt, ofBits, round, div, toBits}
 use Rattle.base.specs.Every.{every}
 use Rattle.base.proofs.Every.{every-at}
-use Rattle.palette.specs.Shapes.{sixteenths}
+use Rattle.palette_boxes.specs.Shapes.{sixteenths}
 use Rattle.palette.specs.Palette.{friction}
 
 -- the float is n / 16: `fin false m e` is m * 2 ^ e
