@@ -122,7 +122,11 @@ DECLARED = {
     "move_over_list": SLICE * 2 + STEP + SLICE,
     "collected": TABLES + WINDOW + AIR + SLICE + STEP + SLICE,
     "tick": SLICE * 2,
+    "palette_records": SLICE,
+    "palette_boxes": SLICE,
 }
+PALETTE = (("palette_records", "I", 4240), ("palette_boxes", "f", 3948))  # of the classroom palette: the words, and the numbers of its boxes
+
 _loaded = {}
 
 
@@ -304,6 +308,21 @@ def collected(tables, window, air, mover):
 def move_over_list(boxes, mover):
     """The move of a box over boxes of the host's own, six numbers to a box."""
     return _judged(_moved(_Lent().slice("boxes", boxes, "d").mover(mover).answer("move_over_list", 10)))
+
+
+# ---- the classroom palette
+
+def palette():
+    """The tables of the classroom palette, whose states hosts/boltjuniper.h tells."""
+    return Tables(*(filled(name, array.array(code, bytes(4 * n))) for name, code, n in PALETTE))
+
+
+def filled(name, out):
+    """A table of the palette's written into an array of its type, which it returns; refused by 11 where there is not the room."""
+    refusal = _function(name)(*out.buffer_info())
+    if refusal:
+        raise Refused(refusal)
+    return out
 
 
 # ---- many: a refusal is a value among the answers

@@ -11,6 +11,7 @@ HERE = os.path.dirname(os.path.abspath(__file__))
 sys.path.insert(0, os.path.join(HERE, "..", "tools"))
 import boltjuniper as b
 import scenefile
+import scenepalette
 
 try:
     import numpy
@@ -76,7 +77,8 @@ def as_numpy(a):
 
 COUNTS = {name: Count(name) for name in ("tick", "ticks", "step", "step_checked", "steps", "check_tables", "move", "move_over_list", "collected",
                                          "move over what it collects", "step of numpy's arrays", "heights, columns and air", "two ticks at a door",
-                                         "arrays as they are", "step_falling", "fall records", "midnight", "midnight's refusals")}
+                                         "arrays as they are", "step_falling", "fall records", "midnight", "midnight's refusals",
+                                         "classroom palette")}
 
 
 def one_scene(name, theirs):
@@ -283,6 +285,22 @@ def midnight():
         count.add("a buffer that may only be read", "ValueError", "ValueError")
 
 
+def palette():
+    """The classroom palette against the tables that tools/scenepalette.py works out by itself; and the tick of a yard."""
+    count, tables = COUNTS["classroom palette"], b.palette()
+    theirs = scenepalette.tables()
+    count.add("records", list(tables.records), theirs[0])
+    count.add("boxes", list(struct.unpack("<%dI" % len(tables.shapes), tables.shapes.tobytes())), theirs[1])
+    count.add("the table check", asked(b.check_tables, tables), None)
+    for name, code, n in b.PALETTE:
+        short, long = array.array(code, [7] * (n - 1)), array.array(code, [7] * (n + 1))
+        count.add("a buffer too short", (asked(b.filled, name, short), set(short)), (b.Refused(11), {7}))
+        count.add("a longer buffer", (b.filled(name, long)[:n], long[n]), (tables.records if code == "I" else tables.shapes, 7))
+    scene = example("school-yard")
+    _, window, body = parts(scene)
+    count.add("a yard", asked(b.step, tables, window, body), asked(b.tick, scenefile.packed(scene)))
+
+
 def doors():
     """What docs/MODERATORS.md says of two ticks at a door: the first ends one rounding inside it, the second behind it."""
     first, second = example("door-1"), example("door-2")
@@ -332,6 +350,7 @@ def main():
     windows()
     records()
     midnight()
+    palette()
     doors()
     arrays()
     if not numpy:
