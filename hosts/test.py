@@ -299,6 +299,11 @@ def palette():
     scene = example("school-yard")
     _, window, body = parts(scene)
     count.add("a yard", asked(b.step, tables, window, body), asked(b.tick, scenefile.packed(scene)))
+    # its blocks stand as the rules join them, so that what is collected of it is what is recorded
+    stand = [(x, z, box) for x in range(1, 9) for z in range(1, 6)
+             for box in scenepalette.boxes_of(window.cells[70 + z * 10 + x])]
+    theirs = [(x + box[0] / 16, 1 + box[1] / 16, z + box[2] / 16, x + box[3] / 16, 1 + box[4] / 16, z + box[5] / 16) for x, z, box in stand]
+    count.add("its boxes", asked(b.collected, tables, window, 0, b.Mover((1.0, 1.0, 1.0, 8.99, 2.0, 5.99), (0.0, 0.0, 0.0))), theirs)
 
 
 def doors():

@@ -369,6 +369,10 @@ class Text:
 
     def line(self, number, key, given):
         rows, self.rows = self.rows, None
+        if rows and self.palette and key.rstrip(",") in scenepalette.FIRST:  # `air` too, which elsewhere is the body's air state
+            self.row(number, rows, [key] + given)
+            self.rows = rows
+            return
         for table, words in self.parts:
             if key in table and key not in COUNTED:
                 got = read_values(key, table[key].kinds, given)
@@ -389,7 +393,7 @@ class Text:
         elif key in ("layer", "columns"):
             read_values(key, (), given)
             self.begin(number, key)
-        elif rows and (re.match(r"[-+0-9]", key) or key.rstrip(",") in scenepalette.FIRST):
+        elif rows and (re.match(r"[-+0-9]", key) or key in scenepalette.FIRST):
             self.row(number, rows, [key] + given)
             self.rows = rows
         elif re.fullmatch(r"[-+.0-9]+", key):

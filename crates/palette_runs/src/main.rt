@@ -1,6 +1,6 @@
 // The classroom palette, run: what buffers a word short, and a word too long, are answered, and two sums of what stands in each then; the same sums of
-// all that is looked up, one state, word and box too many; and the table check's answer. What must be written was worked out from the text of the
-// request (`expected` in tools/scenepalette.py), not run.
+// the boxes that are looked up, one state and one box too many; and the table check's answer. What must be written was worked out from the text of
+// the request (`expected` in tools/scenepalette.py), not run.
 use libc::STDOUT_FILENO;
 use tables::ShapeBox;
 
@@ -74,16 +74,6 @@ fn fill_shapes(what: &[u8], out: &mut [f32]) {
     say(what, answer, of_numbers(out));
 }
 
-fn words_looked_up() -> Sums {
-    let mut s = none();
-    let mut i = 0u32;
-    while i < 213 * 21 {
-        s = with(s, wide(palette::word(i / 21, i % 21)));
-        i += 1;
-    }
-    s
-}
-
 fn boxes_looked_up() -> Sums {
     let mut s = none();
     let mut i = 0u32;
@@ -113,7 +103,6 @@ fn main() {
     fill_shapes(b"boxes, a number short", &mut little);
     let mut shapes = [7.0f32; 3949];
     fill_shapes(b"boxes", &mut shapes);
-    say(b"words looked up", 0, words_looked_up());
     say(b"boxes looked up", 0, boxes_looked_up());
     say(b"the table check", check(&records, &shapes), none());
 }
