@@ -1,27 +1,27 @@
+-- `timed::boltjuniper_connected` meets its contract. Assumes nothing.
+use mathlib.Core.Path.{ap}
+use mir.Syntax.{w32}
+use mir.ValLaws.{toZ-ofZ}
 use borrow.Author.Needs.{needs}
+use Rattle.connect.specs.declared.StateAnswer.{StateAnswer}
 use Rattle.timed.proofs.boltjuniper_connected.Statement.{statement}
 use Rattle.timed.proofs.boltjuniper_connected.Tie as tie
-use Rattle.timed.proofs.boltjuniper_connected.Reads as reads
-use Rattle.timed.proofs.boltjuniper_connected.Lts as lts
-use Rattle.connect.proofs.connected_state_at.Reads as connected-state-at-reads
-use Rattle.ranges.proofs.cell_holding.Reads as cell-holding-reads
-use Rattle.window.proofs.window_of.Reads as window-of-reads
 
--- src/lib.rt:97:9
 window-of-requires : tie.Need-window-of-requires
 window-of-requires c κs = search needs
 
--- src/lib.rt:98:9
 cell-holding-requires : tie.Need-cell-holding-requires
 cell-holding-requires c κs = search needs
 
--- src/lib.rt:99:9
 connected-state-at-requires : tie.Need-connected-state-at-requires
 connected-state-at-requires c κs = search needs
 
--- src/lib.rt:76:1
 returns : tie.Need-returns
-returns c = ?
+returns c =
+    let at-window = c .before .before in
+    let s = at-window .before .before .before .before in
+    let told = rw (at-window .window-of .ensures, c .before .cell-holding .ensures, toZ-ofZ w32 (s .args .ox) (s .fits .ox), toZ-ofZ w32 (s .args .oy) (s .fits .oy), toZ-ofZ w32 (s .args .oz) (s .fits .oz), toZ-ofZ w32 (s .args .lowest) (s .fits .lowest), toZ-ofZ w32 (s .args .highest) (s .fits .highest)) at (c .connected-state-at .ensures) in
+    ap (λ (a : StateAnswer). a .state) told
 
 pub boltjuniper-connected-spec : {M : Type 1} → statement M
 boltjuniper-connected-spec =
