@@ -136,11 +136,14 @@ fn main() {
             states += 1;
             turned += usize::from(theirs != state);
         }
-        // areas of a body's size and larger
-        for _ in 0..4 {
+        // areas of a body's size and larger, and all that has its neighbours in the window
+        for n in 0..4 {
             let mut from = |low: f64, high: f64| low + (high - low) * f64::from(next(4096)) / 4096.0;
             let (x, y, z) = (from(1.0, 5.0), from(1.0, 4.0), from(1.0, 5.0));
-            let area = [x, y, z, x + from(0.0, 6.0 - x), y + from(0.0, 2.0), z + from(0.0, 6.0 - z)];
+            let area = match n {
+                0 => [1.0, 1.0, 1.0, 5.75, y, 5.75],
+                _ => [x, y, z, x + from(0.0, 6.0 - x), y + from(0.0, 2.0), z + from(0.0, 6.0 - z)],
+            };
             let theirs = rusts(&registry, &cells, &area);
             if theirs.len() > MOST_BOXES {
                 assert_eq!(ours.collected(&cells, &area), Err(6), "yard {k}, {area:?}");
