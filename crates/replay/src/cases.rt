@@ -25,7 +25,8 @@ fn put_support(s: Support) {
 pub(crate) fn put_case(file: &[u8]) {
     let a = scene::tick_of(file);
     if a.refusal == 0 {
+        let support = a.support;
         crate::text::put(b"; friction ");
-        put_support(a.support);
+        put_support(support);
     }
 }
