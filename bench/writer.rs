@@ -1,5 +1,5 @@
 //! The scene writer: what it costs to write a word of a file, for contents that were checked before, and beside it the whole call with the checks of 1 to
-//! 4. The original has no writer, so there is nothing to compare with but a copy of as many bytes.
+//! 4. The original has no writer, so there is nothing to compare with.
 use std::hint::black_box;
 use std::time::Instant;
 
@@ -53,13 +53,12 @@ fn least(passes: u32, mut call: impl FnMut()) -> f64 {
 }
 
 fn time(what: &str, s: &Scene, blocks: u64) {
-    let (mut out, mut copy) = (vec![0u8; 65536], vec![0u8; 65536]);
+    let mut out = vec![0u8; 65536];
     assert_eq!(write(s, false, &mut out), blocks * 512, "{what}");
     let words = (blocks * 128) as f64;
     let written = least(20000, || { black_box(write(black_box(s), true, black_box(&mut out))); });
     let whole = least(2000, || { black_box(write(black_box(s), false, black_box(&mut out))); });
-    let copied = least(20000, || { copy.copy_from_slice(black_box(&out)); black_box(&mut copy); });
-    println!("{what:<44} {written:9.0} ns  {:5.2} ns a word   with 1 to 4 {whole:9.0} ns   a copy of 64 KB {copied:6.0} ns", written / words);
+    println!("{what:<44} {written:9.0} ns  {:5.2} ns a word   with 1 to 4 {whole:9.0} ns", written / words);
 }
 
 fn main() {

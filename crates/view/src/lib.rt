@@ -1,9 +1,6 @@
-// The window as one view: the lent cells and their numbers in one struct, and the thin functions that hand both on to what is proved over slice
-// and numbers. The borrow checker covers no function over such a struct, so each is proved by hand: keep them few.
+// The move and the step that take a view, and the three for a caller that has cells and numbers apart. The borrow checker covers no function over a
+// view, so each is proved by hand: keep them few.
 ghost use mathlib.Core.Path.{_≡_};
-ghost use lib.ListN.{length};
-ghost use Rattle.window.specs.Window.{windowRefusal};
-ghost use Rattle.window.specs.Look.{lookAt, asked};
 ghost use Rattle.moves.specs.Answers.{moveEntry};
 ghost use Rattle.step.specs.Answers.{checkedEntry, stepEntry};
 use boxes::Aabb;
@@ -13,35 +10,8 @@ use bodies::BodyNumbers;
 use bodies::MotionNumbers;
 use bodies::Rules;
 use step::StepAnswer;
-use window::Cell;
-use window::Pos;
 use window::Window;
-
-pub struct View<'a> {
-    pub cells: &'a [u32],
-    pub window: Window,
-}
-
-// These cells, with these numbers.
-pub fn view_of<'a>(cells: &'a [u32], w: Window) -> View<'a>
-    ensures { λ r. ⌜ (r .cells ≡ cells .entry) × (r .window ≡ w) ⌝ }
-{
-    View { cells, window: w }
-}
-
-// The check of a view that a host hands in: 0, or 2.
-pub fn check_view<'a>(v: View<'a>) -> u32
-    ensures { λ r. ⌜ r ≡ windowRefusal (now (v .entry .cells)) (v .entry .window) ⌝ }
-{
-    window::check_window(v.cells, v.window)
-}
-
-// The look-up of the cell at p.
-pub fn look_view<'a>(v: View<'a>, p: Pos) -> Cell
-    ensures { λ r. ⌜ asked r ≡ lookAt (now (v .entry .cells)) (v .entry .window) p ⌝ }
-{
-    window::look(v.cells, v.window, p)
-}
+use window_view::View;
 
 // For hosts: the move through a view, refused as `moves::move_aabb` refuses.
 pub fn move_view<'r, 's, 'a>(
@@ -104,7 +74,7 @@ pub fn move_window(
 ) -> MoveAnswer
     ensures { λ r. ⌜ r ≡ moveEntry (now (records .entry)) (now (shapes .entry)) (now (cells .entry)) w aabb delta step ground ⌝ }
 {
-    move_view(records, shapes, view_of(cells, w), aabb, delta, step, ground)
+    move_view(records, shapes, window_view::view_of(cells, w), aabb, delta, step, ground)
 }
 
 pub fn step_window(
@@ -112,7 +82,7 @@ pub fn step_window(
 ) -> StepAnswer
     ensures { λ r. ⌜ r ≡ stepEntry (now (records .entry)) (now (shapes .entry)) (now (cells .entry)) w rules body given age ⌝ }
 {
-    step_view(records, shapes, view_of(cells, w), rules, body, given, age)
+    step_view(records, shapes, window_view::view_of(cells, w), rules, body, given, age)
 }
 
 pub fn checked_window(
@@ -120,5 +90,5 @@ pub fn checked_window(
 ) -> StepAnswer
     ensures { λ r. ⌜ r ≡ checkedEntry (now (records .entry)) (now (shapes .entry)) (now (cells .entry)) w rules body given age ⌝ }
 {
-    checked_view(records, shapes, view_of(cells, w), rules, body, given, age)
+    checked_view(records, shapes, window_view::view_of(cells, w), rules, body, given, age)
 }

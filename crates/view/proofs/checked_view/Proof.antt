@@ -54,10 +54,10 @@ use Rattle.bodies.proofs.MotionNumbers as Z
 use Rattle.bodies.proofs.MotionNumbers.Laws as Z′
 use Rattle.step.proofs.StepAnswer as R
 use Rattle.step.proofs.StepAnswer.Laws as R′
-use Rattle.view.specs.declared.View.{View}
-use Rattle.view.proofs.Apart.{Whole, Parts, apart}
-use Rattle.view.proofs.View as T
-use Rattle.view.proofs.View.Laws as T′
+use Rattle.window_view.specs.declared.View.{View}
+use Rattle.window_view.proofs.Apart.{Whole, Parts, apart}
+use Rattle.window_view.proofs.View as T
+use Rattle.window_view.proofs.View.Laws as T′
 use Rattle.step.proofs.step_checked as callee
 use Rattle.step.proofs.step_checked.Symbol as callee-def
 use Rattle.step.proofs.step_checked.Symbol.{name as #step·step-checked}

@@ -53,10 +53,10 @@ use Rattle.boxes.proofs.Vec3 as Y
 use Rattle.boxes.proofs.Vec3.Laws as Y′
 use Rattle.sweeps.proofs.MoveAnswer as R
 use Rattle.sweeps.proofs.MoveAnswer.Laws as R′
-use Rattle.view.specs.declared.View.{View}
-use Rattle.view.proofs.Apart.{Whole, Parts, apart}
-use Rattle.view.proofs.View as T
-use Rattle.view.proofs.View.Laws as T′
+use Rattle.window_view.specs.declared.View.{View}
+use Rattle.window_view.proofs.Apart.{Whole, Parts, apart}
+use Rattle.window_view.proofs.View as T
+use Rattle.window_view.proofs.View.Laws as T′
 use Rattle.moves.proofs.move_aabb as callee
 use Rattle.moves.proofs.move_aabb.Symbol as callee-def
 use Rattle.moves.proofs.move_aabb.Symbol.{name as #moves·move-aabb}

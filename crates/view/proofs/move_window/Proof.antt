@@ -52,13 +52,13 @@ use Rattle.boxes.proofs.Vec3 as Y
 use Rattle.boxes.proofs.Vec3.Laws as Y′
 use Rattle.sweeps.proofs.MoveAnswer as R
 use Rattle.sweeps.proofs.MoveAnswer.Laws as R′
-use Rattle.view.specs.declared.View.{View}
-use Rattle.view.proofs.View as T
-use Rattle.view.proofs.View.Laws as T′
-use Rattle.view.proofs.view_of as made
-use Rattle.view.proofs.view_of.Symbol as made-def
-use Rattle.view.proofs.view_of.Symbol.{name as #view·view-of}
-use Rattle.view.proofs.view_of.Met as made-thm
+use Rattle.window_view.specs.declared.View.{View}
+use Rattle.window_view.proofs.View as T
+use Rattle.window_view.proofs.View.Laws as T′
+use Rattle.window_view.proofs.view_of as made
+use Rattle.window_view.proofs.view_of.Symbol as made-def
+use Rattle.window_view.proofs.view_of.Symbol.{name as #view·view-of}
+use Rattle.window_view.proofs.view_of.Met as made-thm
 use Rattle.view.proofs.move_view as stepped
 use Rattle.view.proofs.move_view.Symbol as stepped-def
 use Rattle.view.proofs.move_view.Symbol.{name as #view·move-view}

@@ -20,9 +20,9 @@ use denote.Struct.Rest.{all-own, own-open}
 use denote.Struct.Values.{Values}
 use Rattle.window.proofs.Window as N
 use Rattle.window.proofs.Window.Laws as N′
-use Rattle.view.specs.declared.View.{View}
-use Rattle.view.proofs.View as T
-use Rattle.view.proofs.View.Laws as T′
+use Rattle.window_view.specs.declared.View.{View}
+use Rattle.window_view.proofs.View as T
+use Rattle.window_view.proofs.View.Laws as T′
 
 module _ {M : Type 1} (𝓤 : URA M) (H : Heap 𝓤) (A : Atoms 𝓤) (W : Given 𝓤 H A) (α : NamedLft) (d : View) (Rs : List RattleType) (a : Denots Rs) (vss : Valss Rs) where
   abbrev mach : List Val

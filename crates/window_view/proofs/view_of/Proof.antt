@@ -1,4 +1,4 @@
--- `view::view_of` meets its contract: a walk of its MIR, by hand. A view is made of the cells and the numbers passed, in the result's local.
+-- `window_view::view_of` meets its contract: a walk of its MIR, by hand. A view is made of the cells and the numbers passed, in the result's local.
 -- Both are Copy, so what each owns is had twice: once for the exit, and once inside the result.
 use mathlib.Core.Path.{refl}
 use Prim.Native.Nat.{ℕ}
@@ -36,13 +36,13 @@ use denote.Exit.{yes}
 use Rattle.window.specs.declared.Window.{Window}
 use Rattle.window.proofs.Window as N
 use Rattle.window.proofs.Window.Laws as N′
-use Rattle.view.specs.declared.View.{View}
-use Rattle.view.proofs.View as T
-use Rattle.view.proofs.View.Laws as T′
-use Rattle.view.proofs.view_of.Key.{name as #view·view-of}
-use Rattle.view.proofs.view_of as here
-use Rattle.view.proofs.view_of.Statement as stated
-use Rattle.view.proofs.view_of.Code as code
+use Rattle.window_view.specs.declared.View.{View}
+use Rattle.window_view.proofs.View as T
+use Rattle.window_view.proofs.View.Laws as T′
+use Rattle.window_view.proofs.view_of.Key.{name as #view·view-of}
+use Rattle.window_view.proofs.view_of as here
+use Rattle.window_view.proofs.view_of.Statement as stated
+use Rattle.window_view.proofs.view_of.Code as code
 
 abbrev stayed : Stays (here.ended .signature .params) (here.ended .kept)
 stayed = (stay-none-slice (0 ∷ []) tt (plain (λ _. u32)) yes, (stay-none (λ _. N.the-row) yes, tt))
