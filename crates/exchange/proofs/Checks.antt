@@ -1,7 +1,7 @@
 -- What the second check shows of two words exchanged: it stays as it was only where 2^32 divides the places apart times the difference of the words.
 -- Assumes nothing.
 use mathlib.Core.Path.{_≡_, sym, ap, _∙_, subst}
-use Prim.Native.Nat.{ℕ, _+_, _-_, _*_, _%_, _<_, _≤_}
+use Prim.Native.Nat.{ℕ, _+_, _*_, _%_, _<_, _≤_}
 use native.Mathlib.Decide.{decLe, decLt}
 use native.Mathlib.Omega.{arith}
 use Rattle.blocks.specs.Blocks.{sumOf}

@@ -5,18 +5,16 @@ use mathlib.Core.Path.{_≡_, refl, sym, ap, _∙_}
 use Prim.Native.Nat.{ℕ, _+_, _-_, _*_, _/_, _%_, _^_, _<_, _≤_}
 use native.Mathlib.Decide.{decLt}
 use native.Mathlib.Omega.{arith}
-use lib.Dec.{eqb}
 use lib.ListN.{length, getD}
 use borrow.Author.Tests.{eq-eqb, ne-eqb}
 use Rattle.base.specs.Choose.{choose}
-use Rattle.base.specs.Loop.{listed}
-use Rattle.blocks.specs.Blocks.{blockOf, fileWord, isSecond, blockFits}
+use Rattle.blocks.specs.Blocks.{blockOf, fileWord, isSecond}
 use Rattle.blocks.proofs.Words.{word-fits, block-small, block-word}
 use Rattle.files.specs.Files.{isScene}
-use Rattle.files.proofs.Told.{Fitting, each-block}
+use Rattle.files.proofs.Told.{each-block}
 use Rattle.part_writer.proofs.Listed.{listed-length, listed-from}
-use Rattle.exchange.specs.Exchange.{apart, Among, Exchange, Exchanged, from, exchange, wordOf, OddRefused, OnlyMultiples, LastBits, SmallRefused, BlockRefused}
-use Rattle.exchange.proofs.Powers.{Multiple, even-cancels, small-cancels, remainder, none}
+use Rattle.exchange.specs.Exchange.{apart, Among, Exchanged, from, exchange, wordOf, OddRefused, OnlyMultiples, LastBits, SmallRefused, BlockRefused}
+use Rattle.exchange.proofs.Powers.{even-cancels, small-cancels, remainder, none}
 use Rattle.exchange.proofs.Blocks.{only-multiples}
 
 -- ---- which word comes to stand where

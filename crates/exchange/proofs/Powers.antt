@@ -1,5 +1,5 @@
 -- Which numbers a product with 2^n for a divisor leaves: an odd factor takes nothing away, and a factor below 2^m less than m twos. Assumes nothing.
-use mathlib.Core.Path.{_≡_, refl, sym, ap, _∙_}
+use mathlib.Core.Path.{_≡_, sym, ap, _∙_}
 use Prim.Native.Nat.{ℕ, zero, suc, _+_, _-_, _*_, _/_, _%_, _^_, _<_, _≤_}
 use native.Mathlib.Nat.{pow-succ', pow-zero, mul-mod-right, eq-of-mul-eq-mul-left}
 use native.Mathlib.Decide.{decLt}

@@ -1,5 +1,6 @@
 // The scene on standard input, as the writer makes it of its contents, on standard output; or `refused N`. Nothing that matters is here;
-// `scene::rewrite` has the contract, and crates/rounds shows that a file which passes 8 and 1 to 4 comes out as it went in.
+// `scene::rewrite` has the contract, and crates/rounds shows that a file which passes 8 and 1 to 4 comes out as it went in, or, where it had the old mark,
+// with the same numbers under the new one.
 ghost use mathlib.Core.Path.{_≡_};
 ghost use lib.ListN.{length};
 

@@ -2,34 +2,33 @@
 use mathlib.Core.Bool.{Bool, true, false, _&&_}
 use mathlib.Core.List.{List}
 use mathlib.Core.Path.{_≡_, refl, sym, ap, subst, _∙_}
-use Prim.Native.Nat.{ℕ, _+_, _-_, _*_, _<_, _≤_}
+use Prim.Native.Nat.{ℕ, _*_, _<_, _≤_}
 use native.Mathlib.Decide.{decLt}
 use native.Mathlib.Omega.{arith}
-use lib.Dec.{T, eqb, ltb, ltb→lt}
+use lib.Dec.{T, eqb}
 use lib.ListN.{length, getD, List·getD-eq-default}
 use lib.Signed.{mag}
-use lib.Ieee.{Float, binary32, binary64, fits, ofBits}
+use lib.Ieee.{binary32, binary64, fits, ofBits}
 use lib.Ieee.Bits.{ofBits-fits}
 use borrow.Author.Tests.{lt-ltb, le-ltb, eqb-true}
 use Rattle.base.specs.Choose.{choose}
-use Rattle.base.specs.Loop.{listed, stored}
+use Rattle.base.specs.Loop.{listed}
 use Rattle.floats.specs.Numbers.{zero64}
-use Rattle.window.specs.Numbers.{withAir}
-use Rattle.lent_words.specs.Words.{Signed, signedWord, wideOf, windowFrom}
+use Rattle.lent_words.specs.Words.{signedWord, wideOf}
 use Rattle.blocks.specs.declared.Part.{Part}
-use Rattle.blocks.specs.Blocks.{isSecond, partWord, bodyPart, recordPart, boxPart, windowPart, cellPart}
+use Rattle.blocks.specs.Blocks.{partWord, bodyPart, recordPart, boxPart, windowPart, cellPart}
 use Rattle.files.specs.declared.Counts.{Counts}
-use Rattle.files.specs.Places.{wordPlace, flapNumber, presentWord, airWord}
+use Rattle.files.specs.Places.{wordPlace, flapNumber, presentWord}
 use Rattle.files.specs.Files.{bodyWord, windowIn, countsOf, blocksFor, isScene}
 use Rattle.files.specs.Contents.{Contents, bodyFloat, lateWord, ageIn, wordsOf, singlesOf, contentsIn}
-use Rattle.files.proofs.Told.{Told, tells}
+use Rattle.files.proofs.Told.{tells}
 use Rattle.part_writer.specs.Bytes.{wordIn}
 use Rattle.part_writer.proofs.Listed.{listed-length, listed-from}
 use Rattle.writer.specs.Contents.{countsFor, isAbsent, writtenNumber, asWritten}
-use Rattle.writer.specs.Written.{bytesBy, sceneBytes, sceneBlocks, refusalOf, writtenBy, writtenScene}
+use Rattle.writer.specs.Written.{sceneBlocks, refusalOf, writtenBy}
 use Rattle.writer.proofs.Puts.{bytes-length}
 use Rattle.rounds.specs.Rounds.{Typed, SameNumbers, WrittenAnew}
-use Rattle.rounds.proofs.Passed.{Passed, passed}
+use Rattle.rounds.proofs.Passed.{passed}
 use Rattle.rounds.proofs.Written.{listed-list, new-mark, is-scene, contents-read}
 use Rattle.rounds.proofs.Read.{part-word-fits, counts-same, word-same, number-same, flap-wide, none-refused, size-same}
 

@@ -1,37 +1,34 @@
 -- Read, then written: a file that passes 8 and 1 to 4 is, byte for byte, what the writer makes of its contents. Assumes nothing.
 use mathlib.Core.Bool.{Bool, true, false, _&&_}
-use mathlib.Core.List.{List, [], _++_}
+use mathlib.Core.List.{List}
 use mathlib.Core.Path.{_≡_, refl, sym, ap, _∙_}
 use Prim.Native.Nat.{ℕ, zero, suc, _+_, _-_, _*_, _/_, _%_, _<_, _≤_}
 use native.Mathlib.Decide.{decLt}
 use native.Mathlib.Omega.{arith}
-use lib.Dec.{T, eqb, leb, ltb}
-use lib.ListN.{length, getD, take, drop, List·getD-eq-default, length-take}
-use lib.Seq.{take-all, getD-take, getD-drop}
-use lib.Ieee.{Float, binary32, binary64, isNan, ofBits, toBits}
+use lib.Dec.{eqb, ltb}
+use lib.ListN.{length, getD, take}
+use lib.Seq.{take-all}
+use lib.Ieee.{binary32, binary64, isNan, ofBits, toBits}
 use lib.Ieee.Bits.{toBits-ofBits}
-use borrow.Author.Tests.{lt-ltb, le-ltb, eq-eqb, ne-eqb, eqb-true, leb-true}
+use borrow.Author.Tests.{lt-ltb, le-ltb, eqb-true}
 use Rattle.base.specs.Choose.{choose}
-use Rattle.base.specs.Loop.{listed, stored}
 use Rattle.base.proofs.Every.{both}
 use Rattle.floats.specs.Numbers.{zero64}
-use Rattle.cover.specs.Cover.{boxCount}
-use Rattle.table_check.specs.Check.{stateCount}
-use Rattle.lent_words.specs.Words.{wideOf, lowOf, highOf, windowFrom, windowWords}
+use Rattle.lent_words.specs.Words.{wideOf, windowWords}
 use Rattle.lent_words.proofs.Rounds.{low-wide, high-wide, words-back}
 use Rattle.blocks.specs.declared.Part.{Part}
-use Rattle.blocks.specs.Blocks.{blockOf, fileWord, isSecond, partWord, partFits, perBlock, endOf, bodyPart, recordPart, boxPart, windowPart, cellPart}
+use Rattle.blocks.specs.Blocks.{blockOf, fileWord, isSecond, partWord, perBlock, bodyPart, recordPart, boxPart, windowPart, cellPart}
 use Rattle.blocks.proofs.Words.{word-fits, block-small}
 use Rattle.files.specs.declared.Counts.{Counts}
 use Rattle.files.proofs.Told.{Told, tells}
-use Rattle.files.specs.Places.{numberPlace, agePlace, wordPlace, statesPlace, boxesPlace, flapNumber, presentWord, airWord}
-use Rattle.files.specs.Files.{bodyWord, flapFits, windowIn, sizesIn, countsIn, countsFit, countsOf, partsFit, blocksFor, blocksFit, isScene}
-use Rattle.files.specs.Contents.{Contents, bodyFloat, numbersIn, lateWord, lateWords, ageIn, wordsOf, singlesOf, contentsIn}
+use Rattle.files.specs.Places.{numberPlace, wordPlace, statesPlace, boxesPlace, flapNumber, presentWord, airWord}
+use Rattle.files.specs.Files.{bodyWord, flapFits, windowIn, countsIn, countsOf, blocksFor, isScene}
+use Rattle.files.specs.Contents.{Contents, bodyFloat, lateWord, ageIn, wordsOf, singlesOf, contentsIn}
 use Rattle.part_writer.specs.Bytes.{partBytes, wordIn, bitsIn}
 use Rattle.part_writer.proofs.Listed.{listed-length, listed-from}
-use Rattle.part_writer.proofs.Parts.{Holds, fits-holds, holds-next, part-same}
+use Rattle.part_writer.proofs.Parts.{fits-holds, holds-next, part-same}
 use Rattle.writer.specs.Contents.{countsFor, isAbsent, writtenNumber}
-use Rattle.writer.specs.Written.{halfOf, bodyWordOf, bytesBy, sceneBytes, sceneBlocks, roomFor, roomRefusal, refusalOf, sceneRefusal, writtenBy, answerBy, writtenScene, sceneAnswer}
+use Rattle.writer.specs.Written.{halfOf, bodyWordOf, bytesBy, sceneBytes, sceneBlocks, roomFor, roomRefusal, refusalOf, sceneRefusal, writtenBy, answerBy}
 use Rattle.writer.proofs.Puts.{room-enough}
 use Rattle.rounds.specs.Rounds.{ComesOut, ReadThenWritten}
 use Rattle.rounds.proofs.Passed.{Passed, passed}
