@@ -49,14 +49,18 @@ fn put_joined(text: &[u8]) {
     }
 }
 
+fn put_lines(file: &[u8]) {
+    let mut out = answer_room();
+    let m = scene::answer(file, &mut out);
+    put_joined(crate::text::part(&out, 0, m));
+}
+
 fn is_converted(n: u32) -> bool {
     (1000 <= n) & (n < 2000)
 }
 
 fn put_answer(n: u32, file: &[u8]) {
-    let mut out = answer_room();
-    let m = scene::answer(file, &mut out);
-    put_joined(crate::text::part(&out, 0, m));
+    put_lines(file);
     if is_converted(n) {
         return;
     }
@@ -69,44 +73,16 @@ fn put_refusal(refusal: u32) {
     crate::text::put(&last);
 }
 
-// Whether byte k is of a mark or of a check: words 0, 126 and 127 of a block.
-fn is_sealing(k: usize) -> bool {
-    let at = k % 512;
-    if at < 4 {
-        return true;
-    }
-    at >= 504
-}
-
-fn differs(a: &[u8], b: &[u8], k: usize) -> bool {
-    if is_sealing(k) {
-        return false;
-    }
-    crate::text::byte(a, k) != crate::text::byte(b, k)
-}
-
-// The same blocks but for their marks and checks.
-fn same_numbers(a: &[u8], b: &[u8]) -> bool {
-    let mut same = a.len() == b.len();
-    for k in 0..a.len() {
-        if differs(a, b, k) {
-            same = false;
-        }
-    }
-    same
-}
-
-// What became of a file that was written anew: the same file; where it had the old mark, the same numbers under the new one.
+// What became of a file that was written anew: the same file; or, where it had the old mark, one of the new mark, with its tick.
 fn put_likeness(anew: &[u8], file: &[u8]) {
     if suffixes::equals(anew, file) {
         crate::text::put(b"same");
         return;
     }
     if suffixes::equals(crate::text::part(anew, 0, 4), b"SCN2") {
-        if same_numbers(anew, file) {
-            crate::text::put(b"same numbers, new mark");
-            return;
-        }
+        crate::text::put(b"new mark, ");
+        put_lines(anew);
+        return;
     }
     crate::text::put(b"another file");
 }

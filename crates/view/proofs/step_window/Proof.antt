@@ -58,7 +58,7 @@ use Rattle.window_view.proofs.View as T
 use Rattle.window_view.proofs.View.Laws as T′
 use Rattle.window_view.proofs.view_of as made
 use Rattle.window_view.proofs.view_of.Symbol as made-def
-use Rattle.window_view.proofs.view_of.Symbol.{name as #view·view-of}
+use Rattle.window_view.proofs.view_of.Symbol.{name as #window-view·view-of}
 use Rattle.window_view.proofs.view_of.Met as made-thm
 use Rattle.view.proofs.step_view as stepped
 use Rattle.view.proofs.step_view.Symbol as stepped-def
@@ -198,7 +198,7 @@ module _ {M : Type 1} (𝓤 : URA M) (H : Heap 𝓤) (A : Atoms 𝓤) (W : Given
   same : (v : View) (r : StepAnswer) → (v .cells ≡ cells) × (v .window ≡ w) → r ≡ stepEntry (now records) (now shapes) (now (v .cells)) (v .window) rules body motion age → r ≡ told
   same v r e e′ = e′ ∙ (ap (λ (x : RefT (List ℕ)). stepEntry (now records) (now shapes) (now x) (v .window) rules body motion age) (e .0) ∙ ap (λ (x : Window). stepEntry (now records) (now shapes) (now cells) x rules body motion age) (e .1))
 
-  module _ (C : Calls 𝓤 H) (Λ : Loops 𝓤 H) (fm : FmC 𝓤 H (W .laws) C) (known-make : Triple 𝓤 (C #view·view-of) (Makes 𝓤 H A mem run)) (known-step : Triple 𝓤 (C #view·step-view) (Steps 𝓤 H A mem run)) where
+  module _ (C : Calls 𝓤 H) (Λ : Loops 𝓤 H) (fm : FmC 𝓤 H (W .laws) C) (known-make : Triple 𝓤 (C #window-view·view-of) (Makes 𝓤 H A mem run)) (known-step : Triple 𝓤 (C #view·step-view) (Steps 𝓤 H A mem run)) where
     walk : Is (ShrSlice (named 0) (κs .0) u32) records (sliceVal (records .ptr) (length (records .now)) ∷ []) → Is (ShrSlice (named 1) (κs .1 .0) f32) shapes (sliceVal (shapes .ptr) (length (shapes .now)) ∷ []) → Is (ShrSlice (named 2) (κs .1 .1 .0) u32) cells (sliceVal (cells .ptr) (length (cells .now)) ∷ []) → Is N.the-row w (N′.lowered w ∷ []) → Are Rs (Ises Rs) rest rest-at
         → ent 𝓤 (onEntry 𝓤 H A here.signature κs qs given at) (WpFn 𝓤 H C Λ code.function (sliceVal (records .ptr) (length (records .now)) ∷ sliceVal (shapes .ptr) (length (shapes .now)) ∷ sliceVal (cells .ptr) (length (cells .now)) ∷ N′.lowered w ∷ X′.lowered rules ∷ Y′.lowered body ∷ Z′.lowered motion ∷ vint w64 age ∷ []) Post)
     walk is-records is-shapes is-cells is-w are =
@@ -228,13 +228,13 @@ module _ {M : Type 1} (𝓤 : URA M) (H : Heap 𝓤) (A : Atoms 𝓤) (W : Given
         move ! (21 ∷ 22 ∷ []) $ free1 ! $ move ! (19 ∷ 20 ∷ []) $ free1 ! $ move ! (17 ∷ 18 ∷ []) $ free1 ! $ move ! (15 ∷ 16 ∷ []) $ free1 ! $ move ! (13 ∷ 14 ∷ []) $ free1 ! $ move ! (11 ∷ 12 ∷ []) $ free1 ! $ move ! (9 ∷ 10 ∷ []) $ free1 ! $ move ! (7 ∷ 8 ∷ []) $ free1 ! $ move ! (5 ∷ 6 ∷ []) $ free1 ! $ move ! (3 ∷ 4 ∷ []) $ free1 ! $ free0 ! $ by ! (exits r u′ (same v r e e′))))))))))))))))))))
 
 module _ {M : Type 1} (𝓤 : URA M) (H : Heap 𝓤) (A : Atoms 𝓤) (W : Given 𝓤 H A) (mem : Memory → SProp 𝓤) (run : Routine → Fun 𝓤) where
-  walks : (C : Calls 𝓤 H) (Λ : Loops 𝓤 H) → FmC 𝓤 H (W .laws) C → Triple 𝓤 (C #view·view-of) (Makes 𝓤 H A mem run) → Triple 𝓤 (C #view·step-view) (Steps 𝓤 H A mem run) → Walks 𝓤 H A here.ended stayed (WpFn 𝓤 H C Λ code.function) (here.clauses 𝓤 H A mem run)
+  walks : (C : Calls 𝓤 H) (Λ : Loops 𝓤 H) → FmC 𝓤 H (W .laws) C → Triple 𝓤 (C #window-view·view-of) (Makes 𝓤 H A mem run) → Triple 𝓤 (C #view·step-view) (Steps 𝓤 H A mem run) → Walks 𝓤 H A here.ended stayed (WpFn 𝓤 H C Λ code.function) (here.clauses 𝓤 H A mem run)
   walks C Λ fm known-make known-step =
       walked 𝓤 H A here.ended stayed (here.clauses 𝓤 H A mem run) (WpFn 𝓤 H C Λ code.function) (λ κs. (slice-vals, (slice-vals, (slice-vals, (LL.vals N.the-type N′.the-laws, (LL.vals X.the-type X′.the-laws, (LL.vals Y.the-type Y′.the-laws, (LL.vals Z.the-type Z′.the-laws, (uint-vals w64, tt))))))))) (λ κs. (shr-slice-tells (named 0) (κs .0) u32, (shr-slice-tells (named 1) (κs .1 .0) f32, (shr-slice-tells (named 2) (κs .1 .1 .0) u32, (LL.tells N.the-type N′.the-laws, (LL.tells X.the-type X′.the-laws, (LL.tells Y.the-type Y′.the-laws, (LL.tells Z.the-type Z′.the-laws, (uint-tells w64, tt)))))))))
       (λ κs qs bounds a g are. via 𝓤 _ (fst∗ 𝓤 _ (emp 𝓤)) (walk 𝓤 H A W mem run κs qs (a .0) (a .1 .0) (a .1 .1 .0) (a .1 .1 .1 .0) (a .1 .1 .1 .1 .0) (a .1 .1 .1 .1 .1 .0) (a .1 .1 .1 .1 .1 .1 .0) (a .1 .1 .1 .1 .1 .1 .1 .0) C Λ fm known-make known-step (are .0) (are .1 .0) (are .1 .1 .0) (are .1 .1 .1 .0) (are .1 .1 .1 .1)))
 
 meets : {M : Type 1} (𝓤 : URA M) (H : Heap 𝓤) (A : Atoms 𝓤) (W : Given 𝓤 H A) (mem : Memory → SProp 𝓤) (run : Routine → Fun 𝓤) (𝓣 : Tables 𝓤 H)
-    → Triple 𝓤 (𝓣 .C #view·view-of) (Makes 𝓤 H A mem run) → Triple 𝓤 (𝓣 .C #view·step-view) (Steps 𝓤 H A mem run) → Meets 𝓤 H A here.signature (WpFn 𝓤 H (𝓣 .C) (𝓣 .Λ) code.function) (here.spec 𝓤 H A mem run)
+    → Triple 𝓤 (𝓣 .C #window-view·view-of) (Makes 𝓤 H A mem run) → Triple 𝓤 (𝓣 .C #view·step-view) (Steps 𝓤 H A mem run) → Meets 𝓤 H A here.signature (WpFn 𝓤 H (𝓣 .C) (𝓣 .Λ) code.function) (here.spec 𝓤 H A mem run)
 meets 𝓤 H A W mem run 𝓣 known-make known-step =
     walk-meets 𝓤 H A here.ended stayed W (goes-none-slice 𝓤 H A W 3 (0 ∷ []) tt (plain (λ _. u32)) yes, (goes-none-slice 𝓤 H A W 3 (1 ∷ []) tt (plain (λ _. f32)) yes, (goes-none-slice 𝓤 H A W 3 (2 ∷ []) tt (plain (λ _. u32)) yes, (goes-none 𝓤 H A W 3 (λ _. N.the-row) yes (λ κs x f. refl), (goes-none 𝓤 H A W 3 (λ _. X.the-row) yes (λ κs x f. refl), (goes-none 𝓤 H A W 3 (λ _. Y.the-row) yes (λ κs x f. refl), (goes-none 𝓤 H A W 3 (λ _. Z.the-row) yes (λ κs x f. refl), (goes-none 𝓤 H A W 3 (λ _. u64) yes (λ κs x f. refl), tt)))))))) (here.clauses 𝓤 H A mem run) (WpFn 𝓤 H (𝓣 .C) (𝓣 .Λ) code.function) (WpFn-mono 𝓤 H (W .laws) 𝓣 code.function)
     (walks 𝓤 H A W mem run (𝓣 .C) (𝓣 .Λ) (fmOf 𝓤 H (W .laws) 𝓣) known-make known-step)
@@ -245,5 +245,5 @@ step-window-spec 𝓤 H 𝓜 𝓖 𝓡 =
     entered 𝓤 H (tripleOf 𝓤 H (𝓖 .A) here.signature (here.spec 𝓤 H (𝓖 .A) (𝓜 .mem) (𝓡 .run)))
     (tables 𝓤 H 𝓜 𝓡 code.env .C) (tables 𝓤 H 𝓜 𝓡 code.env .Λ) #view·step-window code.function (code.unfolded 𝓤 H 𝓜 𝓡)
     (meets 𝓤 H (𝓖 .A) (givenOf 𝓤 H 𝓜 𝓖) (𝓜 .mem) (𝓡 .run) (tablesOf 𝓤 H 𝓜 (tables 𝓤 H 𝓜 𝓡 code.env))
-    (cited 𝓤 H (Makes 𝓤 H (𝓖 .A) (𝓜 .mem) (𝓡 .run)) 𝓜 𝓡 code.env #view·view-of made-def.routine code.calls-view·view-of (made-thm.met 𝓤 H 𝓜 𝓖 𝓡))
+    (cited 𝓤 H (Makes 𝓤 H (𝓖 .A) (𝓜 .mem) (𝓡 .run)) 𝓜 𝓡 code.env #window-view·view-of made-def.routine code.calls-window-view·view-of (made-thm.met 𝓤 H 𝓜 𝓖 𝓡))
     (cited 𝓤 H (Steps 𝓤 H (𝓖 .A) (𝓜 .mem) (𝓡 .run)) 𝓜 𝓡 code.env #view·step-view stepped-def.routine code.calls-view·step-view (stepped-thm.met 𝓤 H 𝓜 𝓖 𝓡)))

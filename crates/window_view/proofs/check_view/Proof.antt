@@ -49,7 +49,7 @@ use Rattle.window.proofs.check_window as callee
 use Rattle.window.proofs.check_window.Symbol as callee-def
 use Rattle.window.proofs.check_window.Symbol.{name as #window·check-window}
 use Rattle.window.proofs.check_window.Met as callee-thm
-use Rattle.window_view.proofs.check_view.Key.{name as #view·check-view}
+use Rattle.window_view.proofs.check_view.Key.{name as #window-view·check-view}
 use Rattle.window_view.proofs.check_view as here
 use Rattle.window_view.proofs.check_view.Statement as stated
 use Rattle.window_view.proofs.check_view.Code as code
@@ -159,6 +159,6 @@ pub check-view-spec : {M : Type 1} → stated.statement M
 unfolding code.routine tablesOf
 check-view-spec 𝓤 H 𝓜 𝓖 𝓡 =
     entered 𝓤 H (tripleOf 𝓤 H (𝓖 .A) here.signature (here.spec 𝓤 H (𝓖 .A) (𝓜 .mem) (𝓡 .run)))
-    (tables 𝓤 H 𝓜 𝓡 code.env .C) (tables 𝓤 H 𝓜 𝓡 code.env .Λ) #view·check-view code.function (code.unfolded 𝓤 H 𝓜 𝓡)
+    (tables 𝓤 H 𝓜 𝓡 code.env .C) (tables 𝓤 H 𝓜 𝓡 code.env .Λ) #window-view·check-view code.function (code.unfolded 𝓤 H 𝓜 𝓡)
     (meets 𝓤 H (𝓖 .A) (givenOf 𝓤 H 𝓜 𝓖) (𝓜 .mem) (𝓡 .run) (tablesOf 𝓤 H 𝓜 (tables 𝓤 H 𝓜 𝓡 code.env))
     (cited 𝓤 H (Plain 𝓤 H (𝓖 .A) (𝓜 .mem) (𝓡 .run)) 𝓜 𝓡 code.env #window·check-window callee-def.routine code.calls-window·check-window (callee-thm.met 𝓤 H 𝓜 𝓖 𝓡)))

@@ -55,7 +55,7 @@ use Rattle.window.proofs.look as callee
 use Rattle.window.proofs.look.Symbol as callee-def
 use Rattle.window.proofs.look.Symbol.{name as #window·look}
 use Rattle.window.proofs.look.Met as callee-thm
-use Rattle.window_view.proofs.look_view.Key.{name as #view·look-view}
+use Rattle.window_view.proofs.look_view.Key.{name as #window-view·look-view}
 use Rattle.window_view.proofs.look_view as here
 use Rattle.window_view.proofs.look_view.Statement as stated
 use Rattle.window_view.proofs.look_view.Code as code
@@ -166,6 +166,6 @@ pub look-view-spec : {M : Type 1} → stated.statement M
 unfolding code.routine tablesOf
 look-view-spec 𝓤 H 𝓜 𝓖 𝓡 =
     entered 𝓤 H (tripleOf 𝓤 H (𝓖 .A) here.signature (here.spec 𝓤 H (𝓖 .A) (𝓜 .mem) (𝓡 .run)))
-    (tables 𝓤 H 𝓜 𝓡 code.env .C) (tables 𝓤 H 𝓜 𝓡 code.env .Λ) #view·look-view code.function (code.unfolded 𝓤 H 𝓜 𝓡)
+    (tables 𝓤 H 𝓜 𝓡 code.env .C) (tables 𝓤 H 𝓜 𝓡 code.env .Λ) #window-view·look-view code.function (code.unfolded 𝓤 H 𝓜 𝓡)
     (meets 𝓤 H (𝓖 .A) (givenOf 𝓤 H 𝓜 𝓖) (𝓜 .mem) (𝓡 .run) (tablesOf 𝓤 H 𝓜 (tables 𝓤 H 𝓜 𝓡 code.env))
     (cited 𝓤 H (Plain 𝓤 H (𝓖 .A) (𝓜 .mem) (𝓡 .run)) 𝓜 𝓡 code.env #window·look callee-def.routine code.calls-window·look (callee-thm.met 𝓤 H 𝓜 𝓖 𝓡)))

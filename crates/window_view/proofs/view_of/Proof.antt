@@ -39,7 +39,7 @@ use Rattle.window.proofs.Window.Laws as N′
 use Rattle.window_view.specs.declared.View.{View}
 use Rattle.window_view.proofs.View as T
 use Rattle.window_view.proofs.View.Laws as T′
-use Rattle.window_view.proofs.view_of.Key.{name as #view·view-of}
+use Rattle.window_view.proofs.view_of.Key.{name as #window-view·view-of}
 use Rattle.window_view.proofs.view_of as here
 use Rattle.window_view.proofs.view_of.Statement as stated
 use Rattle.window_view.proofs.view_of.Code as code
@@ -103,5 +103,5 @@ pub view-of-spec : {M : Type 1} → stated.statement M
 unfolding code.routine tablesOf
 view-of-spec 𝓤 H 𝓜 𝓖 𝓡 =
     entered 𝓤 H (tripleOf 𝓤 H (𝓖 .A) here.signature (here.spec 𝓤 H (𝓖 .A) (𝓜 .mem) (𝓡 .run)))
-    (tables 𝓤 H 𝓜 𝓡 code.env .C) (tables 𝓤 H 𝓜 𝓡 code.env .Λ) #view·view-of code.function (code.unfolded 𝓤 H 𝓜 𝓡)
+    (tables 𝓤 H 𝓜 𝓡 code.env .C) (tables 𝓤 H 𝓜 𝓡 code.env .Λ) #window-view·view-of code.function (code.unfolded 𝓤 H 𝓜 𝓡)
     (view-of-meets 𝓤 H (𝓖 .A) (givenOf 𝓤 H 𝓜 𝓖) (𝓜 .mem) (𝓡 .run) (tablesOf 𝓤 H 𝓜 (tables 𝓤 H 𝓜 𝓡 code.env)))
