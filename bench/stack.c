@@ -46,12 +46,12 @@ static uint32_t answer;
     }
 
 CALL(check_tables, boltjuniper_check_tables(TABLES))
-CALL(step, boltjuniper_step(TABLES, WINDOW, numbers, 19, words, 6, age, out, 8))
-CALL(step_checked, boltjuniper_step_checked(TABLES, WINDOW, numbers, 19, words, 6, age, out, 8))
-CALL(step_falling, boltjuniper_step_falling(TABLES, WINDOW, numbers, 19, words, 6, age, 0, 0, out, 10))
+CALL(step, boltjuniper_step(TABLES, WINDOW, numbers, 19, words, 6, age, out, 10))
+CALL(step_checked, boltjuniper_step_checked(TABLES, WINDOW, numbers, 19, words, 6, age, out, 10))
+CALL(step_falling, boltjuniper_step_falling(TABLES, WINDOW, numbers, 19, words, 6, age, 0, 0, out, 12))
 CALL(midnight, boltjuniper_midnight(TABLES, night_window, BOLTJUNIPER_WINDOW_WORDS, 1, cells, cells_len(), night_numbers, BOLTJUNIPER_BODY_NUMBERS,
                                     night_words, BOLTJUNIPER_BODY_WORDS, 1, out, BOLTJUNIPER_ANSWER_NUMBERS))
-CALL(tick, boltjuniper_tick((const uint8_t *)file, file_bytes, out, 8))
+CALL(tick, boltjuniper_tick((const uint8_t *)file, file_bytes, out, 10))
 CALL(move, boltjuniper_move(TABLES, WINDOW, air, mover, 9, numbers[13], words[0], out, 10))
 CALL(move_over_list, boltjuniper_move_over_list(list, 6 * listed, mover, 9, numbers[13], words[0], out, 10))
 CALL(collected, boltjuniper_collected(TABLES, WINDOW, air, mover, 9, numbers[13], 0, out, 7))
@@ -69,7 +69,7 @@ static __attribute__((noipa)) uint32_t nothing_with(const uint32_t *a, size_t b,
     (void)q, (void)r, (void)s, (void)t, (void)u;
     return 0;
 }
-CALL(nothing, nothing_with(TABLES, WINDOW, numbers, 19, words, 6, age, out, 8))
+CALL(nothing, nothing_with(TABLES, WINDOW, numbers, 19, words, 6, age, out, 10))
 
 enum { A_FILE = 1, PARTS = 2, A_LIST = 4 };
 struct row { const char *name; void (*make)(void); int of; size_t calls, answered, stored, random, dearest; };

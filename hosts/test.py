@@ -107,7 +107,7 @@ def one_scene(name, theirs):
     early = theirs in ("refused 1", "refused 2")
     written = asked(b.write_scene, tables, window, body)
     first = early or theirs in ("refused 3", "refused 4")
-    COUNTS["write_scene"].add(name, tick_text(written) if first else written == renewed(data), theirs if first else True)
+    COUNTS["write_scene"].add(name, tick_text(written, theirs) if first else written == renewed(data), theirs if first else True)
     if not first:
         COUNTS["write_scene beside tools/scene"].add(name, written == scenefile.packed(scene), True)
     if not early:
