@@ -61,6 +61,12 @@ static inline uint32_t refused(uint64_t n) { return n < 512 ? (uint32_t)n : 0; }
 CALL(write_scene, refused(boltjuniper_write_scene(TABLES, WINDOW, numbers, 19, words, 6, age, recorded, sizeof recorded)))
 CALL(write_checked, refused(boltjuniper_write_checked(TABLES, WINDOW, numbers, 19, words, 6, age, recorded, sizeof recorded)))
 
+/* The classroom palette, which takes nothing of the input at hand. */
+static uint32_t palette_words[BOLTJUNIPER_PALETTE_WORDS];
+static float palette_numbers[BOLTJUNIPER_PALETTE_NUMBERS];
+CALL(palette_records, boltjuniper_palette_records(palette_words, BOLTJUNIPER_PALETTE_WORDS))
+CALL(palette_boxes, boltjuniper_palette_boxes(palette_numbers, BOLTJUNIPER_PALETTE_NUMBERS))
+
 /* What the others are to be held against: as many parameters as the step has, and nothing done. */
 static __attribute__((noipa)) uint32_t nothing_with(const uint32_t *a, size_t b, const float *c, size_t d, const uint32_t *e, size_t f, int32_t g,
                                                     int32_t h, int32_t i, uint32_t j, uint32_t k, uint32_t l, int32_t m, int32_t n, const double *o,
@@ -85,6 +91,8 @@ static struct row rows[] = {
     {"boltjuniper_check_tables", check_tables, PARTS, 0, 0, 0, 0, 0},
     {"boltjuniper_write_scene", write_scene, PARTS, 0, 0, 0, 0, 0},
     {"boltjuniper_write_checked", write_checked, PARTS, 0, 0, 0, 0, 0},
+    {"boltjuniper_palette_records", palette_records, PARTS, 0, 0, 0, 0, 0},
+    {"boltjuniper_palette_boxes", palette_boxes, PARTS, 0, 0, 0, 0, 0},
     {"a call that does nothing", nothing, PARTS, 0, 0, 0, 0, 0},
 };
 enum { ROWS = sizeof rows / sizeof *rows };

@@ -1,6 +1,7 @@
-/* Boltjuniper for hosts in C: the functions of crates/exports that a host calls, that of crates/shown, and those of crates/recorder. Link
+/* Boltjuniper for hosts in C: the functions of crates/exports that a host calls, and those of crates/shown, crates/recorder and crates/classroom. Link
    target/staticlib/libexports.a (`rt staticlib exports`) and libm; for boltjuniper_collected also target/staticlib/libshown.a (`rt staticlib
-   shown`). A recorder needs target/staticlib/librecorder.a alone (`rt staticlib recorder`), and libm.
+   shown`), and for the classroom palette target/staticlib/libclassroom.a (`rt staticlib classroom`). A recorder needs
+   target/staticlib/librecorder.a alone (`rt staticlib recorder`), and libm.
 
    A slice is a pointer and its number of elements, aligned as its type asks. Nothing beyond that number is read or written, what is handed
    in is only read, and `out` must not overlap it. Every call ends, and every input gets an answer: 0, or the number of a refusal
@@ -158,6 +159,18 @@ uint64_t boltjuniper_write_checked(const uint32_t *records, size_t records_len, 
                                    size_t cells_len, int32_t ox, int32_t oy, int32_t oz, uint32_t sx, uint32_t sy, uint32_t sz, int32_t lowest,
                                    int32_t highest, const double *numbers, size_t numbers_len, const uint32_t *words, size_t words_len,
                                    uint64_t age, uint8_t *out, size_t out_len);
+
+/* The classroom palette: tables of 212 states that are built in, for a server that has no registry to export. They pass boltjuniper_check_tables.
+   States: 0 air, 1 a cube, 2 to 17 an oak fence, 18 to 33 a nether brick fence, 34 to 49 a pane, 50 to 211 a wall. A fence or pane is its first state
+   plus 1, 2, 4, 8 where it is joined to the north, east, south, west; a wall is 50 plus north + 3 east + 9 south + 27 west + 81 post, sides 0 none,
+   1 short, 2 tall. As a host may set any of them, with any sides: the rules join it anew by its neighbours.
+
+   The first writes the 4,240 words of the records, the second the 3,948 numbers of the 658 boxes. Each returns 0; or 11 where there is not the room, and
+   then it writes nothing. */
+#define BOLTJUNIPER_PALETTE_WORDS 4240
+#define BOLTJUNIPER_PALETTE_NUMBERS 3948
+uint32_t boltjuniper_palette_records(uint32_t *out, size_t out_len);
+uint32_t boltjuniper_palette_boxes(float *out, size_t out_len);
 
 #ifdef __cplusplus
 }

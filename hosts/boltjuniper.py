@@ -131,8 +131,11 @@ DECLARED = {
     "collected": TABLES + WINDOW + AIR + SLICE + STEP + SLICE,
     "tick": SLICE * 2,
     "write_scene": TABLES + WINDOW + BODY + SLICE,
+    "palette_records": SLICE,
+    "palette_boxes": SLICE,
 }
 SCENE_BYTES, BLOCK = 65536, 512  # 128 blocks: every scene has room in it
+PALETTE = (("palette_records", "I", 4240), ("palette_boxes", "f", 3948))  # of the classroom palette: the words, and the numbers of its boxes
 
 _loaded = {}
 
@@ -325,6 +328,21 @@ def write_scene(tables, window, body):
     lent, out = _Lent().tables(tables).window(window).body(body), (ctypes.c_uint8 * SCENE_BYTES)()
     n = _function("write_scene")(*lent.arguments, ctypes.addressof(out), SCENE_BYTES)
     return bytes(out[:n]) if n >= BLOCK else _judged(Refused(n))
+
+
+# ---- the classroom palette
+
+def palette():
+    """The tables of the classroom palette, whose states hosts/boltjuniper.h tells."""
+    return Tables(*(filled(name, array.array(code, bytes(4 * n))) for name, code, n in PALETTE))
+
+
+def filled(name, out):
+    """A table of the palette's written into an array of its type, which it returns; refused by 11 where there is not the room."""
+    refusal = _function(name)(*out.buffer_info())
+    if refusal:
+        raise Refused(refusal)
+    return out
 
 
 # ---- many: a refusal is a value among the answers

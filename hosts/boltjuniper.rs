@@ -1,5 +1,5 @@
-//! Boltjuniper for hosts in Rust: safe wrappers around what hosts/boltjuniper.h declares of crates/exports and crates/recorder. Link
-//! target/staticlib/libexports.a, and a recorder target/staticlib/librecorder.a.
+//! Boltjuniper for hosts in Rust: safe wrappers around what hosts/boltjuniper.h declares of crates/exports, crates/recorder and crates/classroom. Link
+//! target/staticlib/libexports.a, for the classroom palette target/staticlib/libclassroom.a, and a recorder target/staticlib/librecorder.a.
 //! An answer is what was written, or the number of the refusal (docs/REFUSALS.md). The lengths of bodies, movers and answers, and flags, are right
 //! by their types, so neither they nor 11 are ever the reason (but 11 of the midnight run, whose buffer is the host's); those of tables and windows are for the library to refuse.
 
@@ -45,6 +45,8 @@ mod linked {
         pub fn boltjuniper_move_over_list(
             boxes: *const f64, boxes_len: usize, mover: *const f64, mover_len: usize, step: f64, ground: u32, out: *mut f64, out_len: usize,
         ) -> u32;
+        pub fn boltjuniper_palette_records(out: *mut u32, out_len: usize) -> u32;
+        pub fn boltjuniper_palette_boxes(out: *mut f32, out_len: usize) -> u32;
     }
 }
 
@@ -180,10 +182,11 @@ fn moved(refusal: u32, out: [f64; 10]) -> Result<Moved, Refusal> {
 
 /// Whether tables keep every rule: refusal 1 where they do not.
 pub fn check_tables(t: Tables) -> Result<(), Refusal> {
-    match unsafe { linked::boltjuniper_check_tables(t.records.as_ptr(), t.records.len(), t.shapes.as_ptr(), t.shapes.len()) } {
-        0 => Ok(()),
-        n => Err(n),
-    }
+    judged(unsafe { linked::boltjuniper_check_tables(t.records.as_ptr(), t.records.len(), t.shapes.as_ptr(), t.shapes.len()) })
+}
+
+fn judged(refusal: u32) -> Result<(), Refusal> {
+    if refusal == 0 { Ok(()) } else { Err(refusal) }
 }
 
 /// One tick of a body.
@@ -252,7 +255,7 @@ pub fn midnight(
             cells.as_ptr(), cells.len(), n.as_ptr(), n.len(), w.as_ptr(), w.len(), count(numbers.len()), o.as_mut_ptr(), o.len(),
         )
     };
-    if refusal == 0 { Ok(()) } else { Err(refusal) }
+    judged(refusal)
 }
 
 /// The tick of a scene file. It reaches 136 KB below its caller, with the words of the file: call it from a thread that has them.
@@ -283,6 +286,20 @@ pub fn move_over_list(boxes: &[[f64; 6]], m: Mover) -> Result<Moved, Refusal> {
         )
     };
     moved(refusal, out)
+}
+
+/// How many words the records of the classroom palette have, and its boxes numbers; its states are in hosts/boltjuniper.h.
+pub const PALETTE_WORDS: usize = 4240;
+pub const PALETTE_NUMBERS: usize = 3948;
+
+/// Writes the records of the classroom palette; 11 where there is not the room, and then nothing is written.
+pub fn palette_records(out: &mut [u32]) -> Result<(), Refusal> {
+    judged(unsafe { linked::boltjuniper_palette_records(out.as_mut_ptr(), out.len()) })
+}
+
+/// Writes its boxes; likewise.
+pub fn palette_boxes(out: &mut [f32]) -> Result<(), Refusal> {
+    judged(unsafe { linked::boltjuniper_palette_boxes(out.as_mut_ptr(), out.len()) })
 }
 
 // ---- for recorders: link target/staticlib/librecorder.a. Nothing is allocated, and nothing panics.

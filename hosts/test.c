@@ -18,7 +18,7 @@ static struct count ticks = {"tick", 0, 0}, steps = {"step", 0, 0}, checked = {"
                     moves = {"move", 0, 0}, lists = {"move_over_list", 0, 0}, collects = {"collected", 0, 0},
                     lengths = {"lengths, ground and room", 0, 0}, windows = {"heights, columns and air", 0, 0},
                     falling = {"step_falling", 0, 0}, records_kept = {"fall records", 0, 0}, nights = {"midnight", 0, 0},
-                    writes = {"write_scene", 0, 0}, rewrites = {"write_checked", 0, 0};
+                    writes = {"write_scene", 0, 0}, rewrites = {"write_checked", 0, 0}, palettes = {"classroom palette", 0, 0};
 
 static void add(struct count *c, const char *ours, const char *theirs) {
     if (strcmp(ours, theirs) == 0) {
@@ -457,6 +457,47 @@ static void all_nights(void) {
     a_night(11, 40, 16, 4096, 4096 * A - 1), a_night(14, 40, 17, 4096, 0), a_night(1, 39, 16, 4096, 4096 * A), a_night(1, 39, 17, 4097, 0);
 }
 
+/* Adds a number to two sums, of the numbers and of the first sum after each, as crates/palette_runs has them. */
+static uint64_t each, after_each;
+static void sum(uint64_t n) { each += n, after_each += each; }
+
+static void summed(const char *what, uint32_t refusal) {
+    char ours[ROOM];
+    sprintf(ours, "%s: %" PRIu32 " %" PRIu64 " %" PRIu64, what, refusal, each, after_each);
+    FILE *f = fopen("crates/palette_runs/stdout", "r");
+    if (!f) exit(2);
+    while (fgets(line, sizeof line, f)) {
+        line[strcspn(line, "\n")] = 0;
+        if (!strncmp(line, what, strlen(what)) && line[strlen(what)] == ':') add(&palettes, ours, line);
+    }
+    fclose(f);
+    each = after_each = 0;
+}
+
+/* The tables of the classroom palette, in buffers that are one too short and one too long, against what crates/palette_runs must write. */
+static void classroom(void) {
+    enum { W = BOLTJUNIPER_PALETTE_WORDS, N = BOLTJUNIPER_PALETTE_NUMBERS };
+    static uint32_t words[W + 1];
+    static float numbers[N + 1];
+    for (size_t room = W - 1; room <= W + 1; room += 2) {
+        for (size_t k = 0; k < room; k++) words[k] = 7;
+        uint32_t refusal = boltjuniper_palette_records(words, room);
+        for (size_t k = 0; k < room; k++) sum(words[k]);
+        summed(room < W ? "records, a word short" : "records", refusal);
+    }
+    for (size_t room = N - 1; room <= N + 1; room += 2) {
+        for (size_t k = 0; k < room; k++) numbers[k] = 7;
+        uint32_t refusal = boltjuniper_palette_boxes(numbers, room);
+        for (size_t k = 0; k < room; k++) {
+            double wide = numbers[k];
+            uint64_t bits;
+            memcpy(&bits, &wide, 8), sum(bits);
+        }
+        summed(room < N ? "boxes, a number short" : "boxes", refusal);
+    }
+    summed("the table check", boltjuniper_check_tables(words, W, numbers, N));
+}
+
 int main(void) {
     FILE *f = fopen("crates/replay/stdout", "r");
     if (!f) return 2;
@@ -475,8 +516,9 @@ int main(void) {
     beyond(-100.75);
     all_records();
     all_nights();
+    classroom();
     const struct count *all[] = {&ticks, &steps, &checked, &tables, &moves, &lists, &collects, &lengths, &windows, &falling, &records_kept,
-                                 &nights, &writes, &rewrites};
+                                 &nights, &writes, &rewrites, &palettes};
     int bad = 0;
     for (size_t k = 0; k < sizeof all / sizeof *all; k++) bad |= tell(all[k]);
     return bad;

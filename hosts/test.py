@@ -11,6 +11,7 @@ HERE = os.path.dirname(os.path.abspath(__file__))
 sys.path.insert(0, os.path.join(HERE, "..", "tools"))
 import boltjuniper as b
 import scenefile
+import scenepalette
 
 try:
     import numpy
@@ -84,7 +85,8 @@ def renewed(data):
 COUNTS = {name: Count(name) for name in ("tick", "ticks", "step", "step_checked", "steps", "check_tables", "move", "move_over_list", "collected",
                                          "write_scene", "write_scene beside tools/scene",
                                          "move over what it collects", "step of numpy's arrays", "heights, columns and air", "two ticks at a door",
-                                         "arrays as they are", "step_falling", "fall records", "midnight", "midnight's refusals")}
+                                         "arrays as they are", "step_falling", "fall records", "midnight", "midnight's refusals",
+                                         "classroom palette")}
 
 
 def one_scene(name, theirs):
@@ -311,6 +313,27 @@ def midnight():
         count.add("a buffer that may only be read", "ValueError", "ValueError")
 
 
+def palette():
+    """The classroom palette against the tables that tools/scenepalette.py works out by itself; and the tick of a yard."""
+    count, tables = COUNTS["classroom palette"], b.palette()
+    theirs = scenepalette.tables()
+    count.add("records", list(tables.records), theirs[0])
+    count.add("boxes", list(struct.unpack("<%dI" % len(tables.shapes), tables.shapes.tobytes())), theirs[1])
+    count.add("the table check", asked(b.check_tables, tables), None)
+    for name, code, n in b.PALETTE:
+        short, long = array.array(code, [7] * (n - 1)), array.array(code, [7] * (n + 1))
+        count.add("a buffer too short", (asked(b.filled, name, short), set(short)), (b.Refused(11), {7}))
+        count.add("a longer buffer", (b.filled(name, long)[:n], long[n]), (tables.records if code == "I" else tables.shapes, 7))
+    scene = example("school-yard")
+    _, window, body = parts(scene)
+    count.add("a yard", asked(b.step, tables, window, body), asked(b.tick, scenefile.packed(scene)))
+    # its blocks stand as the rules join them, so that what is collected of it is what is recorded
+    stand = [(x, z, box) for x in range(1, 9) for z in range(1, 6)
+             for box in scenepalette.boxes_of(window.cells[70 + z * 10 + x])]
+    theirs = [(x + box[0] / 16, 1 + box[1] / 16, z + box[2] / 16, x + box[3] / 16, 1 + box[4] / 16, z + box[5] / 16) for x, z, box in stand]
+    count.add("its boxes", asked(b.collected, tables, window, 0, b.Mover((1.0, 1.0, 1.0, 8.99, 2.0, 5.99), (0.0, 0.0, 0.0))), theirs)
+
+
 def doors():
     """What docs/MODERATORS.md says of two ticks at a door: the first ends one rounding inside it, the second behind it."""
     first, second = example("door-1"), example("door-2")
@@ -361,6 +384,7 @@ def main():
     windows()
     records()
     midnight()
+    palette()
     doors()
     arrays()
     if not numpy:

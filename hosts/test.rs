@@ -243,10 +243,37 @@ fn case_a(moves: &mut Count, windows: &mut Count) {
     }
 }
 
+/// The numbers added up, and the first sum after each of them, wrapping, as crates/palette_runs has them.
+fn sums(numbers: impl Iterator<Item = u64>) -> String {
+    let (mut each, mut after) = (0u64, 0u64);
+    for n in numbers {
+        each = each.wrapping_add(n);
+        after = after.wrapping_add(each);
+    }
+    format!("{each} {after}")
+}
+
+/// The tables of the classroom palette, in buffers that are one too short and one too long, against what crates/palette_runs must write.
+fn classroom(c: &mut Count) {
+    let stored = std::fs::read_to_string("crates/palette_runs/stdout").unwrap();
+    let theirs = |what: &str| stored.lines().find_map(|l| l.strip_prefix(what)?.strip_prefix(": ")).unwrap().to_owned();
+    let (mut words, mut numbers) = (vec![7u32; PALETTE_WORDS + 1], vec![7f32; PALETTE_NUMBERS + 1]);
+    for (room, what) in [(PALETTE_WORDS - 1, "records, a word short"), (PALETTE_WORDS + 1, "records")] {
+        let refusal = palette_records(&mut words[..room]).err().unwrap_or(0);
+        c.add(what, &format!("{refusal} {}", sums(words[..room].iter().map(|w| u64::from(*w)))), &theirs(what));
+    }
+    for (room, what) in [(PALETTE_NUMBERS - 1, "boxes, a number short"), (PALETTE_NUMBERS + 1, "boxes")] {
+        let refusal = palette_boxes(&mut numbers[..room]).err().unwrap_or(0);
+        c.add(what, &format!("{refusal} {}", sums(numbers[..room].iter().map(|x| f64::from(*x).to_bits()))), &theirs(what));
+    }
+    let t = Tables { records: &words[..PALETTE_WORDS], shapes: &numbers[..PALETTE_NUMBERS] };
+    c.add("the table check", &format!("{} 0 0", check_tables(t).err().unwrap_or(0)), &theirs("the table check"));
+}
+
 fn main() {
     let stored = std::fs::read_to_string("crates/replay/stdout").unwrap();
     let (scenes, calls): (Vec<&str>, Vec<&str>) = stored.lines().partition(|l| l.starts_with(|c: char| c.is_ascii_digit()));
-    let [mut ticks, mut steps, mut checked, mut tables, mut moves, mut lists, mut windows, mut falls, mut night, mut writes] = std::array::from_fn(|_| Count::default());
+    let [mut ticks, mut steps, mut checked, mut tables, mut moves, mut lists, mut windows, mut falls, mut night, mut writes, mut palette] = std::array::from_fn(|_| Count::default());
     // after NUMBER fall SUM LANDED: the record after the scene's tick, from a fresh one
     let after: std::collections::HashMap<&str, &str> = calls.iter().filter_map(|l| l.strip_prefix("after ")?.split_once(' ')).collect();
     for line in scenes {
@@ -302,6 +329,7 @@ fn main() {
     case_a(&mut moves, &mut windows);
     fall_records(&mut falls);
     whole_nights(&mut night);
+    classroom(&mut palette);
 
     let fine = [
         ticks.tell("tick"),
@@ -314,6 +342,7 @@ fn main() {
         falls.tell("step_falling"),
         night.tell("midnight"),
         writes.tell("write_scene, write_checked"),
+        palette.tell("classroom palette"),
     ];
     std::process::exit(fine.contains(&false) as i32);
 }

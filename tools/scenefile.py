@@ -10,6 +10,8 @@ import struct
 from types import SimpleNamespace as Scene
 from typing import Callable, NamedTuple
 
+import scenepalette
+
 OLD, NEW = 0x314E4353, 0x324E4353
 RULES = {NEW: "the new rule: mark 53 43 4e 32, checks in words 126 and 127",
          OLD: "the old rule: mark 53 43 4e 31, one check, in word 127"}
@@ -127,6 +129,8 @@ def named(*names):
 def read_cell(text):
     if text == "-":  # an unloaded cell, when cells were loaded one by one
         raise ValueError("`-` is no state: write any state here, and a 0 for its column in a row below `columns`")
+    if text in scenepalette.FIRST:
+        raise ValueError("`%s` is a name of the classroom palette's: write `palette classroom` above" % text)
     return U32.read(text)
 
 
@@ -387,33 +391,88 @@ class Text:
 
     def __init__(self):
         self.lines, self.states, self.boxes, self.layers, self.columns, self.rows = {}, [], [], [], None, None
+        self.palette = False
         self.parts = [(BODY, [0] * BODY_WORDS), (WINDOW, [0] * WINDOW_WORDS)]
 
     def line(self, number, key, given):
         rows, self.rows = self.rows, None
+        if rows and self.palette and key.rstrip(",") in scenepalette.FIRST:  # `air` too, which elsewhere is the body's air state
+            self.row(number, rows, [key] + given)
+            self.rows = rows
+            return
         for table, words in self.parts:
             if key in table and key not in COUNTED:
                 got = read_values(key, table[key].kinds, given)
                 self.once(number, key)
                 words[table[key].at:table[key].at + len(got)] = got
                 return
-        if key == "state":
+        if self.palette and key in ("state", *BOX):
+            raise Mistake("the palette has the states and boxes: no %s beside it" % key)
+        if key == "palette":
+            self.take_palette(number, given)
+        elif key == "state":
             self.states += read_state(given)
         elif key in BOX:
             self.boxes += read_values(key, BOX[key].kinds, given)
+        elif key == "layer" and given and self.palette:
+            self.begin(number, key)
+            self.whole_layer(number, " ".join(given).split("/"))
         elif key in ("layer", "columns"):
             read_values(key, (), given)
             self.begin(number, key)
-        elif rows and re.match(r"[-+0-9]", key):
-            row = [key] + given
-            kind = CELL if rows.of == "cell" else U32
-            rows.rows.append((number, read_values("a row of %ss" % rows.of, [kind] * len(row), row)))
+        elif rows and (re.match(r"[-+0-9]", key) or key in scenepalette.FIRST):
+            self.row(number, rows, [key] + given)
             self.rows = rows
         elif re.fullmatch(r"[-+.0-9]+", key):
             raise Mistake("a row stands below `layer`, `columns` or another row")
         else:
-            known = [k for table in (BODY, WINDOW, BOX) for k in table if k not in COUNTED] + ["state", "layer", "columns"]
+            known = [k for table in (BODY, WINDOW, BOX) for k in table if k not in COUNTED] + ["state", "palette", "layer", "columns"]
             raise unknown(key, known)
+
+    def take_palette(self, number, given):
+        if given != ["classroom"]:
+            raise Mistake("palette takes the name of one: classroom")
+        self.once(number, "palette")
+        if self.states or self.boxes:
+            raise Mistake("the palette has the states and boxes: none beside it")
+        self.palette = True
+        self.states, self.boxes = scenepalette.tables()
+
+    def row(self, number, rows, row):
+        if self.palette and rows.of == "cell":
+            try:
+                row = [str(c) for c in scenepalette.read_row(" ".join(row).replace(",", " ").split())]
+            except ValueError as why:
+                raise Mistake("a row of cells: %s" % why) from None
+        kind = CELL if rows.of == "cell" else U32
+        rows.rows.append((number, read_values("a row of %ss" % rows.of, [kind] * len(row), row)))
+
+    def whole_layer(self, number, texts):
+        """A layer in its own line: rows with / between them, or one cell that stands for all."""
+        for text in texts:
+            self.row(number, self.rows, text.split())
+        rows = self.rows.rows
+        if len(rows) == 1 and len(rows[0][1]) == 1:
+            self.rows.each.extend(rows.pop()[1])
+        self.rows = None
+
+    def left_out(self):
+        """What a text with the palette leaves out: a walker, sizes as its layers have them, and a world of just these layers."""
+        (body, words), (window, numbers) = self.parts
+        for key, *given in map(str.split, scenepalette.WALKER.split("\n")):
+            if key not in self.lines:
+                got = read_values(key, body[key].kinds, given)
+                words[body[key].at:body[key].at + len(got)] = got
+        rows = next((layer.rows for layer in self.layers if layer.rows), None)
+        low = values(numbers, window["origin"])[1]
+        taken = {"lowest": [low], "highest": [low + len(self.layers) - 1]}
+        if rows:
+            taken["sizes"] = [len(rows[0][1]), len(self.layers), len(rows)]
+        for key, given in taken.items():
+            if key not in self.lines:
+                got = read_values(key, window[key].kinds, list(map(str, given)))
+                numbers[window[key].at:window[key].at + len(got)] = got
+                self.lines[key] = 0
 
     def once(self, number, key):
         if key in self.lines:
@@ -423,11 +482,11 @@ class Text:
     def begin(self, number, key):
         """Rows follow: a layer's, or the columns'."""
         if key == "layer":
-            self.rows = Rows(number, "layer", "cell", [])
+            self.rows = Rows(number, "layer", "cell", [], [])
             self.layers.append(self.rows)
         else:
             self.once(number, key)
-            self.rows = self.columns = Rows(number, "block of columns", "column", [])
+            self.rows = self.columns = Rows(number, "block of columns", "column", [], [])
 
     def cells(self, end):
         """The cells of all layers, then the columns, as many as the sizes want; or the line where there are more or fewer."""
@@ -451,8 +510,11 @@ class Rows(NamedTuple):
     what: str
     of: str
     rows: list
+    each: list  # or one number that stands for every cell
 
     def words(self, sx, sz):
+        if self.each:
+            return self.each * (sx * sz)
         for number, row in self.rows:
             if len(row) != sx:
                 raise Mistake("line %d: a row of %s, sizes want %d" % (number, plural(len(row), self.of), sx))
@@ -474,6 +536,8 @@ def written(text):
                 t.line(number, key, given)
         except Mistake as why:
             raise Mistake("line %d: %s" % (number, why)) from None
+    if t.palette:
+        t.left_out()
     cells, body = t.cells(len(lines)), t.parts[0][1]
     if not t.states:
         raise Mistake("line %d: the text ends without a state" % len(lines))
@@ -504,19 +568,27 @@ def printed(scene):
     present = value(scene.body, BODY["flap_present"])
     left_out = {*COUNTED} | (set() if present else {"flap"}) | (set() if present > 1 else {"flap_present"})
     out = [" ".join([key] + texts(scene.body, field)) for key, field in BODY.items() if key not in left_out]
-    out += ["%s  # %d" % (state_text(w), k) for k, w in enumerate(pieces(scene.records, STATE_WORDS))]
-    out += [" ".join(["box"] + texts(w, BOX["box"])) for w in pieces(scene.boxes, BOX_WORDS)]
+    palette = (scene.records, scene.boxes) == scenepalette.tables()
+    if palette:
+        out += ["palette classroom"]
+    else:
+        out += ["%s  # %d" % (state_text(w), k) for k, w in enumerate(pieces(scene.records, STATE_WORDS))]
+        out += [" ".join(["box"] + texts(w, BOX["box"])) for w in pieces(scene.boxes, BOX_WORDS)]
     out += [" ".join([key] + texts(scene.window, field)) for key, field in WINDOW.items()]
     cells, columns = divided(scene)
     (_, oy, _), (sx, _, sz) = values(scene.window, WINDOW["origin"]), values(scene.window, WINDOW["sizes"])
     for y, layer in enumerate(pieces(cells, sx * sz), oy):
-        out += ["layer  # y %d%s" % (y, beyond(scene, y))] + row_texts(layer, sx)
+        out += ["layer  # y %d%s" % (y, beyond(scene, y))] + (named_rows(layer, sx) if palette else row_texts(layer, sx))
     out += ["columns  # 1 is loaded, 0 is not"] + row_texts(columns, sx)
     return "\n".join(out) + "\n"
 
 
 def row_texts(words, sx):
     return ["  " + " ".join(U32.show([w]) for w in row) for row in pieces(words, sx)]
+
+
+def named_rows(words, sx):
+    return ["  " + ", ".join(map(scenepalette.name_of, row)) for row in pieces(words, sx)]
 
 
 def beyond(scene, y):

@@ -1,4 +1,5 @@
-// What bench/ times of collection: the move through a window as a step makes it, of which one number is handed back.
+// What bench/ asks for, and no host: of collection, the move through a window as a step makes it, of which one number is handed back; and of
+// connections, the state of one block.
 use boxes::Aabb;
 use boxes::Vec3;
 use through::AskedMove;
@@ -8,6 +9,8 @@ ghost use lib.Dec.{eqb};
 ghost use Rattle.boxes.specs.Boxes.{vec};
 ghost use Rattle.window.specs.Look.{lookAt};
 ghost use Rattle.window.specs.Numbers.{windowOf};
+ghost use Rattle.ranges.specs.Cells.{cellHolding};
+ghost use Rattle.connect.specs.Answers.{connectedEntry};
 ghost use Rattle.through.specs.Through.{moveAabb};
 ghost use Rattle.timed.specs.Ways.{boxBetween, alongOf, wayOf};
 
@@ -67,4 +70,32 @@ pub extern "C" fn boltjuniper_way(
             along(way, k)
         }
     }
+}
+
+// The state that a block at a point comes to beside its neighbours: 0 where the call is refused.
+#[no_mangle]
+pub extern "C" fn boltjuniper_connected(
+    records: &[u32],
+    shapes: &[f32],
+    cells: &[u32],
+    ox: i32,
+    oy: i32,
+    oz: i32,
+    sx: u32,
+    sy: u32,
+    sz: u32,
+    lowest: i32,
+    highest: i32,
+    air: u32,
+    x: f64,
+    y: f64,
+    z: f64,
+    state: u32,
+) -> u32
+    ensures { λ r. ⌜ r ≡ connectedEntry (now (records .entry)) (now (shapes .entry)) (now (cells .entry)) (windowOf ox oy oz sx sy sz lowest highest air) (cellHolding (vec x y z)) state .state ⌝ }
+{
+    let w = window::window_of(ox, oy, oz, sx, sy, sz, lowest, highest, air);
+    let p = ranges::cell_holding(Vec3 { x, y, z });
+    let a = connect::connected_state_at(records, shapes, cells, w, p, state);
+    a.state
 }

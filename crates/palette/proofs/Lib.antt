@@ -1,0 +1,3 @@
+-- Laws of the palette's records.
+pub mod Ranges
+pub mod Records

@@ -1,0 +1,151 @@
+-- Laws of a state's parts and boxes: how long they are, what they hold, and where they stand among all. Assumes nothing.
+use mathlib.Core.Bool.{Bool, true, false}
+use mathlib.Core.Path.{_≡_, refl, sym, ap, _∙_}
+use mathlib.Core.List.{List, [], _∷_, _++_, map}
+use Prim.Native.Nat.{ℕ, zero, suc, _+_, _-_, _*_, _<_, _≤_}
+use native.Mathlib.Numerals.{add-one}
+use native.Mathlib.Omega.{arith}
+use lib.Dec.{eqb}
+use lib.ListN.{length, getD, set, drop, length-append, length-map, length-set, List·getD-map}
+use lib.Ieee.{Float}
+use lib.Seq.{sets, sets-eq}
+use Rattle.base.specs.Choose.{choose}
+use Rattle.base.specs.Loop.{listed, stored}
+use Rattle.base.proofs.Fill.{text-turn, text-end}
+use Rattle.floats.specs.Numbers.{zero64}
+use Rattle.tables.specs.Tables.{floatAt}
+use Rattle.tables.proofs.Lists.{getD-any}
+use Rattle.palette_states.specs.States.{kind}
+use Rattle.palette_boxes.specs.Shapes.{boxOf, sixteenths, hasPart, partOf, joined, boxesOf, one, boxCountOf, firstBox}
+use Rattle.palette_boxes.proofs.Joins.{joined-last}
+
+-- ---- a box has six numbers
+chosen : (t : Bool) (a b : List ℕ) (n : ℕ) → length a ≡ n → length b ≡ n → length (choose t a b) ≡ n
+unfolding choose
+chosen true a b n p q = p
+chosen false a b n p q = q
+
+pub box-six : (k part : ℕ) → length (boxOf k part) ≡ 6
+unfolding boxOf
+box-six k part = chosen (eqb part 0) _ _ 6 refl (chosen (eqb part 1) _ _ 6 refl (chosen (eqb part 2) _ _ 6 refl (chosen (eqb part 3) _ _ 6 refl refl)))
+
+numbers-six : (k part : ℕ) → length (map sixteenths (boxOf k part)) ≡ 6
+numbers-six k part = length-map (boxOf k part) sixteenths ∙ box-six k part
+
+-- ---- a part that is there, and one that is not
+pub part-is : (s part : ℕ) → hasPart s part ≡ true → partOf s part ≡ map sixteenths (boxOf (kind s) part)
+unfolding partOf choose
+part-is s part h = rw h
+
+pub part-none : (s part : ℕ) → hasPart s part ≡ false → partOf s part ≡ []
+unfolding partOf choose
+part-none s part h = rw h
+
+pub part-six : (s part : ℕ) → hasPart s part ≡ true → length (partOf s part) ≡ 6
+part-six s part h = ap length (part-is s part h) ∙ numbers-six (kind s) part
+
+pub part-length : (s part : ℕ) → length (partOf s part) ≡ one s part * 6
+unfolding one choose
+part-length s part = go (hasPart s part) refl
+  where
+    go : (b : Bool) → hasPart s part ≡ b → length (partOf s part) ≡ choose b 1 0 * 6
+    go true h = part-six s part h
+    go false h = ap length (part-none s part h)
+
+one-most : (s part : ℕ) → one s part ≤ 1
+unfolding one choose
+one-most s part = go (hasPart s part)
+  where
+    go : (b : Bool) → choose {A = ℕ} b 1 0 ≤ 1
+    go true = omega arith
+    go false = omega arith
+
+pub part-short : (s part : ℕ) → length (partOf s part) ≤ 6
+part-short s part = omega (arith, part-length s part, one-most s part)
+
+-- number c of a part that is there
+pub part-at : (s part c : ℕ) (b : List ℕ) → b ≡ boxOf (kind s) part → hasPart s part ≡ true → c < 6 → sixteenths (getD b c 0) ≡ floatAt (partOf s part) c
+part-at s part c b e h g =
+    let l : c < length (map sixteenths (boxOf (kind s) part)) = rw (numbers-six (kind s) part) g in
+    rw (e, part-is s part h) (sym (List·getD-map sixteenths (boxOf (kind s) part) c 0) ∙ getD-any (map sixteenths (boxOf (kind s) part)) c (sixteenths 0) zero64 l)
+
+-- ---- the boxes of a state, and of all
+pub boxes-length : (s : ℕ) → length (boxesOf s) ≡ boxCountOf s * 6
+unfolding boxesOf joined boxCountOf
+boxes-length s =
+    let a : List Float = partOf s 0 in
+    let b : List Float = partOf s 1 in
+    let c : List Float = partOf s 2 in
+    let d : List Float = partOf s 3 in
+    let e : List Float = partOf s 4 in
+    omega (
+      arith,
+      part-length s 0,
+      part-length s 1,
+      part-length s 2,
+      part-length s 3,
+      part-length s 4,
+      length-append a (b ++ (c ++ (d ++ (e ++ [])))),
+      length-append b (c ++ (d ++ (e ++ []))),
+      length-append c (d ++ (e ++ [])),
+      length-append d (e ++ []),
+      length-append e [],
+    )
+
+pub count-most : (s : ℕ) → boxCountOf s ≤ 5
+unfolding boxCountOf
+count-most s = omega (arith, one-most s 0, one-most s 1, one-most s 2, one-most s 3, one-most s 4)
+
+pub boxes-short : (s : ℕ) → length (boxesOf s) ≤ 30
+boxes-short s = omega (arith, boxes-length s, count-most s)
+
+pub first-next : (s : ℕ) → firstBox (s + 1) ≡ firstBox s + boxCountOf s
+unfolding firstBox
+first-next s = ap firstBox (add-one s)
+
+pub first-length : (n : ℕ) → length (joined boxesOf n 0) ≡ firstBox n * 6
+unfolding joined firstBox
+first-length zero = refl
+first-length (suc n) =
+    let e : length (joined boxesOf (suc n) 0) ≡ length (joined boxesOf n 0 ++ boxesOf n) = ap length (joined-last boxesOf n) in
+    omega (arith, e, length-append (joined boxesOf n 0) (boxesOf n), first-length n, boxes-length n)
+
+-- ---- loops that store
+pub stored-length : {A : Type 0} (l : List A) (i : ℕ) (xs : List A) → length (stored l i xs) ≡ length l
+unfolding stored
+stored-length l i [] = refl
+stored-length l i (x ∷ xs) = stored-length (set l i x) (i + 1) xs ∙ length-set l i x
+
+stored-sets : {A : Type 0} (l : List A) (i : ℕ) (xs : List A) → stored l i xs ≡ sets l i xs
+unfolding stored
+stored-sets l i [] = refl
+stored-sets l i (x ∷ xs) = ap (λ (k : ℕ). stored (set l i x) k xs) (add-one i) ∙ stored-sets (set l i x) (suc i) xs
+
+-- stored from the start on: they stand there, and what lies beyond is as it was
+pub stored-front : {A : Type 0} (l xs : List A) (n : ℕ) → length xs ≡ n → n ≤ length l → stored l 0 xs ≡ xs ++ drop n l
+stored-front l xs n e h =
+    let z : 0 + length xs ≡ n = omega arith in
+    stored-sets l 0 xs ∙ sets-eq xs l 0 (rw z h) ∙ ap (λ (k : ℕ). xs ++ drop k l) z
+
+-- the numbers of a box, from `at` on
+module _ (b : List ℕ) (at c : ℕ) (l w : List Float) (six : length b ≡ 6) where
+  pub box-turn : (l' : List Float) (x : Float) → c < 6 → x ≡ sixteenths (getD b c 0) → l' ≡ set l (at + c) x → stored l (at + c) (drop c (map sixteenths b)) ≡ w → stored l' (at + (c + 1)) (drop (c + 1) (map sixteenths b)) ≡ w
+  box-turn l' x h e p inv =
+      let g : c < length (map sixteenths b) = rw (length-map b sixteenths, six) h in
+      rw (p, e, ← List·getD-map sixteenths b c 0) (text-turn (sixteenths 0) (map sixteenths b) at c l w g inv)
+
+  pub box-end : 6 ≤ c → stored l (at + c) (drop c (map sixteenths b)) ≡ w → l ≡ w
+  box-end h inv = let g : length (map sixteenths b) ≤ c = rw (length-map b sixteenths, six) h in text-end (sixteenths 0) (map sixteenths b) at c l w g inv
+
+-- the numbers f 0, f 1 and so on from 0 on
+module _ {A : Type 0} (f : ℕ → A) (n i : ℕ) (l w : List A) where
+  pub list-turn : (l' : List A) (a : A) → a ≡ f i → l' ≡ set l i a → i < n → stored l i (listed f (n - i) i) ≡ w → stored l' (i + 1) (listed f (n - (i + 1)) (i + 1)) ≡ w
+  unfolding stored listed
+  list-turn l' a e p h inv =
+      let q : n - i ≡ suc (n - (i + 1)) = omega arith in
+      let all : stored l i (f i ∷ listed f (n - (i + 1)) (i + 1)) ≡ w = rw q at inv in
+      rw (p, e) all
+
+  pub list-end : n ≤ i → stored l i (listed f (n - i) i) ≡ w → l ≡ w
+  unfolding stored listed
+  list-end h inv = let q : n - i ≡ 0 = omega arith in rw q at inv

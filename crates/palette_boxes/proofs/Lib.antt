@@ -1,0 +1,4 @@
+-- Laws of the palette's boxes.
+pub mod Joins
+pub mod Boxes
+pub mod Counts

@@ -1,0 +1,3 @@
+-- The boxes of the classroom palette.
+pub mod Shapes
+pub mod Fill

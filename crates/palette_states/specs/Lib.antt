@@ -1,0 +1,2 @@
+-- The states of the classroom palette.
+pub mod States

@@ -1,0 +1,2 @@
+-- The wall transitions of the classroom palette.
+pub mod Turns
