@@ -16,8 +16,18 @@ use Rattle.floats.specs.Numbers.{zero64}
 use Rattle.tables.specs.Tables.{floatAt}
 use Rattle.tables.proofs.Lists.{getD-any}
 use Rattle.palette_states.specs.States.{kind}
-use Rattle.palette_boxes.specs.Shapes.{boxOf, sixteenths, hasPart, partOf, joined, boxesOf, one, boxCountOf, firstBox}
+use Rattle.palette_boxes.specs.Shapes.{boxOf, sixteenths, hasPart, partOf, joined, boxesOf, one, boxCountOf, firstBox, byKind}
 use Rattle.palette_boxes.proofs.Joins.{joined-last}
+
+-- ---- a number by kind is at most what each of the three is
+at-most : (t : Bool) (a b n : ℕ) → a ≤ n → b ≤ n → choose t a b ≤ n
+unfolding choose
+at-most true a b n p q = p
+at-most false a b n p q = q
+
+pub by-kind-most : (k pane wall fence n : ℕ) → pane ≤ n → wall ≤ n → fence ≤ n → byKind k pane wall fence ≤ n
+unfolding byKind
+by-kind-most k pane wall fence n p q r = at-most (eqb k 3) _ _ n p (at-most (eqb k 4) _ _ n q r)
 
 -- ---- a box has six numbers
 chosen : (t : Bool) (a b : List ℕ) (n : ℕ) → length a ≡ n → length b ≡ n → length (choose t a b) ≡ n
