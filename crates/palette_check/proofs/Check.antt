@@ -30,7 +30,8 @@ use Rattle.palette.specs.Links as L
 use Rattle.palette_boxes.specs.Shapes as H
 use Rattle.palette_boxes.specs.Fill as F
 use Rattle.palette.specs.Palette as P
-use Rattle.palette_boxes.proofs.Joins.{listed-at, joined-part}
+use Rattle.base.proofs.Listed.{listed-at}
+use Rattle.palette_boxes.proofs.Joins.{joined-part}
 use Rattle.palette.proofs.Records.{records-length}
 use Rattle.palette_boxes.proofs.Counts.{all-boxes, shapes-length}
 use Rattle.palette_boxes.proofs.Boxes.{boxes-length, count-most, first-length}
