@@ -4,6 +4,8 @@ pub mod Asks
 pub mod Values
 pub mod Every
 pub mod Fill
+pub mod Listed
+pub mod Stored
 pub mod Tests
 pub mod Differences
 pub mod Members

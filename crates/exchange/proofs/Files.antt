@@ -12,7 +12,7 @@ use Rattle.blocks.specs.Blocks.{blockOf, fileWord, isSecond}
 use Rattle.blocks.proofs.Words.{word-fits, block-small, block-word}
 use Rattle.files.specs.Files.{isScene}
 use Rattle.files.proofs.Told.{each-block}
-use Rattle.part_writer.proofs.Listed.{listed-length, listed-from}
+use Rattle.base.proofs.Listed.{listed-length, listed-from}
 use Rattle.exchange.specs.Exchange.{apart, Among, Exchanged, from, exchange, wordOf, OddRefused, OnlyMultiples, LastBits, SmallRefused, BlockRefused}
 use Rattle.exchange.proofs.Powers.{even-cancels, small-cancels, remainder, none}
 use Rattle.exchange.proofs.Blocks.{only-multiples}

@@ -23,7 +23,7 @@ use Rattle.falls.specs.Answers.{withFall, refusedFalling, fallingAsked, falling
 use Rattle.midnight.specs.declared.WindowRow.{WindowRow}
 use Rattle.midnight.specs.Rows.{Row, windowAt, isWhole, namedIn, ageIn, givenIn, bodyIn, rulesIn, fallIn}
 use Rattle.midnight.specs.Answers.{Lent, cellsIn, isThere, refusalAt, checkedAt, refusedBody, singleStep, checkedStep, answerBy, answerOf}
-use Rattle.midnight.proofs.Parts.{listed-at}
+use Rattle.base.proofs.Listed.{listed-at}
 
 -- ---- what the checks of all windows say of the one that is named
 
@@ -40,7 +40,7 @@ named-check windows cells checked count j few e h =
     let f : ℕ → ℕ = checkedAt windows cells count in
     let inside : j < 16 = omega arith in
     ap (λ (l : List ℕ). getD l j 2) e
-    ∙ listed-at f 2 16 0 j inside
+    ∙ listed-at f 16 0 j 2 inside
     ∙ ap f (zero-add j)
     ∙ ap (λ (b : Bool). choose b (refusalAt windows cells j) 2) (lt-ltb j count h)
 

@@ -17,7 +17,8 @@ use Rattle.table_check.specs.Check.{tableRefusal}
 use Rattle.midnight.specs.Rows.{Row, rowOf, rowAt, windowAt, namedIn, answerWidth, answerNumbers}
 use Rattle.midnight.specs.Answers.{Lent, singleStep, answerOf}
 use Rattle.midnight.specs.Run.{countRefusal, runRefusal, bodiesOf, answerRow, rowsOf, runWritten, answersIn}
-use Rattle.midnight.proofs.Parts.{stored-front, listed-length, listed-at, map-listed}
+use Rattle.base.proofs.Stored.{stored-first}
+use Rattle.base.proofs.Listed.{listed-length, listed-at, map-listed}
 use Rattle.midnight.proofs.Bodies.{Named, single}
 
 -- ---- what a call that is not refused passed
@@ -96,7 +97,7 @@ module _ (lent : Lent) (numbers : List Float) (words : List ℕ) (bodies : ℕ) 
     pub written : after ≡ rowsOf lent (bodiesOf numbers words bodies) ++ drop (bodies * answerWidth) out
     written =
         sym stored-all
-        ∙ stored-front out (rowsOf lent (bodiesOf numbers words bodies)) (bodies * answerWidth) rows-fill (passed lent bodies (length out) accepted .fits)
+        ∙ stored-first out (rowsOf lent (bodiesOf numbers words bodies)) (bodies * answerWidth) rows-fill (passed lent bodies (length out) accepted .fits)
 
     pub kept : drop (bodies * answerWidth) after ≡ drop (bodies * answerWidth) out
     kept =
@@ -109,7 +110,7 @@ module _ (lent : Lent) (numbers : List Float) (words : List ℕ) (bodies : ℕ) 
         let inside : i < length (bodiesOf numbers words bodies) = rw (listed-length (rowAt numbers words) bodies 0) h in
         ap (λ (l : List Float). rowOf answerWidth l i) written
         ∙ row-at lent (rowAt numbers words 0) (bodiesOf numbers words bodies) (drop (bodies * answerWidth) out) i inside
-        ∙ ap (answerRow lent) (listed-at (rowAt numbers words) (rowAt numbers words 0) bodies 0 i h ∙ ap (rowAt numbers words) (zero-add i))
+        ∙ ap (answerRow lent) (listed-at (rowAt numbers words) bodies 0 i (rowAt numbers words 0) h ∙ ap (rowAt numbers words) (zero-add i))
 
     -- which is the single step's
     pub each : (i : ℕ) → i < bodies → Named lent (rowAt numbers words i)

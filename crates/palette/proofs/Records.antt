@@ -2,7 +2,7 @@
 use mathlib.Core.Path.{_≡_}
 use Prim.Native.Nat.{_/_, _%_}
 use lib.ListN.{length}
-use Rattle.palette_boxes.proofs.Joins.{listed-length}
+use Rattle.base.proofs.Listed.{listed-length}
 use Rattle.palette.specs.Palette.{paletteWord, paletteRecords}
 
 pub records-length : length paletteRecords ≡ 4240

@@ -16,8 +16,18 @@ use Rattle.floats.specs.Numbers.{zero64}
 use Rattle.tables.specs.Tables.{floatAt}
 use Rattle.tables.proofs.Lists.{getD-any}
 use Rattle.palette_states.specs.States.{kind}
-use Rattle.palette_boxes.specs.Shapes.{boxOf, sixteenths, hasPart, partOf, joined, boxesOf, one, boxCountOf, firstBox}
+use Rattle.palette_boxes.specs.Shapes.{boxOf, sixteenths, hasPart, partOf, joined, boxesOf, one, boxCountOf, firstBox, byKind}
 use Rattle.palette_boxes.proofs.Joins.{joined-last}
+
+-- ---- a number by kind is at most what each of the three is
+at-most : (t : Bool) (a b n : ℕ) → a ≤ n → b ≤ n → choose t a b ≤ n
+unfolding choose
+at-most true a b n p q = p
+at-most false a b n p q = q
+
+pub by-kind-most : (k pane wall fence n : ℕ) → pane ≤ n → wall ≤ n → fence ≤ n → byKind k pane wall fence ≤ n
+unfolding byKind
+by-kind-most k pane wall fence n p q r = at-most (eqb k 3) _ _ n p (at-most (eqb k 4) _ _ n q r)
 
 -- ---- a box has six numbers
 chosen : (t : Bool) (a b : List ℕ) (n : ℕ) → length a ≡ n → length b ≡ n → length (choose t a b) ≡ n
@@ -111,22 +121,6 @@ first-length (suc n) =
     omega (arith, e, length-append (joined boxesOf n 0) (boxesOf n), first-length n, boxes-length n)
 
 -- ---- loops that store
-pub stored-length : {A : Type 0} (l : List A) (i : ℕ) (xs : List A) → length (stored l i xs) ≡ length l
-unfolding stored
-stored-length l i [] = refl
-stored-length l i (x ∷ xs) = stored-length (set l i x) (i + 1) xs ∙ length-set l i x
-
-stored-sets : {A : Type 0} (l : List A) (i : ℕ) (xs : List A) → stored l i xs ≡ sets l i xs
-unfolding stored
-stored-sets l i [] = refl
-stored-sets l i (x ∷ xs) = ap (λ (k : ℕ). stored (set l i x) k xs) (add-one i) ∙ stored-sets (set l i x) (suc i) xs
-
--- stored from the start on: they stand there, and what lies beyond is as it was
-pub stored-front : {A : Type 0} (l xs : List A) (n : ℕ) → length xs ≡ n → n ≤ length l → stored l 0 xs ≡ xs ++ drop n l
-stored-front l xs n e h =
-    let z : 0 + length xs ≡ n = omega arith in
-    stored-sets l 0 xs ∙ sets-eq xs l 0 (rw z h) ∙ ap (λ (k : ℕ). xs ++ drop k l) z
-
 -- the numbers of a box, from `at` on
 module _ (b : List ℕ) (at c : ℕ) (l w : List Float) (six : length b ≡ 6) where
   pub box-turn : (l' : List Float) (x : Float) → c < 6 → x ≡ sixteenths (getD b c 0) → l' ≡ set l (at + c) x → stored l (at + c) (drop c (map sixteenths b)) ≡ w → stored l' (at + (c + 1)) (drop (c + 1) (map sixteenths b)) ≡ w

@@ -1,4 +1,4 @@
--- Laws of `joined` and `listed`: an element, a part, the length, and the loops that store them. Assumes nothing.
+-- Laws of `joined`: an element, a part, the length, and the loops that store them. Assumes nothing.
 use mathlib.Core.Path.{_≡_, refl, sym, ap, _∙_}
 use mathlib.Core.List.{List, _++_, append-nil, append-assoc}
 use Prim.Native.Nat.{ℕ, zero, suc, _+_, _-_, _<_, _≤_}
@@ -6,21 +6,9 @@ use native.Mathlib.Nat.{add-zero, zero-add, suc-add, le-of-suc-le-suc, not-suc-l
 use native.Mathlib.Omega.{arith}
 use lib.ListN.{length, getD, take, drop, length-append, List·getD-append}
 use lib.Seq.{take-at, drop-at, getD-append-add}
-use Rattle.base.specs.Loop.{listed, stored}
+use Rattle.base.specs.Loop.{stored}
 use Rattle.base.proofs.Fill.{stored-then}
 use Rattle.palette_boxes.specs.Shapes.{joined}
-
--- ---- listed
-pub listed-length : {A : Type 0} (f : ℕ → A) (n i : ℕ) → length (listed f n i) ≡ n
-unfolding listed
-listed-length f zero i = refl
-listed-length f (suc n) i = ap suc (listed-length f n (i + 1))
-
-pub listed-at : {A : Type 0} (f : ℕ → A) (n i k : ℕ) (d : A) → k < n → getD (listed f n i) k d ≡ f (i + k)
-unfolding listed
-listed-at f zero i k d h = absurd (not-suc-le-zero h)
-listed-at f (suc n) i zero d h = ap f (sym (add-zero i))
-listed-at f (suc n) i (suc k) d h = let e : i + 1 + k ≡ i + suc k = omega arith in listed-at f n (i + 1) k d (le-of-suc-le-suc h) ∙ ap f e
 
 -- ---- joined
 module _ {A : Type 0} (f : ℕ → List A) where

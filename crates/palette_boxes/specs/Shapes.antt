@@ -11,17 +11,21 @@ use Rattle.palette_states.specs.States.{states, kind, sideOf, hasPost}
 
 -- ---- edges by kind, in sixteenths: the lower one, the upper one being as far from the other end of the cell
 
+-- a pane's number, a wall's, or a fence's
+unfoldable pub byKind : ℕ → ℕ → ℕ → ℕ → ℕ
+byKind k pane wall fence = choose (eqb k 3) pane (choose (eqb k 4) wall fence)
+
 -- "the cube fills its cell"; a fence's post is "over 0.375 to 0.625", a pane's over "0.4375 to 0.5625", a wall's "over 0.25 to 0.75"
 unfoldable pub postEdge : ℕ → ℕ
-postEdge k = choose (eqb k 0) 0 (choose (eqb k 3) 7 (choose (eqb k 4) 4 6))
+postEdge k = choose (eqb k 0) 0 (byKind k 7 4 6)
 
 -- a fence's or pane's arm is "of that thickness"; a wall's is "over 0.3125 to 0.6875"
 unfoldable pub armEdge : ℕ → ℕ
-armEdge k = choose (eqb k 3) 7 (choose (eqb k 4) 5 6)
+armEdge k = byKind k 7 5 6
 
 -- how far an arm reaches from the cell's edge: "from post to cell edge", and a wall's "from the middle to the edge"
 unfoldable pub armLength : ℕ → ℕ
-armLength k = choose (eqb k 3) 7 (choose (eqb k 4) 8 6)
+armLength k = byKind k 7 8 6
 
 -- a fence and a wall are "all 1.5 high", a pane "1 high"
 unfoldable pub height : ℕ → ℕ

@@ -10,8 +10,21 @@ ghost use mathlib.Core.Bool.{true};
 ghost use lib.ListN.{length, set};
 ghost use Rattle.base.specs.Loop.{stored};
 ghost use Rattle.tables.specs.Tables.{floatAt, boxAt};
-ghost use Rattle.palette_boxes.specs.Shapes.{postEdge, armEdge, armLength, height, boxOf, sixteenths, hasPart, partOf, boxesOf, one, boxCountOf, firstBoxOf, shapeNumbers, paletteShapes};
+ghost use Rattle.palette_boxes.specs.Shapes.{byKind, postEdge, armEdge, armLength, height, boxOf, sixteenths, hasPart, partOf, boxesOf, one, boxCountOf, firstBoxOf, shapeNumbers, paletteShapes};
 ghost use Rattle.palette_boxes.specs.Fill.{fillRefusal, filled};
+
+// What a number is by kind: a pane's, a wall's, or a fence's.
+fn by_kind(kind: u32, pane: u8, wall: u8, fence: u8) -> u8
+    ensures { λ r. ⌜ r ≡ byKind kind pane wall fence ⌝ }
+{
+    if kind == 3 {
+        return pane;
+    }
+    if kind == 4 {
+        return wall;
+    }
+    fence
+}
 
 fn post_edge(kind: u32) -> u8
     ensures { λ r. ⌜ r ≡ postEdge kind ⌝ }
@@ -20,39 +33,21 @@ fn post_edge(kind: u32) -> u8
     if kind == 0 {
         return 0;
     }
-    if kind == 3 {
-        return 7;
-    }
-    if kind == 4 {
-        return 4;
-    }
-    6
+    by_kind(kind, 7, 4, 6)
 }
 
 fn arm_edge(kind: u32) -> u8
     ensures { λ r. ⌜ r ≡ armEdge kind ⌝ }
     ensures most { λ r. ⌜ r ≤ 16 ⌝ }
 {
-    if kind == 3 {
-        return 7;
-    }
-    if kind == 4 {
-        return 5;
-    }
-    6
+    by_kind(kind, 7, 5, 6)
 }
 
 fn arm_length(kind: u32) -> u8
     ensures { λ r. ⌜ r ≡ armLength kind ⌝ }
     ensures most { λ r. ⌜ r ≤ 16 ⌝ }
 {
-    if kind == 3 {
-        return 7;
-    }
-    if kind == 4 {
-        return 8;
-    }
-    6
+    by_kind(kind, 7, 8, 6)
 }
 
 fn height_of(kind: u32) -> u8

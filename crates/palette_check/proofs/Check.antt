@@ -30,7 +30,8 @@ use Rattle.palette.specs.Links as L
 use Rattle.palette_boxes.specs.Shapes as H
 use Rattle.palette_boxes.specs.Fill as F
 use Rattle.palette.specs.Palette as P
-use Rattle.palette_boxes.proofs.Joins.{listed-at, joined-part}
+use Rattle.base.proofs.Listed.{listed-at}
+use Rattle.palette_boxes.proofs.Joins.{joined-part}
 use Rattle.palette.proofs.Records.{records-length}
 use Rattle.palette_boxes.proofs.Counts.{all-boxes, shapes-length}
 use Rattle.palette_boxes.proofs.Boxes.{boxes-length, count-most, first-length}
@@ -109,7 +110,7 @@ faced : ℕ → Bool
 faced s = allFit (H.boxesOf s) && eqb (P.faces s) (searched (H.boxesOf s))
 
 all-faced : every 212 faced ≡ true
-unfolding faced every any choose allFit G.gapOnFace G.gapOnLine G.anyGap G.gapAt G.gapPast G.hasPoint G.spans G.isInner G.coversBySearch Q.onFace Q.uPlace I.fits I.lt I.eq I.le I.isNan I.ofBits I.ofInt I.div I.round H.boxesOf H.joined H.partOf H.hasPart H.boxOf H.postEdge H.armEdge H.armLength H.height S.kind S.index S.bit S.bitAt T.weight T.digitAt S.sideOf S.hasPost P.faces
+unfolding faced every any choose allFit G.gapOnFace G.gapOnLine G.anyGap G.gapAt G.gapPast G.hasPoint G.spans G.isInner G.coversBySearch Q.onFace Q.uPlace I.fits I.lt I.eq I.le I.isNan I.ofBits I.ofInt I.div I.round H.boxesOf H.joined H.partOf H.hasPart H.boxOf H.byKind H.postEdge H.armEdge H.armLength H.height S.kind S.index S.bit S.bitAt T.weight T.digitAt S.sideOf S.hasPost P.faces
 all-faced = refl
 
 word-19 : (s : ℕ) → s < 212 → wordAt P.paletteRecords s 19 ≡ P.faces s
@@ -182,7 +183,7 @@ boxed zero l = true
 boxed (suc n) l = K.boxFits l 0 && boxed n (drop 6 l)
 
 all-boxed : boxed 658 H.paletteShapes ≡ true
-unfolding boxed K.boxFits K.sideFits choose N.sizeOf I.lt I.eq I.le I.ofBits I.ofInt I.div I.round H.paletteShapes H.boxesOf H.joined H.partOf H.hasPart H.boxOf H.postEdge H.armEdge H.armLength H.height S.kind S.index S.bit S.bitAt T.weight T.digitAt S.sideOf S.hasPost
+unfolding boxed K.boxFits K.sideFits choose N.sizeOf I.lt I.eq I.le I.ofBits I.ofInt I.div I.round H.paletteShapes H.boxesOf H.joined H.partOf H.hasPart H.boxOf H.byKind H.postEdge H.armEdge H.armLength H.height S.kind S.index S.bit S.bitAt T.weight T.digitAt S.sideOf S.hasPost
 all-boxed = refl
 
 moved : (l : List Float) (k c : ℕ) → Q.boxNumber (drop 6 l) k c ≡ Q.boxNumber l (suc k) c

@@ -17,7 +17,7 @@ use Rattle.suffixes.specs.Bytes.{equal}
 use Rattle.suffixes.proofs.Texts.{equal-same, same-equal}
 use Rattle.blocks.specs.Blocks.{fileWord, newMark, marked, checkOf, secondOf, word126, restZero, blockFits}
 use Rattle.part_writer.specs.Bytes.{joined, wordBytes, bytesOf, headBytes, payloadWord, withSecond, withCheck, blockBytes}
-use Rattle.part_writer.proofs.Stored.{stored-front, stored-all}
+use Rattle.base.proofs.Stored.{stored-front, stored-all}
 use Rattle.part_writer.proofs.Words.{word-there, word-bytes, word-length, bytes-length, bytes-at, bytes-same, words-back, check-before, check-fits, second-before, second-fits}
 
 -- ---- the payload

@@ -20,7 +20,7 @@ use Rattle.blocks.specs.Blocks.{blockOf, fileWord, newMark, isSecond, blockFits
 use Rattle.blocks.proofs.Parts.{per-block}
 use Rattle.blocks.proofs.Words.{block-is, block-small}
 use Rattle.part_writer.specs.Bytes.{joined, partBlock, partBytes, partRoom, writtenPart}
-use Rattle.part_writer.proofs.Stored.{stored-length}
+use Rattle.base.proofs.Stored.{stored-length}
 use Rattle.part_writer.proofs.Joined.{joined-same, joined-length, joined-at, joined-cut}
 use Rattle.part_writer.proofs.Blocks.{Fit, block-same, block-length, made-used, made-marked, made-fits, marked-there, block-made}
 use Rattle.part_writer.proofs.Counts.{in-block, at-place, used-most, within, used-word}

@@ -14,7 +14,7 @@ use Rattle.blocks.specs.declared.Part.{Part}
 use Rattle.blocks.specs.Blocks.{perBlock, usedIn}
 use Rattle.blocks.proofs.Parts.{per-block}
 use Rattle.part_writer.specs.Bytes.{blockBytes, partBlock, wordIn, bitsIn}
-use Rattle.part_writer.proofs.Listed.{listed-from}
+use Rattle.base.proofs.Listed.{listed-from}
 use Rattle.part_writer.proofs.Blocks.{block-same}
 use Rattle.part_writer.proofs.Counts.{used-most}
 

@@ -23,7 +23,7 @@ use Rattle.files.specs.Files.{bodyWord, windowIn, countsOf, blocksFor, isScene}
 use Rattle.files.specs.Contents.{Contents, bodyFloat, lateWord, ageIn, wordsOf, singlesOf, contentsIn}
 use Rattle.files.proofs.Told.{tells}
 use Rattle.part_writer.specs.Bytes.{wordIn}
-use Rattle.part_writer.proofs.Listed.{listed-length, listed-from}
+use Rattle.base.proofs.Listed.{listed-length, listed-from}
 use Rattle.writer.specs.Contents.{countsFor, isAbsent, writtenNumber, asWritten}
 use Rattle.writer.specs.Written.{sceneBlocks, refusalOf, writtenBy}
 use Rattle.writer.proofs.Puts.{bytes-length}

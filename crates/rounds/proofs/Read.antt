@@ -25,7 +25,7 @@ use Rattle.files.specs.Places.{numberPlace, wordPlace, statesPlace, boxesPlace,
 use Rattle.files.specs.Files.{bodyWord, flapFits, windowIn, countsIn, countsOf, blocksFor, isScene}
 use Rattle.files.specs.Contents.{Contents, bodyFloat, lateWord, ageIn, wordsOf, singlesOf, contentsIn}
 use Rattle.part_writer.specs.Bytes.{partBytes, wordIn, bitsIn}
-use Rattle.part_writer.proofs.Listed.{listed-length, listed-from}
+use Rattle.base.proofs.Listed.{listed-length, listed-from}
 use Rattle.part_writer.proofs.Parts.{fits-holds, holds-next, part-same}
 use Rattle.writer.specs.Contents.{countsFor, isAbsent, writtenNumber}
 use Rattle.writer.specs.Written.{halfOf, bodyWordOf, bytesBy, sceneBytes, sceneBlocks, roomFor, roomRefusal, refusalOf, sceneRefusal, writtenBy, answerBy}

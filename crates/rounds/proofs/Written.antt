@@ -30,8 +30,8 @@ use Rattle.files.specs.Places.{numberPlace, agePlace, wordPlace, statesPlace, b
 use Rattle.files.specs.Files.{bodyWord, flapFits, windowIn, sizesIn, countsIn, countsFit, countsOf, partsFit, blocksFor, blocksFit, isScene}
 use Rattle.files.specs.Contents.{Contents, bodyFloat, numbersIn, lateWord, lateWords, ageIn, wordsOf, singlesOf, contentsBehind, contentsIn}
 use Rattle.part_writer.specs.Bytes.{partBytes, wordIn, bitsIn}
-use Rattle.part_writer.proofs.Listed.{listed-length, listed-from}
-use Rattle.part_writer.proofs.Stored.{stored-front}
+use Rattle.base.proofs.Listed.{listed-length, listed-from}
+use Rattle.base.proofs.Stored.{stored-front}
 use Rattle.part_writer.proofs.Parts.{Holds, holds-last, holds-more, holds-new, holds-fits, holds-word}
 use Rattle.writer.specs.Contents.{countsFor, isAbsent, writtenNumber, asWritten}
 use Rattle.writer.specs.Written.{halfOf, bodyWordOf, bytesBy, sceneBytes, sceneBlocks, roomFor, roomRefusal, refusalOf, sceneRefusal, writtenBy, answerBy, writtenScene, sceneAnswer}

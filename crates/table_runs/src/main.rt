@@ -1,17 +1,26 @@
 // The table check, run: one line for each case with its answer, 0 or 1; what the case is stands beside its call. The table is small, and each case
 // changes one word or one number of it; the last cases are at the limits of a table.
 
-// States: 0 air, 1 a cube, 2 falling water, 3 and 4 a fence, 5 and 6 a wall, 7 a slab, 8 unregistered.
+// States: 0 air, 1 a cube, 2 falling water, 3 and 4 a fence, 5 and 6 a wall, 7 a slab, 8 unregistered. A record takes two lines: what it is, and what it turns to.
 const RECORDS: [u32; 180] = [
-    1, 0x3f19999a, 0, 0, 0, 0, 0, 0, 0, 0, 0, 0, 0, 0, 0, 0, 0, 0, 0, 0,
-    3, 0x3f19999a, 0, 0, 0, 0, 0, 0, 1, 0, 0, 0, 0, 0, 0, 0, 0, 0, 0, 15,
-    1, 0x3f19999a, 1, 8, 0, 0, 0, 0, 0, 0, 0, 0, 0, 0, 0, 0, 0, 0, 0, 0,
-    3, 0x3f19999a, 0, 0, 1, 0, 0, 1, 1, 3, 4, 3, 3, 3, 3, 3, 3, 3, 3, 0,
-    3, 0x3f19999a, 0, 0, 1, 0, 0, 1, 1, 3, 4, 4, 4, 4, 4, 4, 4, 4, 4, 0,
-    3, 0x3f19999a, 0, 0, 4, 0, 0, 2, 1, 5, 5, 5, 5, 5, 5, 5, 5, 5, 6, 0,
-    3, 0x3f19999a, 0, 0, 4, 0, 1, 2, 1, 6, 6, 6, 6, 6, 6, 6, 6, 5, 6, 0,
-    3, 0x3f19999a, 0, 0, 0, 0, 0, 3, 1, 0, 0, 0, 0, 0, 0, 0, 0, 0, 0, 0,
-    0, 0, 0, 0, 0, 0, 0, 0, 0, 0, 0, 0, 0, 0, 0, 0, 0, 0, 0, 0,
+    1, 0x3f19999a, 0, 0, 0, 0, 0, 0, 0,
+    0, 0, 0, 0, 0, 0, 0, 0, 0, 0, 0,
+    3, 0x3f19999a, 0, 0, 0, 0, 0, 0, 1,
+    0, 0, 0, 0, 0, 0, 0, 0, 0, 0, 15,
+    1, 0x3f19999a, 1, 8, 0, 0, 0, 0, 0,
+    0, 0, 0, 0, 0, 0, 0, 0, 0, 0, 0,
+    3, 0x3f19999a, 0, 0, 1, 0, 0, 1, 1,
+    3, 4, 3, 3, 3, 3, 3, 3, 3, 3, 0,
+    3, 0x3f19999a, 0, 0, 1, 0, 0, 1, 1,
+    3, 4, 4, 4, 4, 4, 4, 4, 4, 4, 0,
+    3, 0x3f19999a, 0, 0, 4, 0, 0, 2, 1,
+    5, 5, 5, 5, 5, 5, 5, 5, 5, 6, 0,
+    3, 0x3f19999a, 0, 0, 4, 0, 1, 2, 1,
+    6, 6, 6, 6, 6, 6, 6, 6, 5, 6, 0,
+    3, 0x3f19999a, 0, 0, 0, 0, 0, 3, 1,
+    0, 0, 0, 0, 0, 0, 0, 0, 0, 0, 0,
+    0, 0, 0, 0, 0, 0, 0, 0, 0,
+    0, 0, 0, 0, 0, 0, 0, 0, 0, 0, 0,
 ];
 
 // The cube, the fence's post, the wall's, the slab, and a flat box that no record uses.

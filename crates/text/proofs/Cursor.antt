@@ -5,27 +5,15 @@ use mathlib.Core.Path.{_≡_, refl, sym, ap, _∙_}
 use Prim.Native.Nat.{ℕ, zero, suc, _+_, _≤_, _<_, min, max}
 use native.Mathlib.Decide.{decLe}
 use native.Mathlib.Omega.{arith}
-use lib.ListN.{length, getD, take, set, length-set, length-append}
+use lib.ListN.{length, getD, take, set, length-append}
 use lib.Seq.{take-suc, take-all, set-out}
 use Rattle.base.specs.Loop.{listed, stored}
 use Rattle.base.proofs.Fill.{stored-then}
+use Rattle.base.proofs.Stored.{stored-length, stored-beyond}
 use Rattle.text.specs.Cursor.{behind, Put}
 use Rattle.text.specs.Text.{joinedText}
 
 -- ---- stored
-
-pub stored-length : (l : List ℕ) (i : ℕ) (xs : List ℕ) → length (stored l i xs) ≡ length l
-unfolding stored
-stored-length l i [] = refl
-stored-length l i (x ∷ xs) = stored-length (set l i x) (i + 1) xs ∙ length-set l i x
-
--- from the end on there is no room
-stored-out : (l : List ℕ) (i : ℕ) (xs : List ℕ) → length l ≤ i → stored l i xs ≡ l
-unfolding stored
-stored-out l i [] h = refl
-stored-out l i (x ∷ xs) h =
-    let e = length-set l i x in
-    stored-out (set l i x) (i + 1) xs (omega arith) ∙ set-out l i x h
 
 -- a cursor that stays at the end stores what one beyond it would: nothing
 held-back : (l : List ℕ) (at n : ℕ) (xs : List ℕ) → stored l (behind (length l) at n) xs ≡ stored l (at + n) xs
@@ -33,7 +21,7 @@ held-back l at n xs = go (decLe (at + n) (length l))
   where
     go : Dec (at + n ≤ length l) → stored l (behind (length l) at n) xs ≡ stored l (at + n) xs
     go (yes h) = let e : behind (length l) at n ≡ at + n = omega arith in ap (λ (k : ℕ). stored l k xs) e
-    go (no h) = stored-out l (behind (length l) at n) xs (omega arith) ∙ sym (stored-out l (at + n) xs (omega arith))
+    go (no h) = stored-beyond l (behind (length l) at n) xs (omega arith) ∙ sym (stored-beyond l (at + n) xs (omega arith))
 
 -- ---- the cursor
 

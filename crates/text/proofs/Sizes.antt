@@ -15,7 +15,7 @@ use Rattle.tables.specs.declared.LiquidKind.the-variants.{None, Water, Lava}
 use Rattle.bodies.specs.declared.MotionNumbers.{MotionNumbers}
 use Rattle.text.specs.Cursor.{behind, Put}
 use Rattle.text.specs.Text.{hexOf, joinedText, vecText, feetLine, velocityLine, groundLine, liquidLine, linesOf, refusedText, textOf, textRoom, written, writtenCount}
-use Rattle.text.proofs.Cursor.{stored-length}
+use Rattle.base.proofs.Stored.{stored-length}
 
 -- ---- each line
 

@@ -16,8 +16,8 @@ use Rattle.files.specs.declared.Counts.{Counts}
 use Rattle.files.specs.Files.{blocksFor}
 use Rattle.files.proofs.Scenes.{rooms}
 use Rattle.part_writer.specs.Bytes.{partBytes, partRoom, writtenPart, wordIn, bitsIn}
-use Rattle.part_writer.proofs.Listed.{listed-from}
-use Rattle.part_writer.proofs.Stored.{stored-length}
+use Rattle.base.proofs.Listed.{listed-from}
+use Rattle.base.proofs.Stored.{stored-length}
 use Rattle.part_writer.proofs.Parts.{part-length, part-same, next-written, room-there}
 use Rattle.lent_words.specs.Words.{windowWords}
 use Rattle.writer.specs.declared.Written.{Written}

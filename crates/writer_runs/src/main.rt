@@ -28,48 +28,18 @@ fn words(present: u32) -> [u32; 6]
     [0, 3, 0, 0, present, 0]
 }
 
-// State 0 everywhere, and no column loaded: for 128 blocks, for 129, and for these with a word too few.
-fn cells_128() -> [u32; 15360]
-    ensures { λ r. ⌜ 15360 ≡ length r ⌝ }
-{
-    [0; 15360]
-}
-
-fn cells_129() -> [u32; 15488]
+// State 0 everywhere, and no column loaded: for 129 blocks. The first 15,360 are for 128, and without the last there is a word too few.
+fn cells() -> [u32; 15488]
     ensures { λ r. ⌜ 15488 ≡ length r ⌝ }
 {
     [0; 15488]
 }
 
-fn cells_too_few() -> [u32; 15487]
-    ensures { λ r. ⌜ 15487 ≡ length r ⌝ }
-{
-    [0; 15487]
-}
-
-// Buffers full of 170: 128 blocks and a byte, 128 less a byte, 129, and 129 less a byte.
-fn room_128() -> [u8; 65537]
-    ensures { λ r. ⌜ 65537 ≡ length r ⌝ }
-{
-    [170; 65537]
-}
-
-fn room_128_short() -> [u8; 65535]
-    ensures { λ r. ⌜ 65535 ≡ length r ⌝ }
-{
-    [170; 65535]
-}
-
-fn room_129() -> [u8; 66048]
+// A buffer full of 170: 129 blocks. Its first 65,536 bytes are 128 blocks.
+fn room() -> [u8; 66048]
     ensures { λ r. ⌜ 66048 ≡ length r ⌝ }
 {
     [170; 66048]
-}
-
-fn room_129_short() -> [u8; 66047]
-    ensures { λ r. ⌜ 66047 ≡ length r ⌝ }
-{
-    [170; 66047]
 }
 
 fn window_of(x: u32, y: u32, z: u32) -> Window {
@@ -118,15 +88,15 @@ fn write(name: &[u8], records: &[u32], cells: &[u32], w: Window, numbers: &[f64]
 // is 128. 11 x 63 x 22 are 15,246 cells and 242 columns: 15,488 words fill 126 blocks, so 129 in all. 83 is the mark's first byte.
 
 fn write_128(name: &[u8], present: u32, out: &mut [u8]) {
-    let cells = cells_128();
+    let cells = cells();
     let tables = records();
     let body = numbers(0.5, 1.0);
     let flags = words(present);
-    write(name, &tables, &cells, window_of(16, 59, 16), &body, &flags, out);
+    write(name, &tables, &cells[0..15360], window_of(16, 59, 16), &body, &flags, out);
 }
 
 fn write_129(name: &[u8], out: &mut [u8]) {
-    let cells = cells_129();
+    let cells = cells();
     let tables = records();
     let body = numbers(0.5, 1.0);
     let flags = words(0);
@@ -134,23 +104,23 @@ fn write_129(name: &[u8], out: &mut [u8]) {
 }
 
 fn write_few() {
-    let mut out = room_128();
-    write_128(b"128 blocks, and a byte more", 0, &mut out);
+    let mut out = room();
+    write_128(b"128 blocks, and a byte more", 0, &mut out[0..65537]);
 }
 
 fn write_few_short() {
-    let mut out = room_128_short();
-    write_128(b"128 blocks, a byte short", 0, &mut out);
+    let mut out = room();
+    write_128(b"128 blocks, a byte short", 0, &mut out[0..65535]);
 }
 
 fn write_many() {
-    let mut out = room_129();
+    let mut out = room();
     write_129(b"129 blocks", &mut out);
 }
 
 fn write_many_short() {
-    let mut out = room_129_short();
-    write_129(b"129 blocks, a byte short", &mut out);
+    let mut out = room();
+    write_129(b"129 blocks, a byte short", &mut out[0..66047]);
 }
 
 // ---- what comes first: 129 blocks, no buffer, and then what the name says besides
@@ -164,15 +134,15 @@ fn write_wrong(name: &[u8], tables: &[u32], cells: &[u32], width: f64, x: f64) {
 
 // A table of no state, and a window of a word too few.
 fn write_wrong_lengths() {
-    let cells = cells_too_few();
+    let cells = cells();
     let tables = records();
     let none = [0u32; 1];
-    write_wrong(b"tables, window, width and place", &none, &cells, 0.0, 33554433.0);
-    write_wrong(b"window, width and place", &tables, &cells, 0.0, 33554433.0);
+    write_wrong(b"tables, window, width and place", &none, &cells[0..15487], 0.0, 33554433.0);
+    write_wrong(b"window, width and place", &tables, &cells[0..15487], 0.0, 33554433.0);
 }
 
 fn write_wrong_body() {
-    let cells = cells_129();
+    let cells = cells();
     let tables = records();
     write_wrong(b"width and place", &tables, &cells, 0.0, 33554433.0);
     write_wrong(b"place", &tables, &cells, 1.0, 33554433.0);
@@ -182,7 +152,7 @@ fn write_wrong_body() {
 // ---- the flap: 0.25 has the bits 3fd0000000000000, whose highest byte stands at 4 * (3 + 25) + 3 of the first block
 
 fn write_flap(name: &[u8], present: u32) {
-    let mut out = room_128();
+    let mut out = room();
     write_128(name, present, &mut out);
     say(b"its highest byte: ", byte_at(&out, 115));
     io::write_all(STDOUT_FILENO, b"\n");

@@ -8,7 +8,8 @@ use Rattle.base.specs.Loop.{listed, stored}
 use Rattle.midnight.specs.Rows.{Row, rowWith, rowAt, answerWidth}
 use Rattle.midnight.specs.Answers.{Lent, lentWith}
 use Rattle.midnight.specs.Run.{bodiesOf, rowsOf}
-use Rattle.midnight.proofs.Parts.{stored-length, listed-length}
+use Rattle.base.proofs.Stored.{stored-length}
+use Rattle.base.proofs.Listed.{listed-length}
 use Rattle.midnight.proofs.Turns.{rows-begin, rows-turn, rows-end}
 use borrow.Author.Needs.{needs}
 use Rattle.midnight.proofs.answer_all.Statement.{statement}

@@ -6,7 +6,8 @@ use lib.ListN.{length}
 use Rattle.base.specs.Loop.{stored}
 use Rattle.palette_boxes.specs.Shapes.{joined, boxesOf, paletteShapes}
 use Rattle.palette_boxes.proofs.Joins.{joined-turn, joined-end}
-use Rattle.palette_boxes.proofs.Boxes.{boxes-short, stored-length}
+use Rattle.base.proofs.Stored.{stored-length}
+use Rattle.palette_boxes.proofs.Boxes.{boxes-short}
 use borrow.Author.Needs.{needs}
 use Rattle.palette_boxes.proofs.put_all.Statement.{statement}
 use Rattle.palette_boxes.proofs.put_all.Tie as tie

@@ -6,7 +6,8 @@ use lib.ListN.{length}
 use Rattle.base.specs.Loop.{stored}
 use Rattle.palette_boxes.specs.Shapes.{joined, partOf, boxesOf}
 use Rattle.palette_boxes.proofs.Joins.{joined-turn, joined-end, place-turn, place-end}
-use Rattle.palette_boxes.proofs.Boxes.{part-short, stored-length}
+use Rattle.base.proofs.Stored.{stored-length}
+use Rattle.palette_boxes.proofs.Boxes.{part-short}
 use borrow.Author.Needs.{needs}
 use Rattle.palette_boxes.proofs.put_boxes.Statement.{statement}
 use Rattle.palette_boxes.proofs.put_boxes.Tie as tie

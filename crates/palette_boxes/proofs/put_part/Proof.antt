@@ -4,7 +4,8 @@ use mathlib.Core.Bool.{true, false}
 use native.Mathlib.Nat.{add-zero}
 use Rattle.base.specs.Loop.{stored}
 use Rattle.palette_boxes.specs.Shapes.{hasPart}
-use Rattle.palette_boxes.proofs.Boxes.{part-is, part-six, part-none, stored-length}
+use Rattle.base.proofs.Stored.{stored-length}
+use Rattle.palette_boxes.proofs.Boxes.{part-is, part-six, part-none}
 use borrow.Author.Needs.{needs}
 use Rattle.palette_boxes.proofs.put_part.Statement.{statement}
 use Rattle.palette_boxes.proofs.put_part.Tie as tie

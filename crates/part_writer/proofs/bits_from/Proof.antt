@@ -6,7 +6,7 @@ use lib.ListN.{length, take, length-set}
 use Rattle.base.specs.Loop.{listed}
 use Rattle.base.proofs.Fill.{turn}
 use Rattle.part_writer.specs.Bytes.{bitsIn}
-use Rattle.part_writer.proofs.Listed.{filled}
+use Rattle.base.proofs.Listed.{filled}
 use borrow.Author.Needs.{needs}
 use Rattle.part_writer.proofs.bits_from.Statement.{statement}
 use Rattle.part_writer.proofs.bits_from.Tie as tie

@@ -3,7 +3,7 @@ use mathlib.Core.Path.{_≡_, ap, _∙_}
 use Prim.Native.Nat.{_+_, _*_}
 use native.Mathlib.Omega.{arith}
 use lib.ListN.{length}
-use Rattle.part_writer.proofs.Stored.{stored-mid}
+use Rattle.base.proofs.Stored.{stored-mid}
 use Rattle.part_writer.proofs.Blocks.{block-length}
 use borrow.Author.Needs.{needs}
 use Rattle.part_writer.proofs.put_block.Statement.{statement}

@@ -1,6 +1,6 @@
 -- `part_writer::put_payload` meets its contract. Assumes nothing.
 use native.Mathlib.Omega.{arith}
-use Rattle.part_writer.proofs.Stored.{stored-length}
+use Rattle.base.proofs.Stored.{stored-length}
 use Rattle.part_writer.proofs.Blocks.{payload-turn}
 use borrow.Author.Needs.{needs}
 use mathlib.Core.Path.{_≡_, refl, ap, _∙_}

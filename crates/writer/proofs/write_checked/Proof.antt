@@ -2,7 +2,7 @@
 use mathlib.Core.Path.{ap, _∙_}
 use native.Mathlib.Omega.{arith}
 use lib.ListN.{length}
-use Rattle.part_writer.proofs.Stored.{stored-length}
+use Rattle.base.proofs.Stored.{stored-length}
 use Rattle.files.specs.Contents.{contentsOf}
 use Rattle.writer.proofs.Puts.{room-fits, no-room, room-refused, room-written}
 use borrow.Author.Needs.{needs}

@@ -5,7 +5,7 @@ use lib.Ieee.{Float}
 use lib.ListN.{set}
 use Rattle.base.specs.Loop.{stored}
 use Rattle.lent_steps.specs.Falling.{fallingNumbers}
-use Rattle.midnight.proofs.Parts.{put-behind}
+use Rattle.base.proofs.Stored.{put-behind}
 use borrow.Author.Needs.{needs}
 use Rattle.midnight.proofs.answers.put_answer.Statement.{statement}
 use Rattle.midnight.proofs.answers.put_answer.Tie as tie

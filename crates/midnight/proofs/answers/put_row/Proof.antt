@@ -2,7 +2,7 @@
 use mathlib.Core.Path.{sym}
 use Prim.Native.Nat.{_*_}
 use Rattle.midnight.specs.Rows.{answerWidth, answerNumbers}
-use Rattle.midnight.proofs.Parts.{put-behind, stored-beyond}
+use Rattle.base.proofs.Stored.{put-behind, stored-beyond}
 use borrow.Author.Needs.{needs}
 use Rattle.midnight.proofs.answers.put_row.Statement.{statement}
 use Rattle.midnight.proofs.answers.put_row.Tie as tie

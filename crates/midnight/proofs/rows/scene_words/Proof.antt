@@ -1,5 +1,6 @@
 -- `midnight::rows::scene_words` meets its contract. Assumes nothing.
-use Rattle.midnight.proofs.Parts.{rest, none}
+use Rattle.base.proofs.Stored.{rest}
+use Rattle.midnight.proofs.Parts.{none}
 use borrow.Author.Needs.{needs}
 use Rattle.midnight.proofs.rows.scene_words.Statement.{statement}
 use Rattle.midnight.proofs.rows.scene_words.Tie as tie

@@ -6,7 +6,7 @@ use Prim.Native.Nat.{_-_, _≤_}
 use lib.ListN.{length, take, length-set}
 use Rattle.base.specs.Loop.{listed}
 use Rattle.base.proofs.Fill.{turn}
-use Rattle.part_writer.proofs.Listed.{filled}
+use Rattle.base.proofs.Listed.{filled}
 use Rattle.files.specs.Contents.{lateWord}
 use Rattle.scene.proofs.numbers.words_in.Statement.{statement}
 use Rattle.scene.proofs.numbers.words_in.Tie as tie

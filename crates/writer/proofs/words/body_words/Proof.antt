@@ -5,7 +5,7 @@ use Prim.Native.Nat.{_-_, _≤_}
 use lib.ListN.{length, take, length-set}
 use Rattle.base.specs.Loop.{listed}
 use Rattle.base.proofs.Fill.{turn}
-use Rattle.part_writer.proofs.Listed.{filled}
+use Rattle.base.proofs.Listed.{filled}
 use Rattle.writer.specs.Written.{bodyWordOf}
 use borrow.Author.Needs.{needs}
 use Rattle.writer.proofs.words.body_words.Statement.{statement}

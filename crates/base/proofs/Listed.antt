@@ -1,13 +1,13 @@
 -- What stands at each place of a list that is listed, and an array that a loop has filled. Assumes nothing.
-use mathlib.Core.List.{List, [], _∷_, _++_}
+use mathlib.Core.List.{List, [], _∷_, _++_, map}
 use mathlib.Core.Path.{_≡_, refl, sym, ap, _∙_}
 use Prim.Native.Nat.{ℕ, zero, suc, _+_, _-_, _≤_, _<_}
 use native.Mathlib.Nat.{not-suc-le-zero}
 use native.Mathlib.Omega.{arith}
 use lib.ListN.{length, getD, take}
 use lib.Seq.{take-all}
 use Rattle.base.specs.Loop.{listed}
 use Rattle.base.proofs.Fill.{whole}
 
 module _ {A : Type 0} (f : ℕ → A) where
   pub listed-length : (n i : ℕ) → length (listed f n i) ≡ n
@@ -29,3 +29,12 @@ module _ {A : Type 0} (f : ℕ → A) where
   -- an array of n elements, all of which a loop has written
   pub filled : (n i : ℕ) (l : List A) → length l ≡ n → i ≤ n → n ≤ i → take i l ++ listed f (n - i) i ≡ listed f n 0 → l ≡ listed f n 0
   filled n i l e h h′ inv = sym (take-all n l (omega arith)) ∙ whole f n i l (listed f n 0) h′ h inv
+
+-- one list by another, element for element
+pub map-listed : {A B : Type 0} (g : A → B) (f : ℕ → A) (h : ℕ → B) (n i : ℕ) → ((k : ℕ) → i ≤ k → k < i + n → h k ≡ g (f k)) → listed h n i ≡ map g (listed f n i)
+unfolding listed
+map-listed g f h zero i same = refl
+map-listed {A} {B} g f h (suc n) i same =
+    let first : h i ≡ g (f i) = same i (omega arith) (omega arith) in
+    ap (λ (b : B). b ∷ listed h n (i + 1)) first
+    ∙ ap (λ (bs : List B). g (f i) ∷ bs) (map-listed g f h n (i + 1) (λ k l m. same k (omega arith) (omega arith)))
