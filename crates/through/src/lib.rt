@@ -71,7 +71,8 @@ fn swept_through(records: &[u32], shapes: &[f32], cells: &[u32], w: Window, q: R
                     if b.intersects(area) {
                         let i = list.count;
                         if i >= 42 {
-                            return crowded(records, shapes, cells, w, q, area, r);
+                            let told = crowded(records, shapes, cells, w, q, area, r); // bound first, as in `quick_part`
+                            return told;
                         }
                         list.boxes[i] = b;
                         list.count = i + 1;
@@ -112,7 +113,8 @@ pub fn move_through(records: &[u32], shapes: &[f32], cells: &[u32], w: Window, a
     let area = collection::swept_area(aabb, delta, step);
     let r = collection::range_of(area);
     if (r.x.count > 6) & (r.z.count > 6) {
-        return crowded(records, shapes, cells, w, q, area, r); // one layer of ground is more than a few boxes
+        let told = crowded(records, shapes, cells, w, q, area, r); // one layer of ground is more than a few boxes
+        return told;
     }
     swept_through(records, shapes, cells, w, q, area, r)
 }
