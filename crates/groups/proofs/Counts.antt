@@ -21,6 +21,9 @@ use Rattle.groups.specs.Summary.{wordsBefore}
 pub few : (n : ℕ) → n ≤ 64 → groupsOn n ≤ 16
 few n h = omega arith
 
+pub byte-groups : (n : ℕ) → n ≤ 64 → Fits w8 (groupsOn n)
+byte-groups n h = record { fits = omega arith }
+
 pub some-on : (n : ℕ) → 1 ≤ n → 0 < groupsOn n
 some-on n h = omega arith
 

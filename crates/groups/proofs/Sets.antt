@@ -57,7 +57,7 @@ module _ {A : Type 0} (d : A) where
 
 -- ---- the number of a group, and the group of a number
 module _ (s : Sizes) where
-  at-index : (g : Group) → g .x < groupsOn (s .x) → g .z < groupsOn (s .z) → groupAt s (groupIndex s g) ≡ g
+  pub at-index : (g : Group) → g .x < groupsOn (s .x) → g .z < groupsOn (s .z) → groupAt s (groupIndex s g) ≡ g
   at-index g hx hz =
       let row = digits-div (g .y * groupsOn (s .z) + g .z) hx in
       let x = digits-mod (g .y * groupsOn (s .z) + g .z) hx in
@@ -73,11 +73,11 @@ module _ (s : Sizes) where
   turned : (x y z : ℕ) → y * z * x ≡ x * y * z
   turned x y z = omega arith
 
-  index-under : (g : Group) → g .x < groupsOn (s .x) → g .y < groupsOn (s .y) → g .z < groupsOn (s .z) → groupIndex s g < groupCount s
+  pub index-under : (g : Group) → g .x < groupsOn (s .x) → g .y < groupsOn (s .y) → g .z < groupsOn (s .z) → groupIndex s g < groupCount s
   index-under g hx hy hz = subst (λ (n : ℕ). groupIndex s g < n) (turned (groupsOn (s .x)) (groupsOn (s .y)) (groupsOn (s .z))) (digits-lt (digits-lt hy hz) hx)
 
 -- ---- the group of a cell
-of-four : (n size : ℕ) → n < size → n / 4 < groupsOn size
+pub of-four : (n size : ℕ) → n < size → n / 4 < groupsOn size
 of-four n size h = omega arith
 
 in-four : (g k size : ℕ) → k < cut size g → k < 4

@@ -1,6 +1,6 @@
 -- What the program works with: how far a cell lies from the origin, and the set at such a place. `proofs/Places` shows that this comes to the set
 -- as defined in `Summary`.
-use mathlib.Core.Bool.{Bool, _&&_}
+use mathlib.Core.Bool.{Bool, true, false, _&&_}
 use mathlib.Core.List.{List}
 use Prim.Native.Nat.{ℕ, _+_, _/_}
 use lib.Dec.{ltb}
@@ -10,11 +10,19 @@ use Rattle.base.specs.Choose.{choose}
 use Rattle.window.specs.declared.Pos.{Pos}
 use Rattle.window.specs.declared.Sizes.{Sizes}
 use Rattle.window.specs.declared.Window.{Window}
-use Rattle.window.specs.Window.{within, indexAt}
+use Rattle.window.specs.Window.{within, indexAt, sizesFit}
 use Rattle.groups.specs.declared.Group.{Group}
 use Rattle.groups.specs.declared.Place.{Place}
-use Rattle.groups.specs.Groups.{groupIndex, groupWord}
+use Rattle.groups.specs.declared.Layout.{Layout}
+use Rattle.groups.specs.Groups.{groupsOn, groupIndex, groupWord}
 use Rattle.groups.specs.Summary.{wordsBefore}
+
+-- where the words of groups stand, and how many there are along x and z
+unfoldable pub layoutOf : Sizes → Layout
+layoutOf s =
+    choose (sizesFit s)
+    record { fits = true; before = wordsBefore s; across = groupsOn (s .x); deep = groupsOn (s .z) }
+    record { fits = false; before = 0; across = 0; deep = 0 }
 
 unfoldable pub offsetIn : ℤ → ℤ → ℕ → ℕ
 offsetIn c origin size = choose (within origin size c) (natAbs (c -ℤ origin)) size

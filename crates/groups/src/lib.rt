@@ -15,7 +15,7 @@ ghost use Rattle.window.specs.Window.{sizesFit, indexAt};
 ghost use Rattle.window.specs.Look.{lookAt};
 ghost use Rattle.groups.specs.Groups.{groupsOn, groupCount, groupIndex, groupAt, cut, cellAt, isEmptyState, isEmpty, isEmptyLine, isEmptyLayer, groupWord};
 ghost use Rattle.groups.specs.Summary.{summaryOf, wordsBefore, hasSummary, buildRefusal, built, agrees, summaryRefusal, setRefusal, afterSet};
-ghost use Rattle.groups.specs.Places.{offsetIn, placeIn, isIn, setAt};
+ghost use Rattle.groups.specs.Places.{layoutOf, offsetIn, placeIn, isIn, setAt};
 
 // A group, counted from the origin on each axis.
 pub struct Group {
@@ -163,6 +163,26 @@ fn words_before(s: Sizes) -> u32
     s.x * s.y * s.z + s.x * s.z
 }
 
+// Where the words of groups stand among all that are lent, and how many groups there are along x and z; nothing where the sizes break their limit.
+pub struct Layout {
+    pub fits: bool,
+    pub before: u32,
+    pub across: u8,
+    pub deep: u8,
+}
+
+pub fn layout_of(s: Sizes) -> Layout
+    ensures { λ r. ⌜ r ≡ layoutOf s ⌝ }
+{
+    if window::sizes_fit(s) {
+        let before = words_before(s);
+        let across = groups_on(s.x) as u8;
+        let deep = groups_on(s.z) as u8;
+        return Layout { fits: true, before, across, deep };
+    }
+    Layout { fits: false, before: 0, across: 0, deep: 0 }
+}
+
 // Group number i, in the cells' order.
 fn group_at(s: Sizes, i: u32) -> Group
     requires { ⌜ sizesFit s ≡ true ⌝ }
@@ -292,7 +312,7 @@ pub struct Place {
     pub z: u32,
 }
 
-fn place_in(w: Window, p: Pos) -> Place
+pub fn place_in(w: Window, p: Pos) -> Place
     ensures { λ r. ⌜ r ≡ placeIn w p ⌝ }
 {
     let x = offset_in(p.x, w.origin.x, w.sizes.x);
