@@ -1,0 +1,2 @@
+-- Collection past layers is plain collection.
+pub mod Same
