@@ -25,6 +25,7 @@ use Rattle.ranges.specs.Ranges.{placeAt, placeOf, startOf, nextOf, trimmed}
 use Rattle.ranges.specs.Walk.{line, layer, walk}
 use Rattle.ranges.proofs.Walks.{walk-trimmed, rest, rest-start, rest-turn, rest-end, Within, start-within, next-within, left, next-less}
 use Rattle.collection.specs.Collect.{cellShape, offer, offerAll, visit, push, rangeOf, collectUpTo}
+use Rattle.collection.specs.Past.{layerPast, walkPast, collectPast}
 use Rattle.tables.specs.Tables.{boxesAt}
 use Rattle.solids.specs.declared.Shape.{Shape}
 use Rattle.solids.specs.Parts.{shapeIn, countOf, nthAabb}
@@ -113,45 +114,64 @@ module _ {S : Type 0} (accept : Aabb → S → Ask (Turn S Bool)) (look : Pos �
     abbrev pub all : S → Ask (Turn S Bool)
     all = walk visiting r
 
-    -- ---- what is left of a walk, in each of the move's three loops: layers, the lines of a layer, the cells of a line
-    unfoldable pub layersFrom : ℕ → S → Ask (Turn S Bool)
-    layersFrom = from (layer visiting r) (r .y .count) (λ s. found (next s))
+    -- ---- what is left of a walk past layers, in each of the move's three loops: layers, the lines of a layer, the cells of a line. `over` says which
+    -- layers are passed over: of such a layer no line is come to
+    module _ (over : ℕ → Bool) where
+      abbrev pub lines : ℕ → ℕ
+      lines y = choose (over y) 0 (r .x .count)
 
-    unfoldable pub linesFrom : ℕ → ℕ → S → Ask (Turn S Bool)
-    linesFrom y = from (line visiting r y) (r .x .count) (layersFrom (y + 1))
+      abbrev pub allPast : S → Ask (Turn S Bool)
+      allPast = walkPast over visiting r
 
-    unfoldable pub cellsFrom : ℕ → ℕ → ℕ → S → Ask (Turn S Bool)
-    cellsFrom y x = from (λ z. visiting (placeAt r x y z)) (r .z .count) (linesFrom y (x + 1))
+      unfoldable pub layersFrom : ℕ → S → Ask (Turn S Bool)
+      layersFrom = from (layerPast over visiting r) (r .y .count) (λ s. found (next s))
 
-    -- begun
-    pub walk-begins : (s : S) → layersFrom 0 s ≡ all s
-    unfolding layersFrom walk
-    walk-begins s = from-start (layer visiting r) (r .y .count) (λ a. found (next a)) s ∙ then-nothing (turning (layer visiting r) (r .y .count) 0 s)
+      unfoldable pub linesFrom : ℕ → ℕ → S → Ask (Turn S Bool)
+      linesFrom y = from (line visiting r y) (lines y) (layersFrom (y + 1))
 
-    pub layer-begins : (y : ℕ) (s : S) → y < r .y .count → layersFrom y s ≡ linesFrom y 0 s
-    unfolding layersFrom linesFrom layer
-    layer-begins y s h = from-turn (layer visiting r) (r .y .count) (λ a. found (next a)) y s h ∙ sym (from-start (line visiting r y) (r .x .count) (layersFrom (y + 1)) s)
+      unfoldable pub cellsFrom : ℕ → ℕ → ℕ → S → Ask (Turn S Bool)
+      cellsFrom y x = from (λ z. visiting (placeAt r x y z)) (r .z .count) (linesFrom y (x + 1))
 
-    pub line-begins : (y x : ℕ) (s : S) → x < r .x .count → linesFrom y x s ≡ cellsFrom y x 0 s
-    unfolding linesFrom cellsFrom line
-    line-begins y x s h = from-turn (line visiting r y) (r .x .count) (layersFrom (y + 1)) x s h ∙ sym (from-start (λ z. visiting (placeAt r x y z)) (r .z .count) (linesFrom y (x + 1)) s)
+      -- begun
+      pub walk-begins : (s : S) → layersFrom 0 s ≡ allPast s
+      unfolding layersFrom walkPast
+      walk-begins s = from-start (layerPast over visiting r) (r .y .count) (λ a. found (next a)) s ∙ then-nothing (turning (layerPast over visiting r) (r .y .count) 0 s)
 
-    pub cells-turn : (y x z : ℕ) (s : S) → z < r .z .count → (p : Pos) → p ≡ placeAt r x y z → cellsFrom y x z s ≡ (visiting p s >>= onward (cellsFrom y x (z + 1)))
-    unfolding cellsFrom
-    cells-turn y x z s h p e = rw e (from-turn (λ k. visiting (placeAt r x y k)) (r .z .count) (linesFrom y (x + 1)) z s h)
+      layer-lines : (y : ℕ) (s : S) → layerPast over visiting r y s ≡ turning (line visiting r y) (lines y) 0 s
+      unfolding layerPast layer choose turning
+      layer-lines y s = go (over y)
+        where
+          go : (t : Bool) → choose t (found (next s)) (layer visiting r y s) ≡ turning (line visiting r y) (choose t 0 (r .x .count)) 0 s
+          go true = refl
+          go false = refl
 
-    -- through
-    pub cells-end : (y x z : ℕ) (s : S) → r .z .count ≤ z → cellsFrom y x z s ≡ linesFrom y (x + 1) s
-    unfolding cellsFrom
-    cells-end y x z s h = from-end (λ k. visiting (placeAt r x y k)) (r .z .count) (linesFrom y (x + 1)) z s h
+      pub layer-begins : (y : ℕ) (s : S) → y < r .y .count → layersFrom y s ≡ linesFrom y 0 s
+      unfolding layersFrom linesFrom
+      layer-begins y s h =
+          from-turn (layerPast over visiting r) (r .y .count) (λ a. found (next a)) y s h
+          ∙ ap (λ (m : Ask (Turn S Bool)). m >>= onward (layersFrom (y + 1))) (layer-lines y s)
+          ∙ sym (from-start (line visiting r y) (lines y) (layersFrom (y + 1)) s)
 
-    pub lines-end : (y x : ℕ) (s : S) → r .x .count ≤ x → linesFrom y x s ≡ layersFrom (y + 1) s
-    unfolding linesFrom
-    lines-end y x s h = from-end (line visiting r y) (r .x .count) (layersFrom (y + 1)) x s h
+      pub line-begins : (y x : ℕ) (s : S) → x < lines y → linesFrom y x s ≡ cellsFrom y x 0 s
+      unfolding linesFrom cellsFrom line
+      line-begins y x s h = from-turn (line visiting r y) (lines y) (layersFrom (y + 1)) x s h ∙ sym (from-start (λ z. visiting (placeAt r x y z)) (r .z .count) (linesFrom y (x + 1)) s)
 
-    pub layers-end : (y : ℕ) (s : S) → r .y .count ≤ y → layersFrom y s ≡ found (next s)
-    unfolding layersFrom
-    layers-end y s h = from-end (layer visiting r) (r .y .count) (λ a. found (next a)) y s h
+      pub cells-turn : (y x z : ℕ) (s : S) → z < r .z .count → (p : Pos) → p ≡ placeAt r x y z → cellsFrom y x z s ≡ (visiting p s >>= onward (cellsFrom y x (z + 1)))
+      unfolding cellsFrom
+      cells-turn y x z s h p e = rw e (from-turn (λ k. visiting (placeAt r x y k)) (r .z .count) (linesFrom y (x + 1)) z s h)
+
+      -- through
+      pub cells-end : (y x z : ℕ) (s : S) → r .z .count ≤ z → cellsFrom y x z s ≡ linesFrom y (x + 1) s
+      unfolding cellsFrom
+      cells-end y x z s h = from-end (λ k. visiting (placeAt r x y k)) (r .z .count) (linesFrom y (x + 1)) z s h
+
+      pub lines-end : (y x : ℕ) (s : S) → lines y ≤ x → linesFrom y x s ≡ layersFrom (y + 1) s
+      unfolding linesFrom
+      lines-end y x s h = from-end (line visiting r y) (lines y) (layersFrom (y + 1)) x s h
+
+      pub layers-end : (y : ℕ) (s : S) → r .y .count ≤ y → layersFrom y s ≡ found (next s)
+      unfolding layersFrom
+      layers-end y s h = from-end (layerPast over visiting r) (r .y .count) (λ a. found (next a)) y s h
 
     -- ---- and in the one loop of the entries, from a cell of the range on
     abbrev pub cellFrom : At → S → Ask (Turn S Bool)

@@ -27,7 +27,7 @@ use Rattle.groups.specs.Summary.{wordsBefore, hasSummary}
 use Rattle.groups.specs.Places.{layoutOf, offsetIn, placeIn}
 use Rattle.groups.proofs.Sets.{Kept, has, of-four, at-index, index-under}
 use Rattle.passing.specs.declared.Reach.{Reach}
-use Rattle.passing.specs.Passing.{firstOf, lastOf, spans, between, nowhere, reachOf, marked, allMarked, passesBy, passes}
+use Rattle.passing.specs.Passing.{firstOf, lastOf, spans, between, nowhere, reachOf, reachIn, marked, allMarked, passesBy, passes}
 use Rattle.passing.proofs.Spans.{Between, in-range, alone}
 
 -- ---- what a reach that is on says
@@ -104,7 +104,18 @@ module _ (records words : List ℕ) (w : Window) (x y z : ℕ) (hx : x < w .size
       rw (div-add-mod' x 4, div-add-mod' y 4, div-add-mod' z 4) at c
 
 -- ---- a layer that is passed over
-module _ (words : List ℕ) (w : Window) (r : Range) (y : ℕ) (e : passes words w r y ≡ true) where
+by-reach : (words : List ℕ) (w : Window) (r : Range) (y : ℕ) → passes words w r y ≡ true → passesBy words w r (reachOf w r) y ≡ true
+unfolding passesBy reachIn choose
+by-reach words w r y h = go (ltb (layoutOf (w .sizes) .before) (length words)) h
+  where
+    go : (t : Bool) → passesBy words w r (choose t (reachOf w r) nowhere) y ≡ true → passesBy words w r (reachOf w r) y ≡ true
+    go true h = h
+    go false h = absurd (false≢true h)
+
+module _ (words : List ℕ) (w : Window) (r : Range) (y : ℕ) (over : passes words w r y ≡ true) where
+  e : passesBy words w r (reachOf w r) y ≡ true
+  e = by-reach words w r y over
+
   abbrev s : Sizes
   s = w .sizes
 

@@ -4,7 +4,7 @@ use mathlib.Core.Bool.{Bool, true, false, _&&_}
 use mathlib.Core.List.{List}
 use Prim.Native.Nat.{ℕ, _+_, _*_, _-_, _/_}
 use lib.Dec.{ltb, eqb}
-use lib.ListN.{getD}
+use lib.ListN.{length, getD}
 use Rattle.base.specs.Choose.{choose}
 use Rattle.base.specs.Every.{every}
 use Rattle.window.specs.declared.Sizes.{Sizes}
@@ -50,6 +50,10 @@ reachOf w r =
     (between (layoutOf (w .sizes)) (firstOf w r) (lastOf w r))
     nowhere
 
+-- none where no word is lent behind those of cells and columns
+unfoldable pub reachIn : List ℕ → Window → Range → Reach
+reachIn words w r = choose (ltb (layoutOf (w .sizes) .before) (length words)) (reachOf w r) nowhere
+
 -- so many words from a place on are 0, and so many such rows
 unfoldable pub marked : List ℕ → ℕ → ℕ → Bool
 marked words at n = every n (λ i. eqb (getD words (at + i) 1) 0)
@@ -62,7 +66,7 @@ passesBy words w r k y =
     k .on && ltb (placeIn w (placeAt r 0 y 0) .y) (w .sizes .y) && allMarked words k (placeIn w (placeAt r 0 y 0) .y)
 
 abbrev pub passes : List ℕ → Window → Range → ℕ → Bool
-passes words w r y = passesBy words w r (reachOf w r) y
+passes words w r y = passesBy words w r (reachIn words w r) y
 
 -- the lines of a layer that a collection comes to
 abbrev pub linesBy : List ℕ → Window → Range → Reach → ℕ → ℕ

@@ -9,7 +9,7 @@ ghost use mathlib.Core.Path.{_≡_};
 ghost use Prim.Native.Nat.{_+_, _*_, _-_, _/_, _≤_};
 ghost use lib.Dec.{eqb};
 ghost use lib.ListN.{getD};
-ghost use Rattle.passing.specs.Passing.{spans, reachOf, marked, allMarked, passesBy, linesBy};
+ghost use Rattle.passing.specs.Passing.{spans, reachOf, reachIn, marked, allMarked, passesBy, linesBy};
 
 // The groups of a range's columns: the first on x and z, and how many from there on; where the words of groups stand, and how many groups a row and
 // a layer of them has. `on` is no where a column of the range lies outside the window.
@@ -22,6 +22,12 @@ pub struct Reach {
     pub z: u8,
     pub across: u8,
     pub deep: u8,
+}
+
+fn wide(x: u32) -> usize
+    ensures { λ r. ⌜ r ≡ x ⌝ }
+{
+    x as usize
 }
 
 fn less_one(n: u32) -> u32
@@ -51,8 +57,7 @@ fn groups_between(a: u32, b: u32) -> u32
     end - first
 }
 
-// Worked out once for a move.
-pub fn reach_of(w: Window, r: Range) -> Reach
+fn reach_of(w: Window, r: Range) -> Reach
     ensures { λ k. ⌜ k ≡ reachOf w r ⌝ }
 {
     let l = groups::layout_of(w.sizes);
@@ -76,6 +81,17 @@ pub fn reach_of(w: Window, r: Range) -> Reach
             };
         }
         return Reach { on: false, before: 0, row: 0, layer: 0, x: 0, z: 0, across: 0, deep: 0 };
+    }
+    Reach { on: false, before: 0, row: 0, layer: 0, x: 0, z: 0, across: 0, deep: 0 }
+}
+
+// Worked out once for a move.
+pub fn reach_in(words: &[u32], w: Window, r: Range) -> Reach
+    ensures { λ k. ⌜ k ≡ reachIn (now (words .entry)) w r ⌝ }
+{
+    let l = groups::layout_of(w.sizes);
+    if wide(l.before) < words.len() {
+        return reach_of(w, r);
     }
     Reach { on: false, before: 0, row: 0, layer: 0, x: 0, z: 0, across: 0, deep: 0 }
 }

@@ -1,4 +1,4 @@
--- Collection with a summary equals plain collection, in its boxes, their order and its refusals; and so does the move. A layer that is passed over
+-- Collection with a summary equals plain collection, in its boxes, their order and its refusals. A layer that is passed over
 -- lies in the window, and plain collection asks there for each cell alone, finds it, and adds nothing. Assumes nothing.
 use mathlib.Core.Path.{_≡_, refl, sym, ap, _∙_}
 use mathlib.Core.Bool.{Bool, true, false, _&&_, false≢true}
@@ -13,9 +13,7 @@ use Rattle.base.specs.Choose.{choose}
 use Rattle.base.specs.Loop.{listed}
 use Rattle.base.specs.Ask.{Ask, refused, found, _>>=_, Turn, next, turning}
 use Rattle.base.proofs.Every.{both}
-use Rattle.boxes.specs.declared.Vec3.{Vec3}
 use Rattle.boxes.specs.declared.Aabb.{Aabb}
-use Rattle.sweeps.specs.Lists.{room}
 use Rattle.cover.specs.Cover.{boxCount}
 use Rattle.tables.specs.Tables.{wordAt, isRegistered, headAt, boxesAt}
 use Rattle.window.specs.declared.Pos.{Pos}
@@ -26,14 +24,14 @@ use Rattle.ranges.specs.Ranges.{placeAt}
 use Rattle.ranges.specs.Walk.{line, layer, walk}
 use Rattle.solids.specs.Shapes.{boxes, aabbsOf, shapeOf, cellShape}
 use Rattle.solids.proofs.Boxes.{head-registered, plain-shape}
-use Rattle.collection.specs.Collect.{offerAll, visit, rangeOf, push, pushed, collectUpTo, sweptArea}
-use Rattle.through.specs.Through.{moveAabb}
+use Rattle.collection.specs.Collect.{offerAll, visit, rangeOf, push, pushed, collectUpTo}
 use Rattle.groups.specs.Groups.{isEmptyState, isEmpty}
 use Rattle.groups.specs.Summary.{wordsBefore}
 use Rattle.groups.proofs.Sets.{Kept}
 use Rattle.passing.specs.Passing.{passes}
 use Rattle.passing.proofs.Clear.{clear, never}
-use Rattle.past.specs.Past.{layerPast, walkPast, collectPast, moveAabbPast}
+use Rattle.collection.specs.Past.{collectPast}
+use Rattle.collection.proofs.Past.{idle-layer, collects}
 
 -- ---- a state without boxes has none
 no-boxes : (shapes : List Float) (first : ℕ) → boxesAt shapes first 0 ≡ []
@@ -67,33 +65,7 @@ module _ {S : Type 0} (accept : Aabb → S → Ask (Turn S Bool)) (area : Aabb) 
       go (found none) e h = absurd (false≢true h)
       go (found (some id)) e h = rw (e, empty-state p id h) (nothing-offered p s (wordAt records id 7))
 
--- ---- a loop whose turns all go on with what they are given
-idle : {S R : Type 0} (f : ℕ → S → Ask (Turn S R)) (n i : ℕ) → ((j : ℕ) → i ≤ j → j < i + n → (s : S) → f j s ≡ found (next s)) → (s : S) → turning f n i s ≡ found (next s)
-unfolding turning
-idle f zero i h s = refl
-idle f (suc n) i h s = rw (h i (omega arith) (omega arith) s) (idle f n (i + 1) (λ j a b. h j (omega arith) (omega arith)) s)
-
-idle-layer : {S R : Type 0} (f : Pos → S → Ask (Turn S R)) (r : Range) (y : ℕ) → ((x z : ℕ) → x < r .x .count → z < r .z .count → (s : S) → f (placeAt r x y z) s ≡ found (next s)) → (s : S) → layer f r y s ≡ found (next s)
-unfolding layer line
-idle-layer f r y h s =
-    idle (line f r y) (r .x .count) 0
-    (λ x a b t. idle (λ z. f (placeAt r x y z)) (r .z .count) 0 (λ z c d u. h x z (omega arith) (omega arith) u) t) s
-
--- ---- passing over layers that add nothing
-walks : {S R : Type 0} (over : ℕ → Bool) (f : Pos → S → Ask (Turn S R)) (r : Range) → ((y : ℕ) → over y ≡ true → (s : S) → layer f r y s ≡ found (next s)) → (s : S) → walkPast over f r s ≡ walk f r s
-unfolding walkPast walk layerPast choose
-walks {S} {R} over f r h s = ap (λ (g : ℕ → S → Ask (Turn S R)). turning g (r .y .count) 0 s) (λ i y t. same y t (over y) refl i)
-  where
-    same : (y : ℕ) (t : S) (b : Bool) → over y ≡ b → choose (over y) (found (next t)) (layer f r y t) ≡ layer f r y t
-    same y t true e = rw e (sym (h y e t))
-    same y t false e = rw e
-
-collects : (over : Range → ℕ → Bool) (cap : ℕ) (look : Pos → Ask Block) (records : List ℕ) (shapes : List Float) (area : Aabb)
-    → ((y : ℕ) → over (rangeOf area) y ≡ true → (s : List Aabb) → layer (visit (push cap) area look records shapes) (rangeOf area) y s ≡ found (next s))
-    → collectPast over cap look records shapes area ≡ collectUpTo cap look records shapes area
-unfolding collectPast collectUpTo
-collects over cap look records shapes area h = rw (walks (over (rangeOf area)) (visit (push cap) area look records shapes) (rangeOf area) h [])
-
+-- ---- collection
 module _ (words : List ℕ) (w : Window) (records : List ℕ) (shapes : List Float) where
   -- by a summary whose words are those built afresh
   pub collection-with : Kept records words w → (cap : ℕ) (area : Aabb) → collectPast (passes words w) cap (lookAt words w) records shapes area ≡ collectUpTo cap (lookAt words w) records shapes area
@@ -102,17 +74,9 @@ module _ (words : List ℕ) (w : Window) (records : List ℕ) (shapes : List Flo
       (λ y e s. idle-layer (visit (push cap) area (lookAt words w) records shapes) (rangeOf area) y
       (λ x z hx hz t. cell-adds-nothing (push cap) area (lookAt words w) records shapes (placeAt (rangeOf area) x y z) t (clear words w (rangeOf area) y e x z hx hz records kept)) s)
 
-  pub move-with : Kept records words w → (aabb : Aabb) (delta : Vec3) (step : Float) (ground : Bool) → moveAabbPast (passes words w) (lookAt words w) records shapes aabb delta step ground ≡ moveAabb (lookAt words w) records shapes aabb delta step ground
-  unfolding moveAabbPast moveAabb
-  move-with kept aabb delta step ground = rw (collection-with kept room (sweptArea aabb delta step))
-
   -- and where the words of cells and columns stand alone
   pub collection-without : length words ≤ wordsBefore (w .sizes) → (cap : ℕ) (area : Aabb) → collectPast (passes words w) cap (lookAt words w) records shapes area ≡ collectUpTo cap (lookAt words w) records shapes area
   collection-without short cap area =
       collects (passes words w) cap (lookAt words w) records shapes area
       (λ y e s. idle-layer (visit (push cap) area (lookAt words w) records shapes) (rangeOf area) y
       (λ x z hx hz t. absurd (never words w (rangeOf area) y e x z hx hz short)) s)
-
-  pub move-without : length words ≤ wordsBefore (w .sizes) → (aabb : Aabb) (delta : Vec3) (step : Float) (ground : Bool) → moveAabbPast (passes words w) (lookAt words w) records shapes aabb delta step ground ≡ moveAabb (lookAt words w) records shapes aabb delta step ground
-  unfolding moveAabbPast moveAabb
-  move-without short aabb delta step ground = rw (collection-without short room (sweptArea aabb delta step))

@@ -9,7 +9,8 @@ use sweeps::Request;
 use window::Window;
 ghost use mathlib.Core.Path.{_≡_};
 ghost use Rattle.window.specs.Look.{lookAt};
-ghost use Rattle.through.specs.Through.{movedAsked, moveAabb};
+ghost use Rattle.passing.specs.Passing.{passes};
+ghost use Rattle.through.specs.Through.{movedAsked, moveAabbPast};
 
 // A move, or the number of a refusal.
 pub enum AskedMove {
@@ -19,13 +20,15 @@ pub enum AskedMove {
 
 // Collection and passes stand in one function, so that the list is read where it was built: handed on by value, it would be copied.
 fn swept_through(records: &[u32], shapes: &[f32], cells: &[u32], w: Window, q: Request) -> AskedMove
-    ensures { λ r. ⌜ movedAsked r ≡ moveAabb (lookAt (now (cells .entry)) w) (now (records .entry)) (now (shapes .entry)) (q .aabb) (q .delta) (q .step) (q .ground) ⌝ }
+    ensures { λ r. ⌜ movedAsked r ≡ moveAabbPast (passes (now (cells .entry)) w) (lookAt (now (cells .entry)) w) (now (records .entry)) (now (shapes .entry)) (q .aabb) (q .delta) (q .step) (q .ground) ⌝ }
 {
     let area = collection::swept_area(q.aabb, q.delta, q.step);
     let r = collection::range_of(area);
+    let over = passing::reach_in(cells, w, r);
     let mut list = BoxList::new();
     for y in 0..r.y.count {
-        for x in 0..r.x.count {
+        let lines = passing::lines_at(cells, w, r, over, y);
+        for x in 0..lines {
             for z in 0..r.z.count {
                 let p = ranges::place(r, At { x, y, z });
                 let part = match solids::part_at(records, cells, w, p) {
@@ -69,7 +72,7 @@ fn swept_through(records: &[u32], shapes: &[f32], cells: &[u32], w: Window, q: R
 
 // The move: step is the step height, ground whether the body was on the ground. It refuses 5 and 6 alone.
 pub fn move_through(records: &[u32], shapes: &[f32], cells: &[u32], w: Window, aabb: Aabb, delta: Vec3, step: f64, ground: bool) -> AskedMove
-    ensures { λ r. ⌜ movedAsked r ≡ moveAabb (lookAt (now (cells .entry)) w) (now (records .entry)) (now (shapes .entry)) aabb delta step ground ⌝ }
+    ensures { λ r. ⌜ movedAsked r ≡ moveAabbPast (passes (now (cells .entry)) w) (lookAt (now (cells .entry)) w) (now (records .entry)) (now (shapes .entry)) aabb delta step ground ⌝ }
 {
     let q = Request {
         aabb,

@@ -1,20 +1,16 @@
--- Collection that passes over layers, and the move by it: as `Collect` and `Through` have them, but a layer of which `over` says yes is not come to.
+-- Collection that passes over layers: as `Collect` has it, but a layer of which `over` says yes is not come to.
 use mathlib.Core.Bool.{Bool}
 use mathlib.Core.List.{List, []}
 use Prim.Native.Nat.{ℕ}
 use lib.Ieee.{Float}
 use Rattle.base.specs.Choose.{choose}
 use Rattle.base.specs.Ask.{Ask, refused, found, _>>=_, Turn, next, turning}
-use Rattle.boxes.specs.declared.Vec3.{Vec3}
 use Rattle.boxes.specs.declared.Aabb.{Aabb}
-use Rattle.sweeps.specs.declared.MoveResult.{MoveResult}
-use Rattle.sweeps.specs.Lists.{room}
-use Rattle.sweeps.specs.Move.{moveOver}
 use Rattle.window.specs.declared.Pos.{Pos}
 use Rattle.window.specs.Look.{Block}
 use Rattle.ranges.specs.declared.Range.{Range}
 use Rattle.ranges.specs.Walk.{layer}
-use Rattle.collection.specs.Collect.{visit, rangeOf, push, pushed, sweptArea}
+use Rattle.collection.specs.Collect.{visit, rangeOf, push, pushed}
 
 -- `over` says of each layer of the range whether it is passed over
 module _ {S R : Type 0} (over : ℕ → Bool) (f : Pos → S → Ask (Turn S R)) (r : Range) where
@@ -29,8 +25,3 @@ unfoldable pub collectPast : (Range → ℕ → Bool) → ℕ → (Pos → Ask B
 collectPast over cap look records shapes area = do
   t ← walkPast (over (rangeOf area)) (visit (push cap) area look records shapes) (rangeOf area) []
   found (pushed t)
-
-unfoldable pub moveAabbPast : (Range → ℕ → Bool) → (Pos → Ask Block) → List ℕ → List Float → Aabb → Vec3 → Float → Bool → Ask MoveResult
-moveAabbPast over look records shapes aabb delta stepHeight wasOnGround = do
-  boxes ← collectPast over room look records shapes (sweptArea aabb delta stepHeight)
-  found (moveOver boxes aabb delta stepHeight wasOnGround)
