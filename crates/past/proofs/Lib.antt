@@ -1,2 +1,3 @@
--- Collection past layers is plain collection.
+-- Collection past layers is plain collection; and what a checked window has of a summary.
 pub mod Same
+pub mod Plain

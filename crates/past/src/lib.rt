@@ -1,1 +1,1 @@
-// No code: collection and the move past layers that a summary marks are plain collection and the plain move.
+// No code: collection past the layers that a summary marks is plain collection; and a window that passes its check has no summary.

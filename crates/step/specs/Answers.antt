@@ -26,7 +26,7 @@ use Rattle.drags.specs.declared.Sample.{Sample}
 use Rattle.drags.specs.declared.Support.the-variants.{Asked, NotAsked}
 use Rattle.drags.specs.Cases.{sampleOr}
 use Rattle.samples.specs.Samples.{livingSample, livingBlockFriction}
-use Rattle.ticks.specs.Step.{stepBodySensed}
+use Rattle.ticks.specs.Step.{stepBodySensed, stepBodyPast}
 
 -- 9 comes last: a result that is not finite
 unfoldable pub finiteTick : Tick → Ask Tick
@@ -54,9 +54,15 @@ checkedAsked records shapes cells w rules body given age =
     fitting records rules body given
     (stepBodySensed (lookAt cells (withAir w (rules .air))) records shapes rules (bodyOf body) (motionOf given) age >>= finiteTick)
 
--- step_checked: over tables and a window that were checked before
+-- the same where the move goes by the summary behind the words; over a window that has none, or a true one, it is the same (proofs/Laws.antt)
+abbrev pub pastAsked : List ℕ → List Float → List ℕ → Window → Rules → BodyNumbers → MotionNumbers → ℕ → Ask Tick
+pastAsked records shapes words w rules body given age =
+    fitting records rules body given
+    (stepBodyPast words (withAir w (rules .air)) records shapes rules (bodyOf body) (motionOf given) age >>= finiteTick)
+
+-- step_checked: over tables and a window that were checked before, and so was its summary, where there is one
 unfoldable pub checkedEntry : List ℕ → List Float → List ℕ → Window → Rules → BodyNumbers → MotionNumbers → ℕ → StepAnswer
-checkedEntry records shapes cells w rules body given age = stepAnswer given (checkedAsked records shapes cells w rules body given age)
+checkedEntry records shapes words w rules body given age = stepAnswer given (pastAsked records shapes words w rules body given age)
 
 -- step_body_sensed: 1 and 2 before all that
 abbrev pub stepAsked : List ℕ → List Float → List ℕ → Window → Rules → BodyNumbers → MotionNumbers → ℕ → Ask Tick
