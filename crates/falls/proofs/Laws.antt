@@ -16,6 +16,7 @@ use Rattle.bodies.specs.declared.Rules.{Rules}
 use Rattle.bodies.specs.declared.MotionNumbers.{MotionNumbers}
 use Rattle.ticks.specs.declared.Tick.{Tick}
 use Rattle.step.specs.Answers.{stepAnswer, checkedAsked, stepEntry}
+use Rattle.step.proofs.Laws.{past-without}
 use Rattle.falls.specs.declared.Fall.{Fall}
 use Rattle.falls.specs.declared.FallingAnswer.{FallingAnswer}
 use Rattle.falls.specs.Rule.{fallFits}
@@ -62,4 +63,4 @@ module _ (records : List ℕ) (shapes : List Float) (cells : List ℕ) (w : Wind
   pub checked-alike : lentRefusal records shapes cells w ≡ 0
       → fallingChecked records shapes cells w rules body given age fall ≡ fallingEntry records shapes cells w rules body given age fall
   unfolding fallingEntry fallingChecked choose
-  checked-alike h = rw h
+  checked-alike h = rw (h, past-without records shapes cells w rules body given age h)

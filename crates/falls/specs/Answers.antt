@@ -17,7 +17,7 @@ use Rattle.bodies.specs.declared.MotionNumbers.{MotionNumbers}
 use Rattle.bodies.specs.Body.{isYes}
 use Rattle.ticks.specs.declared.Tick.{Tick}
 use Rattle.step.specs.declared.StepAnswer.{StepAnswer}
-use Rattle.step.specs.Answers.{stepAnswer, checkedAsked}
+use Rattle.step.specs.Answers.{stepAnswer, checkedAsked, pastAsked}
 use Rattle.falls.specs.declared.Fall.{Fall}
 use Rattle.falls.specs.declared.FallingAnswer.{FallingAnswer}
 use Rattle.falls.specs.Rule.{fallAfter, fallFits}
@@ -39,10 +39,10 @@ abbrev pub fallingAsked : List ℕ → List Float → List ℕ → Window → Ru
 fallingAsked records shapes cells w rules body given age fall =
     unless (not (fallFits fall)) 3 (checkedAsked records shapes cells w rules body given age)
 
--- step_falling_checked: over tables and a window that were checked before
+-- step_falling_checked: over tables and a window that were checked before, and so was its summary, where there is one
 unfoldable pub fallingChecked : List ℕ → List Float → List ℕ → Window → Rules → BodyNumbers → MotionNumbers → ℕ → Fall → FallingAnswer
-fallingChecked records shapes cells w rules body given age fall =
-    withFall fall given (stepAnswer given (fallingAsked records shapes cells w rules body given age fall))
+fallingChecked records shapes words w rules body given age fall =
+    withFall fall given (stepAnswer given (unless (not (fallFits fall)) 3 (pastAsked records shapes words w rules body given age)))
 
 -- step_falling: 1 and 2 before all that
 unfoldable pub fallingEntry : List ℕ → List Float → List ℕ → Window → Rules → BodyNumbers → MotionNumbers → ℕ → Fall → FallingAnswer

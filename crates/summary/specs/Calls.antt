@@ -1,12 +1,14 @@
 -- What a host is handed of a summary: 1, 2 and 3 of what it lends come first, as in every call that asks for cells; then 11 for a summary of the
 -- wrong length, 13 for a word that disagrees with its cells, and 5 for a set outside the window. A refusal changes nothing.
+use mathlib.Core.Bool.{not}
 use mathlib.Core.List.{List}
 use Prim.Native.Nat.{ℕ}
 use lib.Dec.{eqb}
 use lib.Ieee.{Float}
 use lib.ListN.{take}
 use Rattle.base.specs.Choose.{choose}
-use Rattle.lent.specs.Lent.{directRefusal}
+use Rattle.base.specs.Ask.{Ask}
+use Rattle.lent.specs.Lent.{unless, directRefusal}
 use Rattle.window.specs.declared.Pos.{Pos}
 use Rattle.window.specs.declared.Window.{Window}
 use Rattle.window.specs.Window.{sizesFit}
@@ -24,6 +26,10 @@ plainRefusal records shapes words w = directRefusal records shapes (plain words 
 unfoldable pub summedRefusal : List ℕ → List Float → List ℕ → Window → ℕ
 summedRefusal records shapes words w =
     choose (eqb (plainRefusal records shapes words w) 0) (summaryRefusal records words w) (plainRefusal records shapes words w)
+
+-- in an entry over a summary 11 and 13 come after 4, and before any cell is asked for
+abbrev pub summed : {A : Type 0} → List ℕ → List ℕ → Window → Ask A → Ask A
+summed records words w ask = unless (not (eqb (summaryRefusal records words w) 0)) (summaryRefusal records words w) ask
 
 -- ---- building
 
