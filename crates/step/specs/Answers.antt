@@ -13,6 +13,7 @@ use Rattle.window.specs.declared.Window.{Window}
 use Rattle.window.specs.Look.{lookAt}
 use Rattle.window.specs.Numbers.{withAir}
 use Rattle.lent.specs.Lent.{unless, sound}
+use Rattle.summary.specs.Calls.{plain, summed}
 use Rattle.bodies.specs.declared.BodyNumbers.{BodyNumbers}
 use Rattle.bodies.specs.declared.Rules.{Rules}
 use Rattle.bodies.specs.declared.MotionNumbers.{MotionNumbers}
@@ -70,6 +71,16 @@ stepAsked records shapes cells w rules body given age = sound records shapes cel
 
 unfoldable pub stepEntry : List ℕ → List Float → List ℕ → Window → Rules → BodyNumbers → MotionNumbers → ℕ → StepAnswer
 stepEntry records shapes cells w rules body given age = stepAnswer given (stepAsked records shapes cells w rules body given age)
+
+-- over a summary, which is of a window and an air state: 11 and 13 after 4, then the step over cells and columns
+abbrev pub summedAsked : List ℕ → List Float → List ℕ → Window → Rules → BodyNumbers → MotionNumbers → ℕ → Ask Tick
+summedAsked records shapes words w rules body given age =
+    fitting records rules body given
+    (summed records words (withAir w (rules .air)) (checkedAsked records shapes (plain words w) w rules body given age))
+
+unfoldable pub stepSummed : List ℕ → List Float → List ℕ → Window → Rules → BodyNumbers → MotionNumbers → ℕ → StepAnswer
+stepSummed records shapes words w rules body given age =
+    stepAnswer given (sound records shapes (plain words w) w (summedAsked records shapes words w rules body given age))
 
 -- step_body: the same without what was sensed
 abbrev pub motionAlone : StepAnswer → MotionAnswer
