@@ -1,4 +1,4 @@
--- Collection cell by cell and box by box, as the code does it, comes to `collectUpTo`. Assumes nothing.
+-- Collection cell by cell and box by box, as the code does it, comes to `collectInPast`. Assumes nothing.
 use mathlib.Core.Path.{_≡_, refl, sym, ap, _∙_}
 use mathlib.Core.Bool.{Bool, true, false}
 use mathlib.Core.List.{List, [], _∷_, _++_}
@@ -20,12 +20,10 @@ use Rattle.sweeps.specs.Lists.{room, listOf, emptyList, noBox, held}
 use Rattle.window.specs.declared.Pos.{Pos}
 use Rattle.window.specs.Look.{Block}
 use Rattle.ranges.specs.declared.Range.{Range}
-use Rattle.ranges.specs.declared.At.{At}
-use Rattle.ranges.specs.Ranges.{placeAt, placeOf, startOf, nextOf, trimmed}
-use Rattle.ranges.specs.Walk.{line, layer, walk}
-use Rattle.ranges.proofs.Walks.{walk-trimmed, rest, rest-start, rest-turn, rest-end, Within, start-within, next-within, left, next-less}
-use Rattle.collection.specs.Collect.{cellShape, offer, offerAll, visit, push, rangeOf, collectUpTo}
-use Rattle.collection.specs.Past.{layerPast, walkPast, collectPast}
+use Rattle.ranges.specs.Ranges.{placeAt}
+use Rattle.ranges.specs.Walk.{line, layer}
+use Rattle.collection.specs.Collect.{cellShape, offer, offerAll, visit, push}
+use Rattle.collection.specs.Past.{layerPast, walkPast, collectInPast}
 use Rattle.tables.specs.Tables.{boxesAt}
 use Rattle.solids.specs.declared.Shape.{Shape}
 use Rattle.solids.specs.Parts.{shapeIn, countOf, nthAabb}
@@ -111,10 +109,7 @@ module _ {S : Type 0} (accept : Aabb → S → Ask (Turn S Bool)) (look : Pos �
         ∙ sym (from-start (λ k. offer accept area (g k)) n after s)))
 
   module _ (r : Range) where
-    abbrev pub all : S → Ask (Turn S Bool)
-    all = walk visiting r
-
-    -- ---- what is left of a walk past layers, in each of the move's three loops: layers, the lines of a layer, the cells of a line. `over` says which
+    -- ---- what is left of a walk past layers, in each of the three loops: layers, the lines of a layer, the cells of a line. `over` says which
     -- layers are passed over: of such a layer no line is come to
     module _ (over : ℕ → Bool) where
       abbrev pub lines : ℕ → ℕ
@@ -173,26 +168,6 @@ module _ {S : Type 0} (accept : Aabb → S → Ask (Turn S Bool)) (look : Pos �
       unfolding layersFrom
       layers-end y s h = from-end (layerPast over visiting r) (r .y .count) (λ a. found (next a)) y s h
 
-    -- ---- and in the one loop of the entries, from a cell of the range on
-    abbrev pub cellFrom : At → S → Ask (Turn S Bool)
-    cellFrom = rest visiting r
-
-    pub range-begins : (t : At) (s : S) → t ≡ startOf r → Within r t × (cellFrom t s ≡ all s)
-    range-begins t s e = rw e (start-within r, rest-start visiting r s)
-
-    pub range-ends : (t : At) (s : S) → r .y .count ≤ t .y → cellFrom t s ≡ found (next s)
-    range-ends t s h = rest-end visiting r t s h
-
-    module _ (t : At) (within : Within r t) (h : t .y < r .y .count) where
-      pub cell-turn : (s : S) (p : Pos) → p ≡ placeOf r t → cellFrom t s ≡ (visiting p s >>= onward (cellFrom (nextOf r t)))
-      cell-turn s p e = rw e (rest-turn visiting r t s h (within .x h) (within .z h))
-
-      pub cell-next : (t' : At) → t' ≡ nextOf r t → (s : S) → Within r t' × (cellFrom t' s ≡ cellFrom (nextOf r t) s)
-      cell-next t' e s = rw e (next-within r t h (within .x h) (within .z h), refl)
-
-pub cell-less : (r : Range) (t : At) → Within r t → t .y < r .y .count → (t' : At) → t' ≡ nextOf r t → left r t' < left r t
-cell-less r t within h t' e = rw e (next-less r t h (within .x h) (within .z h))
-
 -- ---- boxes in place: so much room, and so many of them count
 pub record Room (most : ℕ) (bs : List Aabb) (count : ℕ) : Type 0 where
   pub whole : length bs ≡ most
@@ -234,18 +209,16 @@ pub empty-list : (l : BoxList) → l ≡ emptyList → Room room (l .boxes) (l .
 unfolding emptyList
 empty-list l e = rw e (record { whole = length-replicate 128 noBox; counts = omega arith }, refl)
 
--- ---- the answers, for r the range of the area as `range_of` answers it
-module _ (cap : ℕ) (look : Pos → Ask Block) (records : List ℕ) (shapes : List Float) (area : Aabb) (r : Range) (e : r ≡ trimmed (rangeOf area)) where
-  pub was-collected : (bs : List Aabb) → found (next bs) ≡ all (push cap) look records shapes area r [] → collectUpTo cap look records shapes area ≡ found bs
-  unfolding collectUpTo
-  was-collected bs h = rw (← walk-trimmed (visiting (push cap) look records shapes area) (rangeOf area) [], ← e, ← h)
+-- ---- the answers
+module _ (over : ℕ → Bool) (cap : ℕ) (look : Pos → Ask Block) (records : List ℕ) (shapes : List Float) (area : Aabb) (r : Range) where
+  was-collected : (bs : List Aabb) → found (next bs) ≡ allPast (push cap) look records shapes area r over [] → collectInPast over cap look records shapes area r ≡ found bs
+  was-collected bs h = rw (← h)
 
-  pub was-refused : (k : ℕ) → refused k ≡ all (push cap) look records shapes area r [] → collectUpTo cap look records shapes area ≡ refused k
-  unfolding collectUpTo
-  was-refused k h = rw (← walk-trimmed (visiting (push cap) look records shapes area) (rangeOf area) [], ← e, ← h)
+  was-refused : (k : ℕ) → refused k ≡ allPast (push cap) look records shapes area r over [] → collectInPast over cap look records shapes area r ≡ refused k
+  was-refused k h = rw (← h)
 
-  pub collected : (most : ℕ) (bs : List Aabb) (i : ℕ) → Room most bs i → found (next (take i bs)) ≡ all (push cap) look records shapes area r [] → record { refusal = 0; count = i; boxes = take i bs } ≡ heldAsked (collectUpTo cap look records shapes area)
+  pub collected : (most : ℕ) (bs : List Aabb) (i : ℕ) → Room most bs i → found (next (take i bs)) ≡ allPast (push cap) look records shapes area r over [] → record { refusal = 0; count = i; boxes = take i bs } ≡ heldAsked (collectInPast over cap look records shapes area r)
   collected most bs i has h = rw (was-collected (take i bs) h, counted most bs i has)
 
-  pub not-collected : (k : ℕ) → refused k ≡ all (push cap) look records shapes area r [] → held k [] ≡ heldAsked (collectUpTo cap look records shapes area)
+  pub not-collected : (k : ℕ) → refused k ≡ allPast (push cap) look records shapes area r over [] → held k [] ≡ heldAsked (collectInPast over cap look records shapes area r)
   not-collected k h = rw (was-refused k h)

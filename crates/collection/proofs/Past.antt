@@ -1,6 +1,6 @@
 -- Passing over layers that add nothing leaves collection as it is; and so it is of a range that was trimmed. Assumes nothing.
-use mathlib.Core.Path.{_≡_, refl, sym, ap}
-use mathlib.Core.Bool.{Bool, true, false}
+use mathlib.Core.Path.{_≡_, refl, sym, ap, _∙_}
+use mathlib.Core.Bool.{Bool, true, false, false≢true}
 use mathlib.Core.Logic.{_⊎_, inl, inr}
 use mathlib.Core.List.{List, []}
 use Prim.Native.Nat.{ℕ, zero, suc, _+_, _≤_, _<_}
@@ -9,15 +9,18 @@ use lib.Dec.{eqb}
 use lib.Ieee.{Float}
 use borrow.Author.Tests.{eqb-true}
 use Rattle.base.specs.Choose.{choose}
-use Rattle.base.specs.Ask.{Ask, refused, found, _>>=_, Turn, next, turning}
+use Rattle.base.specs.Ask.{Ask, found, _>>=_, Turn, next, turning}
 use Rattle.boxes.specs.declared.Aabb.{Aabb}
 use Rattle.window.specs.declared.Pos.{Pos}
+use Rattle.window.specs.declared.Window.{Window}
 use Rattle.window.specs.Look.{Block}
 use Rattle.ranges.specs.declared.Range.{Range}
 use Rattle.ranges.specs.Ranges.{placeAt, noCells, trimmed}
 use Rattle.ranges.specs.Walk.{line, layer, walk}
+use Rattle.passing.specs.declared.Reach.{Reach}
+use Rattle.passing.specs.Passing.{nowhere, passesBy}
 use Rattle.collection.specs.Collect.{visit, rangeOf, push, pushed, collectUpTo}
-use Rattle.collection.specs.Past.{layerPast, walkPast, collectPast}
+use Rattle.collection.specs.Past.{layerPast, walkPast, collectInPast, collectPast}
 
 -- ---- a loop whose turns all go on with what they are given
 pub idle : {S R : Type 0} (f : ℕ → S → Ask (Turn S R)) (n i : ℕ) → ((j : ℕ) → i ≤ j → j < i + n → (s : S) → f j s ≡ found (next s)) → (s : S) → turning f n i s ≡ found (next s)
@@ -70,12 +73,21 @@ module _ {S R : Type 0} (over : Range → ℕ → Bool) (f : Pos → S → Ask (
       go false true ep eq = sym (empty-walk (inr (eqb-true (r .z .count) 0 eq)) s)
       go false false ep eq = refl
 
--- ---- the answers, for r the range of the area as `range_of` answers it
-module _ (over : Range → ℕ → Bool) (cap : ℕ) (look : Pos → Ask Block) (records : List ℕ) (shapes : List Float) (area : Aabb) (r : Range) (e : r ≡ trimmed (rangeOf area)) where
-  pub was-collected : (bs : List Aabb) → found (next bs) ≡ walkPast (over r) (visit (push cap) area look records shapes) r [] → collectPast over cap look records shapes area ≡ found bs
-  unfolding collectPast
-  was-collected bs h = rw (← past-trimmed over (visit (push cap) area look records shapes) (rangeOf area) [], ← e, ← h)
+-- for the range of the area, as `range_of` answers it
+pub in-range : (over : Range → ℕ → Bool) (cap : ℕ) (look : Pos → Ask Block) (records : List ℕ) (shapes : List Float) (area : Aabb) (r : Range) → r ≡ trimmed (rangeOf area)
+    → collectInPast (over r) cap look records shapes area r ≡ collectPast over cap look records shapes area
+unfolding collectPast
+in-range over cap look records shapes area r e = rw (e, past-trimmed over (visit (push cap) area look records shapes) (rangeOf area) [])
 
-  pub was-refused : (k : ℕ) → refused k ≡ walkPast (over r) (visit (push cap) area look records shapes) r [] → collectPast over cap look records shapes area ≡ refused k
-  unfolding collectPast
-  was-refused k h = rw (← past-trimmed over (visit (push cap) area look records shapes) (rangeOf area) [], ← e, ← h)
+-- by a reach of nowhere no layer is passed over
+module _ (words : List ℕ) (w : Window) where
+  none-passed : (r : Range) (y : ℕ) → passesBy words w r nowhere y ≡ false
+  unfolding passesBy
+  none-passed r y = refl
+
+  pub all-come-to : (cap : ℕ) (look : Pos → Ask Block) (records : List ℕ) (shapes : List Float) (area : Aabb) (r : Range) (k : Reach) → k ≡ nowhere → r ≡ trimmed (rangeOf area)
+      → collectInPast (passesBy words w r k) cap look records shapes area r ≡ collectUpTo cap look records shapes area
+  all-come-to cap look records shapes area r k e f =
+      ap (λ (n : Reach). collectInPast (passesBy words w r n) cap look records shapes area r) e
+      ∙ in-range (λ q. passesBy words w q nowhere) cap look records shapes area r f
+      ∙ collects (λ q. passesBy words w q nowhere) cap look records shapes area (λ y h s. absurd (false≢true (sym (none-passed (rangeOf area) y) ∙ h)))

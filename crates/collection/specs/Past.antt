@@ -20,8 +20,12 @@ module _ {S R : Type 0} (over : ℕ → Bool) (f : Pos → S → Ask (Turn S R))
   unfoldable pub walkPast : S → Ask (Turn S R)
   walkPast = turning layerPast (r .y .count) 0
 
--- and here of each layer of any range
-unfoldable pub collectPast : (Range → ℕ → Bool) → ℕ → (Pos → Ask Block) → List ℕ → List Float → Aabb → Ask (List Aabb)
-collectPast over cap look records shapes area = do
-  t ← walkPast (over (rangeOf area)) (visit (push cap) area look records shapes) (rangeOf area) []
+-- from the cells of a range
+abbrev pub collectInPast : (ℕ → Bool) → ℕ → (Pos → Ask Block) → List ℕ → List Float → Aabb → Range → Ask (List Aabb)
+collectInPast over cap look records shapes area r = do
+  t ← walkPast over (visit (push cap) area look records shapes) r []
   found (pushed t)
+
+-- here `over` says it of each layer of any range
+unfoldable pub collectPast : (Range → ℕ → Bool) → ℕ → (Pos → Ask Block) → List ℕ → List Float → Aabb → Ask (List Aabb)
+collectPast over cap look records shapes area = collectInPast (over (rangeOf area)) cap look records shapes area (rangeOf area)

@@ -9,7 +9,7 @@ ghost use mathlib.Core.Path.{_≡_};
 ghost use Prim.Native.Nat.{_+_, _*_, _-_, _/_, _≤_};
 ghost use lib.Dec.{eqb};
 ghost use lib.ListN.{getD};
-ghost use Rattle.passing.specs.Passing.{spans, reachOf, reachIn, marked, allMarked, passesBy, linesBy};
+ghost use Rattle.passing.specs.Passing.{spans, nowhere, reachOf, reachIn, marked, allMarked, passesBy, linesBy};
 
 // The groups of a range's columns: the first on x and z, and how many from there on; where the words of groups stand, and how many groups a row and
 // a layer of them has. `on` is no where a column of the range lies outside the window.
@@ -22,6 +22,13 @@ pub struct Reach {
     pub z: u8,
     pub across: u8,
     pub deep: u8,
+}
+
+// It reaches no group: by it no layer is passed over.
+pub fn nowhere() -> Reach
+    ensures { λ k. ⌜ k ≡ nowhere ⌝ }
+{
+    Reach { on: false, before: 0, row: 0, layer: 0, x: 0, z: 0, across: 0, deep: 0 }
 }
 
 fn wide(x: u32) -> usize

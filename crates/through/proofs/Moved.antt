@@ -1,8 +1,10 @@
--- The move over what was collected from the swept area comes to `moveAabbPast`; the move refuses 5 and 6 alone. Assumes nothing.
-use mathlib.Core.Path.{_≡_}
+-- The move over what was collected from the swept area comes to `moveAabbPast`, and refuses 5 and 6 alone. Assumes nothing.
+use mathlib.Core.Path.{_≡_, refl}
 use mathlib.Core.Bool.{Bool}
 use mathlib.Core.List.{List, []}
 use Prim.Native.Nat.{ℕ, _≤_, _<_}
+use native.Mathlib.Omega.{arith}
+use lib.ListN.{take, length-replicate}
 use lib.Ieee.{Float}
 use Rattle.base.specs.Choose.{choose}
 use Rattle.base.specs.Ask.{Ask, refused, found, next}
@@ -12,7 +14,8 @@ use Rattle.sweeps.specs.declared.Sweep.{Sweep}
 use Rattle.sweeps.specs.declared.MoveResult.{MoveResult}
 use Rattle.sweeps.specs.Passes.{sweepOf, endOfMove}
 use Rattle.sweeps.proofs.Shape.{moves}
-use Rattle.sweeps.specs.Lists.{room}
+use Rattle.sweeps.specs.Lists.{Held, room, noBox}
+use Rattle.sweeps.specs.Move.{moveOver}
 use Rattle.window.specs.declared.Window.{Window}
 use Rattle.window.specs.Look.{lookAt}
 use Rattle.ranges.specs.declared.Range.{Range}
@@ -20,23 +23,44 @@ use Rattle.ranges.specs.Ranges.{trimmed}
 use Rattle.passing.specs.declared.Reach.{Reach}
 use Rattle.passing.specs.Passing.{reachIn, linesBy, passes}
 use Rattle.collection.specs.Collect.{push, rangeOf, sweptArea}
+use Rattle.collection.specs.Past.{collectInPast}
+use Rattle.collection.specs.Answers.{heldAsked}
 use Rattle.through.specs.Through.{moveAabb, moveAabbPast}
+use Rattle.through.specs.Few.{few, emptyFew, moveFrom}
+use Rattle.through.specs.declared.Few.{Few}
 use Rattle.boxes.specs.declared.Vec3.{Vec3}
-use Rattle.collection.proofs.Collects.{allPast}
-use Rattle.collection.proofs.Past.{was-collected, was-refused}
-use Rattle.collection.proofs.Refuses.{Refuses, FiveOrSix, finds, after, collect-refuses}
+use Rattle.collection.proofs.Collects.{Room, allPast}
+use Rattle.collection.proofs.Past.{in-range}
+use Rattle.collection.proofs.Caps.{list-told, refusal-told}
+use Rattle.collection.proofs.Refuses.{Refuses, FiveOrSix, finds, after, past-refuses, collect-refuses}
 
-module _ (over : Range → ℕ → Bool) (cells : List ℕ) (w : Window) (records : List ℕ) (shapes : List Float) (q : Request) (area : Aabb) (e : area ≡ sweptArea (q .aabb) (q .delta) (q .step)) where
+module _ (over : ℕ → Bool) (cells : List ℕ) (w : Window) (records : List ℕ) (shapes : List Float) (q : Request) (area : Aabb) (r : Range) where
   abbrev whole-move : Ask MoveResult
-  whole-move = moveAabbPast over (lookAt cells w) records shapes (q .aabb) (q .delta) (q .step) (q .ground)
+  whole-move = moveFrom over (lookAt cells w) records shapes q area r
 
-  pub moved : (r : Range) → r ≡ trimmed (rangeOf area) → (bs : List Aabb) → found (next bs) ≡ allPast (push room) (lookAt cells w) records shapes area r (over r) [] → (s : Sweep) → s ≡ sweepOf bs q → (m : MoveResult) → m ≡ endOfMove q s → found m ≡ whole-move
-  unfolding moveAabbPast
-  moved r er bs h s es m em = rw (← e, was-collected over room (lookAt cells w) records shapes area r er bs h, em, moves bs q s es)
+  pub moved : (bs : List Aabb) → found (next bs) ≡ allPast (push room) (lookAt cells w) records shapes area r over [] → (s : Sweep) → s ≡ sweepOf bs q → (m : MoveResult) → m ≡ endOfMove q s → found m ≡ whole-move
+  unfolding moveFrom
+  moved bs h s es m em = rw (← h, em, moves bs q s es)
 
-  pub not-moved : (r : Range) → r ≡ trimmed (rangeOf area) → (k : ℕ) → refused k ≡ allPast (push room) (lookAt cells w) records shapes area r (over r) [] → refused k ≡ whole-move
-  unfolding moveAabbPast
-  not-moved r er k h = rw (← e, was-refused over room (lookAt cells w) records shapes area r er k h)
+  pub not-moved : (k : ℕ) → refused k ≡ allPast (push room) (lookAt cells w) records shapes area r over [] → refused k ≡ whole-move
+  unfolding moveFrom
+  not-moved k h = rw (← h)
+
+  -- from the answer of a collection
+  module _ (h : Held) (e : h ≡ heldAsked (collectInPast over room (lookAt cells w) records shapes area r)) where
+    pub moved-over : h .refusal ≡ 0 → (m : MoveResult) → m ≡ moveOver (h .boxes) (q .aabb) (q .delta) (q .step) (q .ground) → found m ≡ whole-move
+    unfolding moveFrom
+    moved-over z m em = rw (list-told h (collectInPast over room (lookAt cells w) records shapes area r) (past-refuses over room cells w records shapes area r) e z, em)
+
+    pub told-refused : (h .refusal ≡ 0 → ⊥) → refused (h .refusal) ≡ whole-move
+    unfolding moveFrom
+    told-refused z = rw (refusal-told h (collectInPast over room (lookAt cells w) records shapes area r) e z)
+
+-- for the range of the swept area, as `range_of` answers it
+pub as-asked : (over : Range → ℕ → Bool) (cells : List ℕ) (w : Window) (records : List ℕ) (shapes : List Float) (q : Request) (area : Aabb) (r : Range) → area ≡ sweptArea (q .aabb) (q .delta) (q .step) → r ≡ trimmed (rangeOf area)
+    → moveFrom (over r) (lookAt cells w) records shapes q area r ≡ moveAabbPast over (lookAt cells w) records shapes (q .aabb) (q .delta) (q .step) (q .ground)
+unfolding moveFrom moveAabbPast
+as-asked over cells w records shapes q area r e er = rw (in-range over room (lookAt cells w) records shapes area r er, e)
 
 -- ---- the lines of a layer, as the program has them
 module _ (words : List ℕ) (w : Window) (r : Range) (k : Reach) (y lines x : ℕ) (e : k ≡ reachIn words w r) (f : lines ≡ linesBy words w r k y) where
@@ -52,3 +76,7 @@ module _ (words : List ℕ) (w : Window) (r : Range) (k : Reach) (y lines x : �
 pub move-refuses : (cells : List ℕ) (w : Window) (records : List ℕ) (shapes : List Float) (aabb : Aabb) (delta : Vec3) (step : Float) (ground : Bool) → Refuses FiveOrSix (moveAabb (lookAt cells w) records shapes aabb delta step ground)
 unfolding moveAabb
 move-refuses cells w records shapes aabb delta step ground = after _ _ (collect-refuses cells w records shapes _) (λ bs. finds _)
+
+pub empty-few : (l : Few) → l ≡ emptyFew → Room few (l .boxes) (l .count) × (take (l .count) (l .boxes) ≡ [])
+unfolding emptyFew
+empty-few l e = rw e (record { whole = length-replicate few noBox; counts = omega arith }, refl)
