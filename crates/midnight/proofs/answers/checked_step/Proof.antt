@@ -33,7 +33,9 @@ step-falling-checked-requires c κs = search needs
 
 returns : tie.Need-returns
 unfolding checkedStep
-returns c = rw (← c .before .before .before .before .before .before .before .before .scene-words .ensures, ← c .before .before .before .before .before .before .before .rules-from .ensures, ← c .before .before .before .before .before .before .cells-in .ensures, ← c .before .before .before .before .before .step-words .ensures, ← c .before .before .before .before .body-from .ensures, ← c .before .before .before .motion-from .ensures, ← c .before .before .age-in .ensures, ← c .before .fall-in .ensures) (c .step-falling-checked .ensures)
+returns c =
+    let own = rw (c .before .before .before .before .before .before .cells-in .ensures, c .before .before .before .before .before .before .before .rules-from .ensures, c .before .before .before .before .before .before .before .before .scene-words .ensures) at (c .before .before .before .before .before .step-words .ensures) in
+    rw (← own, ← c .before .before .before .before .before .before .before .before .scene-words .ensures, ← c .before .before .before .before .before .before .before .rules-from .ensures, ← c .before .before .before .before .body-from .ensures, ← c .before .before .before .motion-from .ensures, ← c .before .before .age-in .ensures, ← c .before .fall-in .ensures) (c .step-falling-checked .ensures)
 
 pub checked-step-spec : {M : Type 1} → statement M
 checked-step-spec =

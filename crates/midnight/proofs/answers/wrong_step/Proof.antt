@@ -21,13 +21,13 @@ late-body-requires : tie.Need-late-body-requires
 late-body-requires c κs = search needs
 
 returns : tie.Need-returns
-returns c = c .late-body .ensures ∙ wrong-own _ _ _ _ _ _ (c .before .before .before .before .before .before .if1 .taken) (rw (c .before .before .last-in .ensures, c .before .before .before .cells-in .ensures, c .before .before .before .before .rules-from .ensures, c .before .before .before .before .before .scene-words .ensures) at (c .before .if2 .taken))
+returns c = c .late-body .ensures ∙ wrong-own _ _ _ _ _ _ (c .before .before .before .before .before .before .before .if1 .taken) (rw (c .before .before .before .last-in .ensures, c .before .before .before .before .cells-in .ensures, c .before .before .before .before .before .rules-from .ensures, c .before .before .before .before .before .before .scene-words .ensures) at (c .before .if2 .taken))
 
 checked-step-requires : tie.Need-checked-step-requires
 checked-step-requires c κs = search needs
 
 returns-2 : tie.Need-returns-2
-returns-2 c = c .checked-step .ensures ∙ wrong-other _ _ _ _ _ _ (c .before .before .before .before .before .before .if1 .taken) (rw (c .before .before .last-in .ensures, c .before .before .before .cells-in .ensures, c .before .before .before .before .rules-from .ensures, c .before .before .before .before .before .scene-words .ensures) at (c .before .if2 .left))
+returns-2 c = c .checked-step .ensures ∙ wrong-other _ _ _ _ _ _ (c .before .before .before .before .before .before .before .if1 .taken) (rw (c .before .before .before .last-in .ensures, c .before .before .before .before .cells-in .ensures, c .before .before .before .before .before .rules-from .ensures, c .before .before .before .before .before .before .scene-words .ensures) at (c .before .if2 .left))
 
 refused-body-requires : tie.Need-refused-body-requires
 refused-body-requires c κs = search needs
