@@ -1,4 +1,4 @@
--- Collection cell by cell and box by box, as the code does it, comes to `collectUpTo`. Assumes nothing.
+-- Collection cell by cell and box by box, as the code does it, comes to `collectInPast`. Assumes nothing.
 use mathlib.Core.Path.{_≡_, refl, sym, ap, _∙_}
 use mathlib.Core.Bool.{Bool, true, false}
 use mathlib.Core.List.{List, [], _∷_, _++_}
@@ -20,11 +20,10 @@ use Rattle.sweeps.specs.Lists.{room, listOf, emptyList, noBox, held}
 use Rattle.window.specs.declared.Pos.{Pos}
 use Rattle.window.specs.Look.{Block}
 use Rattle.ranges.specs.declared.Range.{Range}
-use Rattle.ranges.specs.declared.At.{At}
-use Rattle.ranges.specs.Ranges.{placeAt, placeOf, startOf, nextOf, trimmed}
-use Rattle.ranges.specs.Walk.{line, layer, walk}
-use Rattle.ranges.proofs.Walks.{walk-trimmed, rest, rest-start, rest-turn, rest-end, Within, start-within, next-within, left, next-less}
-use Rattle.collection.specs.Collect.{cellShape, offer, offerAll, visit, push, rangeOf, collectIn, collectUpTo}
+use Rattle.ranges.specs.Ranges.{placeAt}
+use Rattle.ranges.specs.Walk.{line, layer}
+use Rattle.collection.specs.Collect.{cellShape, offer, offerAll, visit, push}
+use Rattle.collection.specs.Past.{layerPast, walkPast, collectInPast}
 use Rattle.tables.specs.Tables.{boxesAt}
 use Rattle.solids.specs.declared.Shape.{Shape}
 use Rattle.solids.specs.Parts.{shapeIn, countOf, nthAabb}
@@ -110,68 +109,64 @@ module _ {S : Type 0} (accept : Aabb → S → Ask (Turn S Bool)) (look : Pos �
         ∙ sym (from-start (λ k. offer accept area (g k)) n after s)))
 
   module _ (r : Range) where
-    abbrev pub all : S → Ask (Turn S Bool)
-    all = walk visiting r
+    -- ---- what is left of a walk past layers, in each of the three loops: layers, the lines of a layer, the cells of a line. `over` says which
+    -- layers are passed over: of such a layer no line is come to
+    module _ (over : ℕ → Bool) where
+      abbrev pub lines : ℕ → ℕ
+      lines y = choose (over y) 0 (r .x .count)
 
-    -- ---- what is left of a walk, in each of the move's three loops: layers, the lines of a layer, the cells of a line
-    unfoldable pub layersFrom : ℕ → S → Ask (Turn S Bool)
-    layersFrom = from (layer visiting r) (r .y .count) (λ s. found (next s))
+      abbrev pub allPast : S → Ask (Turn S Bool)
+      allPast = walkPast over visiting r
 
-    unfoldable pub linesFrom : ℕ → ℕ → S → Ask (Turn S Bool)
-    linesFrom y = from (line visiting r y) (r .x .count) (layersFrom (y + 1))
+      unfoldable pub layersFrom : ℕ → S → Ask (Turn S Bool)
+      layersFrom = from (layerPast over visiting r) (r .y .count) (λ s. found (next s))
 
-    unfoldable pub cellsFrom : ℕ → ℕ → ℕ → S → Ask (Turn S Bool)
-    cellsFrom y x = from (λ z. visiting (placeAt r x y z)) (r .z .count) (linesFrom y (x + 1))
+      unfoldable pub linesFrom : ℕ → ℕ → S → Ask (Turn S Bool)
+      linesFrom y = from (line visiting r y) (lines y) (layersFrom (y + 1))
 
-    -- begun
-    pub walk-begins : (s : S) → layersFrom 0 s ≡ all s
-    unfolding layersFrom walk
-    walk-begins s = from-start (layer visiting r) (r .y .count) (λ a. found (next a)) s ∙ then-nothing (turning (layer visiting r) (r .y .count) 0 s)
+      unfoldable pub cellsFrom : ℕ → ℕ → ℕ → S → Ask (Turn S Bool)
+      cellsFrom y x = from (λ z. visiting (placeAt r x y z)) (r .z .count) (linesFrom y (x + 1))
 
-    pub layer-begins : (y : ℕ) (s : S) → y < r .y .count → layersFrom y s ≡ linesFrom y 0 s
-    unfolding layersFrom linesFrom layer
-    layer-begins y s h = from-turn (layer visiting r) (r .y .count) (λ a. found (next a)) y s h ∙ sym (from-start (line visiting r y) (r .x .count) (layersFrom (y + 1)) s)
+      -- begun
+      pub walk-begins : (s : S) → layersFrom 0 s ≡ allPast s
+      unfolding layersFrom walkPast
+      walk-begins s = from-start (layerPast over visiting r) (r .y .count) (λ a. found (next a)) s ∙ then-nothing (turning (layerPast over visiting r) (r .y .count) 0 s)
 
-    pub line-begins : (y x : ℕ) (s : S) → x < r .x .count → linesFrom y x s ≡ cellsFrom y x 0 s
-    unfolding linesFrom cellsFrom line
-    line-begins y x s h = from-turn (line visiting r y) (r .x .count) (layersFrom (y + 1)) x s h ∙ sym (from-start (λ z. visiting (placeAt r x y z)) (r .z .count) (linesFrom y (x + 1)) s)
+      layer-lines : (y : ℕ) (s : S) → layerPast over visiting r y s ≡ turning (line visiting r y) (lines y) 0 s
+      unfolding layerPast layer choose turning
+      layer-lines y s = go (over y)
+        where
+          go : (t : Bool) → choose t (found (next s)) (layer visiting r y s) ≡ turning (line visiting r y) (choose t 0 (r .x .count)) 0 s
+          go true = refl
+          go false = refl
 
-    pub cells-turn : (y x z : ℕ) (s : S) → z < r .z .count → (p : Pos) → p ≡ placeAt r x y z → cellsFrom y x z s ≡ (visiting p s >>= onward (cellsFrom y x (z + 1)))
-    unfolding cellsFrom
-    cells-turn y x z s h p e = rw e (from-turn (λ k. visiting (placeAt r x y k)) (r .z .count) (linesFrom y (x + 1)) z s h)
+      pub layer-begins : (y : ℕ) (s : S) → y < r .y .count → layersFrom y s ≡ linesFrom y 0 s
+      unfolding layersFrom linesFrom
+      layer-begins y s h =
+          from-turn (layerPast over visiting r) (r .y .count) (λ a. found (next a)) y s h
+          ∙ ap (λ (m : Ask (Turn S Bool)). m >>= onward (layersFrom (y + 1))) (layer-lines y s)
+          ∙ sym (from-start (line visiting r y) (lines y) (layersFrom (y + 1)) s)
 
-    -- through
-    pub cells-end : (y x z : ℕ) (s : S) → r .z .count ≤ z → cellsFrom y x z s ≡ linesFrom y (x + 1) s
-    unfolding cellsFrom
-    cells-end y x z s h = from-end (λ k. visiting (placeAt r x y k)) (r .z .count) (linesFrom y (x + 1)) z s h
+      pub line-begins : (y x : ℕ) (s : S) → x < lines y → linesFrom y x s ≡ cellsFrom y x 0 s
+      unfolding linesFrom cellsFrom line
+      line-begins y x s h = from-turn (line visiting r y) (lines y) (layersFrom (y + 1)) x s h ∙ sym (from-start (λ z. visiting (placeAt r x y z)) (r .z .count) (linesFrom y (x + 1)) s)
 
-    pub lines-end : (y x : ℕ) (s : S) → r .x .count ≤ x → linesFrom y x s ≡ layersFrom (y + 1) s
-    unfolding linesFrom
-    lines-end y x s h = from-end (line visiting r y) (r .x .count) (layersFrom (y + 1)) x s h
+      pub cells-turn : (y x z : ℕ) (s : S) → z < r .z .count → (p : Pos) → p ≡ placeAt r x y z → cellsFrom y x z s ≡ (visiting p s >>= onward (cellsFrom y x (z + 1)))
+      unfolding cellsFrom
+      cells-turn y x z s h p e = rw e (from-turn (λ k. visiting (placeAt r x y k)) (r .z .count) (linesFrom y (x + 1)) z s h)
 
-    pub layers-end : (y : ℕ) (s : S) → r .y .count ≤ y → layersFrom y s ≡ found (next s)
-    unfolding layersFrom
-    layers-end y s h = from-end (layer visiting r) (r .y .count) (λ a. found (next a)) y s h
+      -- through
+      pub cells-end : (y x z : ℕ) (s : S) → r .z .count ≤ z → cellsFrom y x z s ≡ linesFrom y (x + 1) s
+      unfolding cellsFrom
+      cells-end y x z s h = from-end (λ k. visiting (placeAt r x y k)) (r .z .count) (linesFrom y (x + 1)) z s h
 
-    -- ---- and in the one loop of the entries, from a cell of the range on
-    abbrev pub cellFrom : At → S → Ask (Turn S Bool)
-    cellFrom = rest visiting r
+      pub lines-end : (y x : ℕ) (s : S) → lines y ≤ x → linesFrom y x s ≡ layersFrom (y + 1) s
+      unfolding linesFrom
+      lines-end y x s h = from-end (line visiting r y) (lines y) (layersFrom (y + 1)) x s h
 
-    pub range-begins : (t : At) (s : S) → t ≡ startOf r → Within r t × (cellFrom t s ≡ all s)
-    range-begins t s e = rw e (start-within r, rest-start visiting r s)
-
-    pub range-ends : (t : At) (s : S) → r .y .count ≤ t .y → cellFrom t s ≡ found (next s)
-    range-ends t s h = rest-end visiting r t s h
-
-    module _ (t : At) (within : Within r t) (h : t .y < r .y .count) where
-      pub cell-turn : (s : S) (p : Pos) → p ≡ placeOf r t → cellFrom t s ≡ (visiting p s >>= onward (cellFrom (nextOf r t)))
-      cell-turn s p e = rw e (rest-turn visiting r t s h (within .x h) (within .z h))
-
-      pub cell-next : (t' : At) → t' ≡ nextOf r t → (s : S) → Within r t' × (cellFrom t' s ≡ cellFrom (nextOf r t) s)
-      cell-next t' e s = rw e (next-within r t h (within .x h) (within .z h), refl)
-
-pub cell-less : (r : Range) (t : At) → Within r t → t .y < r .y .count → (t' : At) → t' ≡ nextOf r t → left r t' < left r t
-cell-less r t within h t' e = rw e (next-less r t h (within .x h) (within .z h))
+      pub layers-end : (y : ℕ) (s : S) → r .y .count ≤ y → layersFrom y s ≡ found (next s)
+      unfolding layersFrom
+      layers-end y s h = from-end (layerPast over visiting r) (r .y .count) (λ a. found (next a)) y s h
 
 -- ---- boxes in place: so much room, and so many of them count
 pub record Room (most : ℕ) (bs : List Aabb) (count : ℕ) : Type 0 where
@@ -215,20 +210,15 @@ unfolding emptyList
 empty-list l e = rw e (record { whole = length-replicate 128 noBox; counts = omega arith }, refl)
 
 -- ---- the answers
-module _ (cap : ℕ) (look : Pos → Ask Block) (records : List ℕ) (shapes : List Float) (area : Aabb) (r : Range) where
-  pub was-collected : (bs : List Aabb) → found (next bs) ≡ all (push cap) look records shapes area r [] → collectIn cap look records shapes area r ≡ found bs
+module _ (over : ℕ → Bool) (cap : ℕ) (look : Pos → Ask Block) (records : List ℕ) (shapes : List Float) (area : Aabb) (r : Range) where
+  was-collected : (bs : List Aabb) → found (next bs) ≡ allPast (push cap) look records shapes area r over [] → collectInPast over cap look records shapes area r ≡ found bs
   was-collected bs h = rw (← h)
 
-  pub was-refused : (k : ℕ) → refused k ≡ all (push cap) look records shapes area r [] → collectIn cap look records shapes area r ≡ refused k
+  was-refused : (k : ℕ) → refused k ≡ allPast (push cap) look records shapes area r over [] → collectInPast over cap look records shapes area r ≡ refused k
   was-refused k h = rw (← h)
 
-  pub collected : (most : ℕ) (bs : List Aabb) (i : ℕ) → Room most bs i → found (next (take i bs)) ≡ all (push cap) look records shapes area r [] → record { refusal = 0; count = i; boxes = take i bs } ≡ heldAsked (collectIn cap look records shapes area r)
+  pub collected : (most : ℕ) (bs : List Aabb) (i : ℕ) → Room most bs i → found (next (take i bs)) ≡ allPast (push cap) look records shapes area r over [] → record { refusal = 0; count = i; boxes = take i bs } ≡ heldAsked (collectInPast over cap look records shapes area r)
   collected most bs i has h = rw (was-collected (take i bs) h, counted most bs i has)
 
-  pub not-collected : (k : ℕ) → refused k ≡ all (push cap) look records shapes area r [] → held k [] ≡ heldAsked (collectIn cap look records shapes area r)
+  pub not-collected : (k : ℕ) → refused k ≡ allPast (push cap) look records shapes area r over [] → held k [] ≡ heldAsked (collectInPast over cap look records shapes area r)
   not-collected k h = rw (was-refused k h)
-
-  -- for the range of the area, as `range_of` answers it
-  pub in-range : r ≡ trimmed (rangeOf area) → collectIn cap look records shapes area r ≡ collectUpTo cap look records shapes area
-  unfolding collectUpTo
-  in-range e = rw (e, walk-trimmed (visiting (push cap) look records shapes area) (rangeOf area) [])

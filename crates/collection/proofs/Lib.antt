@@ -4,3 +4,4 @@ pub mod Refuses
 pub mod Order
 pub mod Caps
 pub mod Unique
+pub mod Past

@@ -21,6 +21,7 @@ use Rattle.ranges.specs.Walk.{line, layer, walk}
 use Rattle.joining.specs.declared.Joined.{Joined}
 use Rattle.connect.specs.Connect.{connectKind, joins, post, besideNeighbours, connectedState}
 use Rattle.collection.specs.Collect.{connectedShape, shapeOf, cellShape, offer, offerAll, visit, push, hit, rangeOf, collectIn, collectUpTo, collectBlockBoxes, collidesWithBlocks}
+use Rattle.collection.specs.Past.{layerPast, walkPast, collectInPast}
 
 -- what a refusal's number can be
 pub record Refuses {A : Type 0} (P : ℕ → Type 0) (m : Ask A) : Type 0 where
@@ -67,6 +68,12 @@ module _ {P : ℕ → Type 0} where
   pub walks : {S R : Type 0} (f : Pos → S → Ask (Turn S R)) (r : Range) → ((p : Pos) (s : S) → Refuses P (f p s)) → (s : S) → Refuses P (walk f r s)
   unfolding walk layer line
   walks f r h = loops (layer f r) (λ y. loops (line f r y) (λ x. loops _ (λ z. h _) (r .z .count) 0) (r .x .count) 0) (r .y .count) 0
+
+  -- past layers
+  pub past-walks : {S R : Type 0} (over : ℕ → Bool) (f : Pos → S → Ask (Turn S R)) (r : Range) → ((p : Pos) (s : S) → Refuses P (f p s)) → (s : S) → Refuses P (walkPast over f r s)
+  unfolding walkPast layerPast layer line
+  past-walks over f r h =
+      loops (layerPast over f r) (λ y s. either _ _ _ (finds _) (loops (line f r y) (λ x. loops _ (λ z. h _) (r .z .count) 0) (r .x .count) 0 s)) (r .y .count) 0
 
   pub asks : {S : Type 0} (f : ℕ → S → Ask S) → ((i : ℕ) (s : S) → Refuses P (f i s)) → (k i : ℕ) (s : S) → Refuses P (asking f k i s)
   unfolding asking
@@ -127,9 +134,13 @@ module _ (look : Pos → Ask Block) (h : (p : Pos) → Refuses Five (look p)) (r
 push-refuses : (cap : ℕ) (b : Aabb) (bs : List Aabb) → Refuses FiveOrSix (push cap b bs)
 push-refuses cap b bs = either _ _ _ (finds _) (names 6 (inr refl))
 
-pub range-refuses : (cap : ℕ) (cells : List ℕ) (w : Window) (records : List ℕ) (shapes : List Float) (area : Aabb) (r : Range) → Refuses FiveOrSix (collectIn cap (lookAt cells w) records shapes area r)
+range-refuses : (cap : ℕ) (cells : List ℕ) (w : Window) (records : List ℕ) (shapes : List Float) (area : Aabb) (r : Range) → Refuses FiveOrSix (collectIn cap (lookAt cells w) records shapes area r)
 range-refuses cap cells w records shapes area r =
     after _ _ (walks _ r (visit-refuses (lookAt cells w) (look-refuses cells w) records (λ n e. inl e) (push cap) (push-refuses cap) area shapes) []) (λ t. finds _)
+
+pub past-refuses : (over : ℕ → Bool) (cap : ℕ) (cells : List ℕ) (w : Window) (records : List ℕ) (shapes : List Float) (area : Aabb) (r : Range) → Refuses FiveOrSix (collectInPast over cap (lookAt cells w) records shapes area r)
+past-refuses over cap cells w records shapes area r =
+    after _ _ (past-walks over _ r (visit-refuses (lookAt cells w) (look-refuses cells w) records (λ n e. inl e) (push cap) (push-refuses cap) area shapes) []) (λ t. finds _)
 
 pub capped-refuses : (cap : ℕ) (cells : List ℕ) (w : Window) (records : List ℕ) (shapes : List Float) (area : Aabb) → Refuses FiveOrSix (collectUpTo cap (lookAt cells w) records shapes area)
 unfolding collectUpTo

@@ -2,3 +2,4 @@
 pub mod Collect
 pub mod Answers
 pub mod Settled
+pub mod Past

@@ -1,6 +1,8 @@
 // Module 6: collection of block boxes from a window.
 use boxes::Aabb;
 use boxes::Vec3;
+use passing::Reach;
+use ranges::At;
 use ranges::Range;
 use solids::AskedShape;
 use solids::Shape;
@@ -12,10 +14,12 @@ ghost use mathlib.Core.Path.{_≡_};
 ghost use Prim.Native.Nat.{_≤_};
 ghost use Rattle.sweeps.specs.Lists.{room, heldIn};
 ghost use Rattle.tables.specs.Tables.{boxesAt};
+ghost use Rattle.passing.specs.Passing.{passesBy, passes};
 ghost use Rattle.ranges.specs.Ranges.{trimmed};
 ghost use Rattle.solids.specs.Parts.{countOf, nthAabb};
 ghost use Rattle.window.specs.Look.{lookAt};
-ghost use Rattle.collection.specs.Collect.{rangeOf, sweptArea, collectIn, collectBlockBoxes, collidesWithBlocks};
+ghost use Rattle.collection.specs.Collect.{rangeOf, sweptArea, collectBlockBoxes, collidesWithBlocks};
+ghost use Rattle.collection.specs.Past.{collectInPast};
 ghost use Rattle.collection.specs.Answers.{heldAsked, hitAsked};
 
 pub enum AskedHit {
@@ -56,49 +60,53 @@ fn box_in(shapes: &[f32], part: Shape, p: Pos, k: u32) -> Aabb
     solids::nth_aabb(part.cube, shape, p, k)
 }
 
-// The boxes of every cell of a range, which strictly overlap the area: as many as the cap says, and with one more it refuses 6. The list is built
-// in place.
-fn collect_up_to(cap: usize, records: &[u32], shapes: &[f32], cells: &[u32], w: Window, area: Aabb, r: Range) -> Collected
+// The boxes of every cell of a range, which strictly overlap the area: as many as the cap says, and with one more it refuses 6. It passes over the
+// layers of which `over` says so. The list is built in place.
+fn collect_up_to(cap: usize, records: &[u32], shapes: &[f32], cells: &[u32], w: Window, area: Aabb, r: Range, over: Reach) -> Collected
     requires { ⌜ cap ≤ room ⌝ }
-    ensures { λ c. ⌜ heldIn c ≡ heldAsked (collectIn cap (lookAt (now (cells .entry)) w) (now (records .entry)) (now (shapes .entry)) area r) ⌝ }
+    ensures { λ c. ⌜ heldIn c ≡ heldAsked (collectInPast (passesBy (now (cells .entry)) w r over) cap (lookAt (now (cells .entry)) w) (now (records .entry)) (now (shapes .entry)) area r) ⌝ }
 {
     let mut list = BoxList::new();
-    let mut t = ranges::start(r);
-    while t.y < r.y.count {
-        let p = ranges::place(r, t);
-        let part = match solids::part_at(records, cells, w, p) {
-            AskedShape::Refused(n) => return Collected::refused(n),
-            AskedShape::Is(s) => s,
-        };
-        let n = count_in(shapes, part);
-        for k in 0..n {
-            let b = box_in(shapes, part, p, k);
-            if b.intersects(area) {
-                let i = list.count;
-                if i >= cap {
-                    return Collected::refused(6);
+    for y in 0..r.y.count {
+        let lines = passing::lines_at(cells, w, r, over, y);
+        for x in 0..lines {
+            for z in 0..r.z.count {
+                let p = ranges::place(r, At { x, y, z });
+                let part = match solids::part_at(records, cells, w, p) {
+                    AskedShape::Refused(n) => return Collected::refused(n),
+                    AskedShape::Is(s) => s,
+                };
+                let n = count_in(shapes, part);
+                for k in 0..n {
+                    let b = box_in(shapes, part, p, k);
+                    if b.intersects(area) {
+                        let i = list.count;
+                        if i >= cap {
+                            return Collected::refused(6);
+                        }
+                        list.boxes[i] = b;
+                        list.count = i + 1;
+                    }
                 }
-                list.boxes[i] = b;
-                list.count = i + 1;
             }
         }
-        t = ranges::next(r, t);
     }
     Collected { list, refusal: 0 }
 }
 
-// Collection into the list from the cells of a range that is known already. It refuses 5 and 6 alone.
+// Collection into the list from the cells of a range that is known already, by the summary behind the window's words where there is one. It refuses
+// 5 and 6 alone.
 pub fn collect_range(records: &[u32], shapes: &[f32], cells: &[u32], w: Window, area: Aabb, r: Range) -> Collected
-    ensures { λ c. ⌜ heldIn c ≡ heldAsked (collectIn room (lookAt (now (cells .entry)) w) (now (records .entry)) (now (shapes .entry)) area r) ⌝ }
+    ensures { λ c. ⌜ heldIn c ≡ heldAsked (collectInPast (passes (now (cells .entry)) w r) room (lookAt (now (cells .entry)) w) (now (records .entry)) (now (shapes .entry)) area r) ⌝ }
 {
-    collect_up_to(128, records, shapes, cells, w, area, r)
+    collect_up_to(128, records, shapes, cells, w, area, r, passing::reach_in(cells, w, r))
 }
 
-// The same from the cells that the area reaches.
+// The same from the cells that the area reaches, each of them.
 pub fn collect(records: &[u32], shapes: &[f32], cells: &[u32], w: Window, area: Aabb) -> Collected
     ensures { λ r. ⌜ heldIn r ≡ heldAsked (collectBlockBoxes (lookAt (now (cells .entry)) w) (now (records .entry)) (now (shapes .entry)) area) ⌝ }
 {
-    collect_range(records, shapes, cells, w, area, range_of(area))
+    collect_up_to(128, records, shapes, cells, w, area, range_of(area), passing::nowhere())
 }
 
 // Whether a block box strictly overlaps the area. It stops at its first hit: no cell after that is asked for. It refuses 5 alone.
@@ -106,7 +114,7 @@ pub fn collect(records: &[u32], shapes: &[f32], cells: &[u32], w: Window, area: 
 pub fn collides(records: &[u32], shapes: &[f32], cells: &[u32], w: Window, area: Aabb) -> AskedHit
     ensures { λ r. ⌜ hitAsked r ≡ collidesWithBlocks (lookAt (now (cells .entry)) w) (now (records .entry)) (now (shapes .entry)) area ⌝ }
 {
-    let none = collect_up_to(0, records, shapes, cells, w, area, range_of(area));
+    let none = collect_up_to(0, records, shapes, cells, w, area, range_of(area), passing::nowhere());
     let refusal = none.refusal;
     if refusal == 0 {
         return AskedHit::Is(false);

@@ -10,17 +10,16 @@ use Rattle.base.specs.Choose.{choose}
 use Rattle.base.specs.Ask.{Ask, refused}
 use Rattle.base.proofs.Every.{both}
 use Rattle.sweeps.specs.declared.MoveResult.{MoveResult}
+use Rattle.sweeps.specs.declared.MoveAnswer.{MoveAnswer}
 use Rattle.boxes.specs.Limits.{isBox, isDelta, isStep}
-use Rattle.table_check.specs.Check.{tablesFit}
-use Rattle.lent.specs.Lent.{lentRefusal, directRefusal, direct, unless}
+use Rattle.lent.specs.Lent.{directRefusal, direct, unless}
 use Rattle.movers.specs.Movers.{vecAt, aabbAt, moverRefusal, wholeMove}
 use Rattle.lent_numbers.specs.Written.{writtenBy}
 use Rattle.window.specs.declared.Window.{Window}
-use Rattle.window.specs.Window.{windowFits, windowRefusal}
-use Rattle.window.specs.Look.{lookAt}
-use Rattle.moves.specs.Answers.{moveAabb, moveAnswer, moveEntry}
+use Rattle.summary.specs.Calls.{plain, summed}
+use Rattle.moves.specs.Answers.{moveAnswer, moveEntry, moveSummed}
 use Rattle.exports.specs.Room.{shortOf}
-use Rattle.exports.specs.Windows.{moveAt}
+use Rattle.exports.specs.Windows.{movedBy, movingAt, moveAt, moveSummedAt}
 use Rattle.exports.proofs.Short.{no-room, no-early, never-0}
 
 -- 3, then 4, one by one
@@ -31,32 +30,32 @@ tests false f ask = refl
 tests true true ask = refl
 tests true false ask = refl
 
-module _ (records : List ℕ) (shapes : List Float) (cells : List ℕ) (w : Window) (mover : List Float) (step : Float) (ground : ℕ) where
-  abbrev first : ℕ
-  first = directRefusal records shapes cells w
-
+module _ (mover : List Float) (step : Float) (ground : ℕ) where
   abbrev early : ℕ
   early = moverRefusal mover step ground true
 
-  abbrev asked : Ask MoveResult
-  asked = moveAabb (lookAt cells w) records shapes (aabbAt mover 0) (vecAt mover 6) step (eqb ground 1)
+  -- an entry that asks for this, over these words
+  module _ (records : List ℕ) (shapes : List Float) (cells : List ℕ) (w : Window) (asked : Ask MoveResult) where
+    unfoldable entry : MoveAnswer
+    entry = moveAnswer (aabbAt mover 0) (direct records shapes cells w (unless (not (isStep step)) 3 (unless (not (isBox (aabbAt mover 0) && isDelta (vecAt mover 6))) 4 asked)))
 
-  -- what the entry comes to
-  entry : moveEntry records shapes cells w (aabbAt mover 0) (vecAt mover 6) step (eqb ground 1)
-      ≡ moveAnswer (aabbAt mover 0) (direct records shapes cells w (unless (not (isStep step)) 3 (unless (not (isBox (aabbAt mover 0) && isDelta (vecAt mover 6))) 4 asked)))
-  unfolding moveEntry
-  entry = refl
-
-  pub move-whole : (places : ℕ) → wholeMove mover ground places ≡ true
-      → moveEntry records shapes cells w (aabbAt mover 0) (vecAt mover 6) step (eqb ground 1) ≡ moveAt records shapes cells w mover step ground places
-  unfolding moveAt moverRefusal choose
-  move-whole places whole =
-      let g = both (ltb ground 2) (eqb (length mover) 9 && leb 10 places) whole in
-      let n = both (eqb (length mover) 9) (leb 10 places) (g .two) in
-      entry
-      ∙ rw (g .one, n .one, n .two)
+    entry-whole : (places : ℕ) → wholeMove mover ground places ≡ true → entry ≡ movedBy (directRefusal records shapes cells w) asked mover step ground places
+    unfolding entry movedBy moverRefusal choose
+    entry-whole places whole =
+        let g = both (ltb ground 2) (eqb (length mover) 9 && leb 10 places) whole in
+        let n = both (eqb (length mover) 9) (leb 10 places) (g .two) in
+        rw (g .one, n .one, n .two)
         (ap (λ (ask : Ask MoveResult). moveAnswer (aabbAt mover 0) (direct records shapes cells w ask))
         (tests (isStep step) (isBox (aabbAt mover 0) && isDelta (vecAt mover 6)) asked))
+
+  module _ (records : List ℕ) (shapes : List Float) (cells : List ℕ) (w : Window) (places : ℕ) (whole : wholeMove mover ground places ≡ true) where
+    pub move-whole : moveEntry records shapes cells w (aabbAt mover 0) (vecAt mover 6) step (eqb ground 1) ≡ moveAt records shapes cells w mover step ground places
+    unfolding moveEntry entry
+    move-whole = entry-whole records shapes cells w (movingAt records shapes cells w mover step ground) places whole
+
+    pub summed-whole : moveSummed records shapes cells w (aabbAt mover 0) (vecAt mover 6) step (eqb ground 1) ≡ moveSummedAt records shapes cells w mover step ground places
+    unfolding moveSummed entry
+    summed-whole = entry-whole records shapes (plain cells w) w (summed records cells w (movingAt records shapes (plain cells w) w mover step ground)) places whole
 
   three : ltb ground 2 ≡ false → eqb early 0 ≡ false
   unfolding moverRefusal choose
@@ -69,16 +68,17 @@ module _ (records : List ℕ) (shapes : List Float) (cells : List ℕ) (w : Wind
     either true = refl
     either false = refl
 
-  cases : (places : ℕ) (a b : Bool) → ltb ground 2 ≡ a → eqb (length mover) 9 ≡ b → a && (b && leb 10 places) ≡ false
-      → moveAt records shapes cells w mover step ground places ≡ moveAnswer (aabbAt mover 0) (refused (shortOf first early))
-  unfolding moveAt
-  cases places true true ea eb n = rw n (ap (moveAnswer (aabbAt mover 0)) (no-room first early asked))
-  cases places true false ea eb n = ap (moveAnswer (aabbAt mover 0)) (no-early first early asked (leb 10 places) (four eb))
-  cases places false b ea eb n = ap (moveAnswer (aabbAt mover 0)) (no-early first early asked (leb 10 places) (three ea))
+  module _ (first : ℕ) (asked : Ask MoveResult) where
+    cases : (places : ℕ) (a b : Bool) → ltb ground 2 ≡ a → eqb (length mover) 9 ≡ b → a && (b && leb 10 places) ≡ false
+        → movedBy first asked mover step ground places ≡ moveAnswer (aabbAt mover 0) (refused (shortOf first early))
+    unfolding movedBy
+    cases places true true ea eb n = rw n (ap (moveAnswer (aabbAt mover 0)) (no-room first early asked))
+    cases places true false ea eb n = ap (moveAnswer (aabbAt mover 0)) (no-early first early asked (leb 10 places) (four eb))
+    cases places false b ea eb n = ap (moveAnswer (aabbAt mover 0)) (no-early first early asked (leb 10 places) (three ea))
 
-  -- nothing is written then
-  pub short-move : (out : List Float) (r : ℕ) → wholeMove mover ground (length out) ≡ false → r ≡ shortOf first early
-      → (r ≡ moveAt records shapes cells w mover step ground (length out) .refusal)
-      × (out ≡ writtenBy out (moveAt records shapes cells w mover step ground (length out)))
-  unfolding writtenBy choose
-  short-move out r h e = rw (cases (length out) (ltb ground 2) (eqb (length mover) 9) refl refl h, never-0 first early) (e, refl)
+    -- nothing is written then
+    pub short-move : (out : List Float) (r : ℕ) → wholeMove mover ground (length out) ≡ false → r ≡ shortOf first early
+        → (r ≡ movedBy first asked mover step ground (length out) .refusal)
+        × (out ≡ writtenBy out (movedBy first asked mover step ground (length out)))
+    unfolding writtenBy choose
+    short-move out r h e = rw (cases (length out) (ltb ground 2) (eqb (length mover) 9) refl refl h, never-0 first early) (e, refl)

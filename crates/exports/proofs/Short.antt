@@ -5,6 +5,7 @@ use Prim.Native.Nat.{ℕ}
 use lib.Dec.{eqb}
 use Rattle.base.specs.Choose.{choose}
 use Rattle.base.specs.Ask.{Ask, refused}
+use Rattle.lent.specs.Lent.{unless}
 use Rattle.exports.specs.Room.{roomy, shortOf}
 
 module _ {A : Type 0} (lent early : ℕ) (ask : Ask A) where
@@ -22,6 +23,12 @@ module _ {A : Type 0} (lent early : ℕ) (ask : Ask A) where
     go : (b : Bool) → choose {A = Ask A} (not b) (refused lent) (refused early) ≡ refused (choose b early lent)
     go false = refl
     go true = refl
+
+-- a test that was passed before is passed
+pub again : {A : Type 0} (t : Bool) (n : ℕ) (g : Ask A → Ask A) (ask : Ask A) → unless t n (g (unless t n ask)) ≡ unless t n (g ask)
+unfolding choose
+again true n g ask = refl
+again false n g ask = refl
 
 -- it is a refusal
 pub never-0 : (lent early : ℕ) → eqb (shortOf lent early) 0 ≡ false

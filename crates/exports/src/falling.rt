@@ -9,14 +9,14 @@ ghost use Rattle.falls.specs.Rule.{fallOf};
 ghost use Rattle.lent_steps.specs.Falling.{fallingWritten};
 ghost use Rattle.exports.specs.Falling.{wholeFalling, fallingRefusal, fallingAt};
 
-fn whole_falling(numbers: &[f64], words: &[u32], places: usize) -> bool
+pub(crate) fn whole_falling(numbers: &[f64], words: &[u32], places: usize) -> bool
     ensures { λ r. ⌜ r ≡ wholeFalling (now (numbers .entry)) (now (words .entry)) places ⌝ }
 {
     bodies::lengths_fit(numbers, words) & (places >= 12)
 }
 
 // 3, then 4, or 0.
-fn falling_refusal(records: &[u32], numbers: &[f64], words: &[u32], fall: Fall) -> u32
+pub(crate) fn falling_refusal(records: &[u32], numbers: &[f64], words: &[u32], fall: Fall) -> u32
     ensures { λ r. ⌜ r ≡ fallingRefusal (now (records .entry)) (now (numbers .entry)) (now (words .entry)) fall ⌝ }
 {
     if falls::fall_fits(fall) {

@@ -7,13 +7,13 @@ ghost use lib.ListN.{length};
 ghost use Rattle.window.specs.Numbers.{windowOf};
 ghost use Rattle.exports.specs.Ticks.{checkedAt, stepAt, answerWritten, wholeBody};
 
-fn whole_body(numbers: &[f64], words: &[u32], places: usize) -> bool
+pub(crate) fn whole_body(numbers: &[f64], words: &[u32], places: usize) -> bool
     ensures { λ r. ⌜ r ≡ wholeBody (now (numbers .entry)) (now (words .entry)) places ⌝ }
 {
     bodies::lengths_fit(numbers, words) & (places >= 10)
 }
 
-fn answer_into(out: &mut [f64], a: StepAnswer) -> u32
+pub(crate) fn answer_into(out: &mut [f64], a: StepAnswer) -> u32
     ensures { λ r. ⌜ r ≡ a .refusal ⌝ }
     ensures { λ _. ⌜ now (out .exit) ≡ answerWritten (now (out .entry)) a ⌝ }
 {

@@ -10,16 +10,21 @@ use borrow.Author.Tests.{ne-eqb}
 use Rattle.base.specs.Choose.{choose}
 use Rattle.base.specs.Ask.{Ask, refused, found}
 use Rattle.window.specs.declared.Window.{Window}
+use Rattle.window.specs.Numbers.{withAir}
+use Rattle.groups.specs.Summary.{summaryRefusal}
+use Rattle.summary.specs.Calls.{plain}
 use Rattle.lent.specs.Lent.{unless, sound, lentRefusal}
 use Rattle.bodies.specs.declared.BodyNumbers.{BodyNumbers}
 use Rattle.bodies.specs.declared.Rules.{Rules}
 use Rattle.bodies.specs.declared.MotionNumbers.{MotionNumbers}
 use Rattle.ticks.specs.declared.Tick.{Tick}
 use Rattle.step.specs.Answers.{stepAnswer, checkedAsked, stepEntry}
+use Rattle.step.proofs.Laws.{past-without}
+use Rattle.step.proofs.Summed.{asked-summed}
 use Rattle.falls.specs.declared.Fall.{Fall}
 use Rattle.falls.specs.declared.FallingAnswer.{FallingAnswer}
 use Rattle.falls.specs.Rule.{fallFits}
-use Rattle.falls.specs.Answers.{withFall, fallingChecked, fallingEntry, HandedBack}
+use Rattle.falls.specs.Answers.{withFall, fallingChecked, fallingEntry, fallingSummed, HandedBack}
 
 -- a refusal hands back position, velocity, ground flag and record as given, liquid none, and no sample
 refusal-hands-back : (given : MotionNumbers) (fall : Fall) (ask : Ask Tick) → 0 < stepAnswer given ask .refusal
@@ -58,8 +63,14 @@ module _ (records : List ℕ) (shapes : List Float) (cells : List ℕ) (w : Wind
   unfolding fallingEntry withFall asked
   hands-back h = refusal-hands-back given fall (asked (fallFits fall)) h
 
+  -- with a summary that passes its check the step over it is the plain step over cells and columns
+  pub summed-alike : summaryRefusal records cells (withAir w (rules .air)) ≡ 0
+      → fallingSummed records shapes cells w rules body given age fall ≡ fallingEntry records shapes (plain cells w) w rules body given age fall
+  unfolding fallingSummed fallingEntry
+  summed-alike h = rw (asked-summed records shapes cells w rules body given age h)
+
   -- over tables and a window that pass, the step without their check is the step
   pub checked-alike : lentRefusal records shapes cells w ≡ 0
       → fallingChecked records shapes cells w rules body given age fall ≡ fallingEntry records shapes cells w rules body given age fall
   unfolding fallingEntry fallingChecked choose
-  checked-alike h = rw h
+  checked-alike h = rw (h, past-without records shapes cells w rules body given age h)

@@ -11,13 +11,14 @@ use Rattle.tables.specs.declared.LiquidKind.the-variants.{None}
 use Rattle.drags.specs.declared.Support.the-variants.{NotAsked}
 use Rattle.window.specs.declared.Window.{Window}
 use Rattle.lent.specs.Lent.{unless, sound}
+use Rattle.summary.specs.Calls.{plain}
 use Rattle.bodies.specs.declared.BodyNumbers.{BodyNumbers}
 use Rattle.bodies.specs.declared.Rules.{Rules}
 use Rattle.bodies.specs.declared.MotionNumbers.{MotionNumbers}
 use Rattle.bodies.specs.Body.{isYes}
 use Rattle.ticks.specs.declared.Tick.{Tick}
 use Rattle.step.specs.declared.StepAnswer.{StepAnswer}
-use Rattle.step.specs.Answers.{stepAnswer, checkedAsked}
+use Rattle.step.specs.Answers.{stepAnswer, checkedAsked, pastAsked, summedAsked}
 use Rattle.falls.specs.declared.Fall.{Fall}
 use Rattle.falls.specs.declared.FallingAnswer.{FallingAnswer}
 use Rattle.falls.specs.Rule.{fallAfter, fallFits}
@@ -39,15 +40,23 @@ abbrev pub fallingAsked : List ℕ → List Float → List ℕ → Window → Ru
 fallingAsked records shapes cells w rules body given age fall =
     unless (not (fallFits fall)) 3 (checkedAsked records shapes cells w rules body given age)
 
--- step_falling_checked: over tables and a window that were checked before
+-- step_falling_checked: over tables and a window that were checked before, and so was its summary, where there is one
 unfoldable pub fallingChecked : List ℕ → List Float → List ℕ → Window → Rules → BodyNumbers → MotionNumbers → ℕ → Fall → FallingAnswer
-fallingChecked records shapes cells w rules body given age fall =
-    withFall fall given (stepAnswer given (fallingAsked records shapes cells w rules body given age fall))
+fallingChecked records shapes words w rules body given age fall =
+    withFall fall given (stepAnswer given (unless (not (fallFits fall)) 3 (pastAsked records shapes words w rules body given age)))
 
 -- step_falling: 1 and 2 before all that
 unfoldable pub fallingEntry : List ℕ → List Float → List ℕ → Window → Rules → BodyNumbers → MotionNumbers → ℕ → Fall → FallingAnswer
 fallingEntry records shapes cells w rules body given age fall =
     withFall fall given (stepAnswer given (sound records shapes cells w (fallingAsked records shapes cells w rules body given age fall)))
+
+-- step_falling_summed: over a summary, 11 and 13 after 4
+unfoldable pub fallingSummed : List ℕ → List Float → List ℕ → Window → Rules → BodyNumbers → MotionNumbers → ℕ → Fall → FallingAnswer
+fallingSummed records shapes words w rules body given age fall =
+    withFall fall given
+    (stepAnswer given
+    (sound records shapes (plain words w) w
+    (unless (not (fallFits fall)) 3 (summedAsked records shapes words w rules body given age))))
 
 -- what a refusal hands back: "position, velocity and ground flag as given and liquid none", no sample asked for, and the record unchanged
 pub record HandedBack (given : MotionNumbers) (before : Fall) (r : FallingAnswer) : Type 0 where

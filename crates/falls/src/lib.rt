@@ -13,7 +13,7 @@ use step::StepAnswer;
 use tables::LiquidKind;
 use window::Window;
 ghost use mathlib.Core.Path.{_≡_};
-ghost use Rattle.falls.specs.Answers.{withFall, refusedFalling, fallingChecked, fallingEntry};
+ghost use Rattle.falls.specs.Answers.{withFall, refusedFalling, fallingChecked, fallingEntry, fallingSummed};
 
 // The falling sum, since the last reset; and the landed number, of the last landing.
 pub struct Fall {
@@ -103,4 +103,30 @@ pub fn step_falling(
         return refused_falling(refusal, given, fall);
     }
     step_falling_checked(records, shapes, cells, w, rules, body, given, age, fall)
+}
+
+// For hosts: the same over a window with a summary behind its words, refused as `step::step_summed` refuses.
+pub fn step_falling_summed(
+    records: &[u32],
+    shapes: &[f32],
+    words: &[u32],
+    w: Window,
+    rules: Rules,
+    body: BodyNumbers,
+    given: MotionNumbers,
+    age: u64,
+    fall: Fall,
+) -> FallingAnswer
+    ensures { λ r. ⌜ r ≡ fallingSummed (now (records .entry)) (now (shapes .entry)) (now (words .entry)) w rules body given age fall ⌝ }
+{
+    if fall_fits(fall) {
+        let a = step::step_summed(records, shapes, words, w, rules, body, given, age);
+        return with_fall(fall, given, a);
+    }
+    let cells = summary::plain_words(words, w);
+    let refusal = check_lent(records, shapes, cells, w);
+    if refusal == 0 {
+        return refused_falling(3, given, fall);
+    }
+    refused_falling(refusal, given, fall)
 }

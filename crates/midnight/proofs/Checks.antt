@@ -7,22 +7,21 @@ use lib.Dec.{leb, eqb}
 use lib.ListN.{length}
 use borrow.Author.Tests.{le-leb, lt-leb, eq-eqb, ne-eqb}
 use Rattle.base.specs.Choose.{choose}
-use Rattle.window.specs.Window.{windowRefusal}
 use Rattle.midnight.specs.declared.WindowRow.{WindowRow}
 use Rattle.midnight.specs.Rows.{rowOf, windowWidth, windowAt}
-use Rattle.midnight.specs.Answers.{cellsIn, isThere, refusalAt}
+use Rattle.midnight.specs.Answers.{cellsIn, isThere, ownRefusal, refusalAt}
 
-module _ (windows cells : List ℕ) (j : ℕ) (words : List ℕ) (e : words ≡ rowOf windowWidth windows j) where
-  pub no-row : (length words ≡ windowWidth → ⊥) → 2 ≡ refusalAt windows cells j
+module _ (records windows cells : List ℕ) (j : ℕ) (words : List ℕ) (e : words ≡ rowOf windowWidth windows j) where
+  pub no-row : (length words ≡ windowWidth → ⊥) → 2 ≡ refusalAt records windows cells j
   unfolding refusalAt choose
   no-row h = rw (← e, ne-eqb (length words) windowWidth h)
 
   module _ (whole : length words ≡ windowWidth) (row : WindowRow) (er : row ≡ windowAt windows j) where
-    pub no-words : length cells < row .first + row .count → 2 ≡ refusalAt windows cells j
+    pub no-words : length cells < row .first + row .count → 2 ≡ refusalAt records windows cells j
     unfolding refusalAt choose
     no-words h = rw (← e, eq-eqb (length words) windowWidth whole, ← er, lt-leb (row .first + row .count) (length cells) h)
 
-    pub all-there : row .first + row .count ≤ length cells → (own : List ℕ) (r : ℕ) → own ≡ cellsIn cells row → r ≡ windowRefusal own (row .window) → r ≡ refusalAt windows cells j
+    pub all-there : row .first + row .count ≤ length cells → (own : List ℕ) (r : ℕ) → own ≡ cellsIn cells row → r ≡ ownRefusal records own (row .window) → r ≡ refusalAt records windows cells j
     unfolding refusalAt choose
     all-there h own r eo ec =
         rw (← e, eq-eqb (length words) windowWidth whole, ← er, le-leb (row .first + row .count) (length cells) h, ← eo) ec

@@ -1,9 +1,9 @@
 -- Parts of lists. Assumes nothing.
-use mathlib.Core.Path.{_≡_, sym, ap, _∙_}
-use mathlib.Core.List.{List, []}
+use mathlib.Core.Path.{_≡_, refl, sym, ap, _∙_}
+use mathlib.Core.List.{List, [], _∷_}
 use Prim.Native.Nat.{ℕ, _+_, _-_, _≤_, _<_}
 use native.Mathlib.Omega.{arith}
-use lib.ListN.{length, take, drop, length-drop, drop-of-length-le}
+use lib.ListN.{length, take, drop, getD, length-drop, drop-of-length-le}
 use lib.Seq.{take-all, take-nil}
 
 -- ---- so many from a place on, or what there is of them
@@ -24,3 +24,15 @@ module _ {A : Type 0} (l : List A) (at count : ℕ) where
 
 pub none : {A : Type 0} (l : List A) (k : ℕ) → length l < k → [] ≡ drop k l
 none l k h = let less : length l ≤ k = omega arith in sym (drop-of-length-le l less)
+
+-- all but the last, and the last
+
+pub front-none : {A : Type 0} (l : List A) → length l ≡ 0 → [] ≡ take (length l - 1) l
+front-none l e = rw e
+
+pub front-some : {A : Type 0} (l : List A) → take (length l - 1 - 0) (drop 0 l) ≡ take (length l - 1) l
+front-some l = let q : length l - 1 - 0 ≡ length l - 1 = omega arith in ap (λ (k : ℕ). take k l) q
+
+pub last-none : (l : List ℕ) → length l ≡ 0 → 0 ≡ getD l (length l - 1) 0
+last-none [] e = refl
+last-none (x ∷ xs) e = absurd (omega arith)

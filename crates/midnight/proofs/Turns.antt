@@ -18,7 +18,7 @@ rows-begin lent f m l = let e : m - 0 ≡ m = omega arith in ap (λ (k : ℕ). s
 
 module _ (lent : Lent) (f : ℕ → Row) (m i : ℕ) (l w : List Float) where
   -- checked are the checks of all windows
-  pub rows-turn : (checked : List ℕ) → lent .count ≤ 16 → checked ≡ listed (checkedAt (lent .windows) (lent .cells) (lent .count)) 16 0
+  pub rows-turn : (checked : List ℕ) → lent .count ≤ 16 → checked ≡ listed (checkedAt (lent .records) (lent .windows) (lent .cells) (lent .count)) 16 0
       → (after : List Float) (a : FallingAnswer) → a ≡ answerBy (getD checked (namedIn (f i)) 2) lent (f i) → after ≡ stored l (i * answerWidth) (answerNumbers a) → i < m
       → stored l (i * answerWidth) (rowsOf lent (listed f (m - i) i)) ≡ w
       → stored after ((i + 1) * answerWidth) (rowsOf lent (listed f (m - (i + 1)) (i + 1))) ≡ w

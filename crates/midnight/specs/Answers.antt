@@ -1,13 +1,20 @@
--- One body's answer: 3 for a row that is not there whole; 10 for naming no window; 2 for what its window is; then the step's own, 3 to 9.
+-- One body's answer: 3 for a row that is not there whole; 10 for naming no window; 2 for what its window is; then the step's own, 3 to 9, with 13 of
+-- the window's summary after 4.
 use mathlib.Core.Bool.{Bool, _&&_}
 use mathlib.Core.List.{List}
-use Prim.Native.Nat.{ℕ, _+_}
+use Prim.Native.Nat.{ℕ, _+_, _-_}
 use lib.Dec.{ltb, leb, eqb}
-use lib.ListN.{length, take, drop}
+use lib.ListN.{length, getD, take, drop}
 use lib.Ieee.{Float}
 use Rattle.base.specs.Choose.{choose}
+use Rattle.window.specs.declared.Window.{Window}
 use Rattle.window.specs.Window.{windowRefusal}
+use Rattle.window.specs.Numbers.{withAir}
+use Rattle.groups.specs.Summary.{hasSummary, summaryRefusal}
+use Rattle.summary.specs.Calls.{plain}
+use Rattle.bodies.specs.Limits.{numberRefusal}
 use Rattle.falls.specs.declared.FallingAnswer.{FallingAnswer}
+use Rattle.falls.specs.Rule.{fallFits}
 use Rattle.falls.specs.Answers.{refusedFalling, fallingChecked, fallingEntry}
 use Rattle.midnight.specs.declared.WindowRow.{WindowRow}
 use Rattle.midnight.specs.Rows.{Row, rowOf, windowWidth, windowAt, isWhole, namedIn, ageIn, givenIn, bodyIn, rulesIn, fallIn}
@@ -35,13 +42,31 @@ abbrev pub isThere : List ℕ → List ℕ → ℕ → Bool
 isThere windows cells j =
     eqb (length (rowOf windowWidth windows j)) windowWidth && leb (windowAt windows j .first + windowAt windows j .count) (length cells)
 
-unfoldable pub refusalAt : List ℕ → List ℕ → ℕ → ℕ
-refusalAt windows cells j =
-    choose (isThere windows cells j) (windowRefusal (cellsIn cells (windowAt windows j)) (windowAt windows j .window)) 2
+-- Behind its cells and columns a window may lend a summary, and behind that one word, the air state that it is of. How many words it has tells
+-- whether it does.
+abbrev pub front : List ℕ → List ℕ
+front own = take (length own - 1) own
+
+abbrev pub lastIn : List ℕ → ℕ
+lastIn own = getD own (length own - 1) 0
+
+unfoldable pub isSummed : List ℕ → Window → Bool
+isSummed own w = hasSummary (front own) w
+
+-- 2 of cells and columns, then 13 of the summary
+unfoldable pub ownRefusal : List ℕ → List ℕ → Window → ℕ
+ownRefusal records own w =
+    choose (isSummed own w)
+    (choose (eqb (windowRefusal (plain own w) w) 0) (summaryRefusal records (front own) (withAir w (lastIn own))) 2)
+    (windowRefusal own w)
+
+unfoldable pub refusalAt : List ℕ → List ℕ → List ℕ → ℕ → ℕ
+refusalAt records windows cells j =
+    choose (isThere windows cells j) (ownRefusal records (cellsIn cells (windowAt windows j)) (windowAt windows j .window)) 2
 
 -- the same of the first so many; nothing names a window beyond them
-unfoldable pub checkedAt : List ℕ → List ℕ → ℕ → ℕ → ℕ
-checkedAt windows cells count j = choose (ltb j count) (refusalAt windows cells j) 2
+unfoldable pub checkedAt : List ℕ → List ℕ → List ℕ → ℕ → ℕ → ℕ
+checkedAt records windows cells count j = choose (ltb j count) (refusalAt records windows cells j) 2
 
 -- ---- a body
 
@@ -54,9 +79,28 @@ abbrev pub singleStep : List ℕ → List Float → List ℕ → WindowRow → R
 singleStep records shapes cells w row =
     fallingEntry records shapes (cellsIn cells w) (w .window) (rulesIn row) (bodyIn row) (givenIn row) (ageIn row) (fallIn row)
 
+-- a body of the summary's air state goes by it; one that names another is stepped over cells and columns
+unfoldable pub stepWords : List ℕ → Window → ℕ → List ℕ
+stepWords own w air = choose (isSummed own w) (choose (eqb (lastIn own) air) (front own) (plain own w)) own
+
 unfoldable pub checkedStep : List ℕ → List Float → List ℕ → WindowRow → Row → FallingAnswer
 checkedStep records shapes cells w row =
-    fallingChecked records shapes (cellsIn cells w) (w .window) (rulesIn row) (bodyIn row) (givenIn row) (ageIn row) (fallIn row)
+    fallingChecked records shapes (stepWords (cellsIn cells w) (w .window) (rulesIn row .air)) (w .window) (rulesIn row) (bodyIn row) (givenIn row) (ageIn row) (fallIn row)
+
+-- 13 comes after the body's own 3 and 4
+unfoldable pub lateBody : List ℕ → Row → FallingAnswer
+lateBody records row =
+    choose (fallFits (fallIn row))
+    (choose (eqb (numberRefusal records (rulesIn row) (bodyIn row) (givenIn row)) 0) (refusedBody 13 row)
+    (refusedBody (numberRefusal records (rulesIn row) (bodyIn row) (givenIn row)) row))
+    (refusedBody 3 row)
+
+-- a window whose check said 13, of which a body of another air state does not know, or 2
+unfoldable pub wrongStep : ℕ → List ℕ → List Float → List ℕ → WindowRow → Row → FallingAnswer
+wrongStep refusal records shapes cells w row =
+    choose (eqb refusal 13)
+    (choose (eqb (lastIn (cellsIn cells w)) (rulesIn row .air)) (lateBody records row) (checkedStep records shapes cells w row))
+    (refusedBody 2 row)
 
 -- by what its window's check said
 unfoldable pub answerBy : ℕ → Lent → Row → FallingAnswer
@@ -64,9 +108,9 @@ answerBy refusal lent row =
     choose (isWhole row)
     (choose (ltb (namedIn row) (lent .count))
     (choose (eqb refusal 0) (checkedStep (lent .records) (lent .shapes) (lent .cells) (windowAt (lent .windows) (namedIn row)) row)
-    (refusedBody 2 row))
+    (wrongStep refusal (lent .records) (lent .shapes) (lent .cells) (windowAt (lent .windows) (namedIn row)) row))
     (refusedBody 10 row))
     (refusedBody 3 row)
 
 abbrev pub answerOf : Lent → Row → FallingAnswer
-answerOf lent row = answerBy (refusalAt (lent .windows) (lent .cells) (namedIn row)) lent row
+answerOf lent row = answerBy (refusalAt (lent .records) (lent .windows) (lent .cells) (namedIn row)) lent row

@@ -6,6 +6,9 @@ use crate::rows::WORD_WIDTH;
 use crate::rows::scene_words;
 use crate::rows::wide;
 use crate::windows::cells_in;
+use crate::windows::front;
+use crate::windows::is_summed;
+use crate::windows::last_in;
 use crate::windows::window_at;
 use bodies::MotionNumbers;
 use falls::Fall;
@@ -13,6 +16,7 @@ use falls::FallingAnswer;
 use lent_numbers::put;
 use lent_steps::float_of;
 use lent_steps::put_falling;
+use window::Window;
 ghost use mathlib.Core.Path.{_≡_};
 ghost use Prim.Native.Nat.{_≤_};
 ghost use lib.ListN.{getD, length};
@@ -22,7 +26,7 @@ ghost use Rattle.bodies.specs.Numbers.{numberAt};
 ghost use Rattle.lent_words.specs.Words.{wideOf};
 ghost use Rattle.falls.specs.Rule.{fallOf};
 ghost use Rattle.midnight.specs.Rows.{rowWith, isWhole, givenIn, answerNumbers};
-ghost use Rattle.midnight.specs.Answers.{lentWith, refusedBody, checkedStep, answerBy};
+ghost use Rattle.midnight.specs.Answers.{lentWith, refusedBody, stepWords, checkedStep, lateBody, wrongStep, answerBy};
 ghost use Rattle.midnight.specs.Run.{rowWritten};
 
 fn is_whole(numbers: &[f64], words: &[u32]) -> bool
@@ -62,6 +66,19 @@ fn age_in(words: &[u32]) -> u64
     lent_words::join(low, high)
 }
 
+// The words that a body of this air state is stepped over.
+fn step_words(own: &[u32], w: Window, air: u32) -> &[u32]
+    ensures { λ r. ⌜ now r ≡ stepWords (now (own .entry)) w air ⌝ }
+{
+    if is_summed(own, w) {
+        if last_in(own) == air {
+            return front(own);
+        }
+        return summary::plain_words(own, w);
+    }
+    &own[0..]
+}
+
 // The step in a window that passed its check.
 fn checked_step(
     records: &[u32],
@@ -73,9 +90,9 @@ fn checked_step(
 ) -> FallingAnswer
     ensures { λ r. ⌜ r ≡ checkedStep (now (records .entry)) (now (shapes .entry)) (now (cells .entry)) w (rowWith (now (numbers .entry)) (now (words .entry))) ⌝ }
 {
-    let own = cells_in(cells, w);
     let last = scene_words(words);
     let rules = bodies::rules_from(numbers, last);
+    let own = step_words(cells_in(cells, w), w.window, rules.air);
     let body = bodies::body_from(numbers, last);
     let given = bodies::motion_from(numbers, last);
     let age = age_in(words);
@@ -101,6 +118,47 @@ fn refusal_of(checked: &[u32], j: u32) -> u32
     if j < checked.len() { checked[j] } else { 2 }
 }
 
+// 13 of the window's summary, after the body's own 3 and 4.
+fn late_body(records: &[u32], numbers: &[f64], words: &[u32]) -> FallingAnswer
+    ensures { λ r. ⌜ r ≡ lateBody (now (records .entry)) (rowWith (now (numbers .entry)) (now (words .entry))) ⌝ }
+{
+    let fall = fall_in(numbers);
+    if falls::fall_fits(fall) {
+        let last = scene_words(words);
+        let rules = bodies::rules_from(numbers, last);
+        let body = bodies::body_from(numbers, last);
+        let given = bodies::motion_from(numbers, last);
+        let unfit = bodies::number_refusal(records, rules, body, given);
+        if unfit == 0 {
+            return refused_body(13, numbers, words);
+        }
+        return refused_body(unfit, numbers, words);
+    }
+    refused_body(3, numbers, words)
+}
+
+// A window whose check said 13, of which a body of another air state does not know, or 2.
+fn wrong_step(
+    refusal: u32,
+    records: &[u32],
+    shapes: &[f32],
+    cells: &[u32],
+    w: WindowRow,
+    numbers: &[f64],
+    words: &[u32],
+) -> FallingAnswer
+    ensures { λ r. ⌜ r ≡ wrongStep refusal (now (records .entry)) (now (shapes .entry)) (now (cells .entry)) w (rowWith (now (numbers .entry)) (now (words .entry))) ⌝ }
+{
+    if refusal == 13 {
+        let rules = bodies::rules_from(numbers, scene_words(words));
+        if last_in(cells_in(cells, w)) == rules.air {
+            return late_body(records, numbers, words);
+        }
+        return checked_step(records, shapes, cells, w, numbers, words);
+    }
+    refused_body(2, numbers, words)
+}
+
 // 3, then 10, then 2, then what the step gives.
 pub(crate) fn answer_of(
     records: &[u32],
@@ -117,11 +175,12 @@ pub(crate) fn answer_of(
     if is_whole(numbers, words) {
         let named = tables::word(words, 0, 0);
         if named < count {
-            if refusal_of(checked, named) == 0 {
-                let w = window_at(windows, named);
+            let refusal = refusal_of(checked, named);
+            let w = window_at(windows, named);
+            if refusal == 0 {
                 return checked_step(records, shapes, cells, w, numbers, words);
             }
-            return refused_body(2, numbers, words);
+            return wrong_step(refusal, records, shapes, cells, w, numbers, words);
         }
         return refused_body(10, numbers, words);
     }

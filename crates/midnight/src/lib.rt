@@ -66,7 +66,7 @@ fn answer_all(
     requires { ⌜ count ≤ 16 ⌝ }
     ensures { λ _. ⌜ now (out .exit) ≡ stored (now (out .entry)) 0 (rowsOf (lentWith (now (records .entry)) (now (shapes .entry)) (now (windows .entry)) count (now (cells .entry))) (bodiesOf (now (numbers .entry)) (now (words .entry)) bodies)) ⌝ }
 {
-    let checked = windows::check_all(windows, count, cells);
+    let checked = windows::check_all(records, windows, count, cells);
     let mut i = 0u32;
     while i < bodies {
         let own_numbers = rows::numbers_at(numbers, i);

@@ -4,10 +4,11 @@ use crate::rows::WINDOW_WIDTH;
 use crate::rows::wide;
 use crate::rows::window_row;
 use crate::rows::words_from;
+use window::Window;
 ghost use mathlib.Core.Path.{_≡_};
 ghost use Rattle.base.specs.Loop.{listed};
 ghost use Rattle.midnight.specs.Rows.{windowOfRow, windowAt};
-ghost use Rattle.midnight.specs.Answers.{cellsIn, refusalAt, checkedAt};
+ghost use Rattle.midnight.specs.Answers.{cellsIn, front, lastIn, isSummed, ownRefusal, refusalAt, checkedAt};
 
 // The window that a row's words are.
 fn window_of_row(words: &[u32]) -> WindowRow
@@ -44,16 +45,58 @@ pub(crate) fn cells_in(cells: &[u32], row: WindowRow) -> &[u32]
     words_from(cells, wide(row.first), wide(row.count))
 }
 
-// 0, or 2.
-fn refusal_at(windows: &[u32], cells: &[u32], j: u32) -> u32
-    ensures { λ r. ⌜ r ≡ refusalAt (now (windows .entry)) (now (cells .entry)) j ⌝ }
+// All but the last of a window's own words: cells, columns and summary, where it has one.
+pub(crate) fn front(own: &[u32]) -> &[u32]
+    ensures { λ r. ⌜ now r ≡ front (now (own .entry)) ⌝ }
+{
+    let n = own.len();
+    if n == 0 {
+        return &own[0..0];
+    }
+    &own[0..n - 1]
+}
+
+// The last of them: the air state that its summary is of.
+pub(crate) fn last_in(own: &[u32]) -> u32
+    ensures { λ r. ⌜ r ≡ lastIn (now (own .entry)) ⌝ }
+{
+    let n = own.len();
+    if n == 0 {
+        return 0;
+    }
+    own[n - 1]
+}
+
+pub(crate) fn is_summed(own: &[u32], w: Window) -> bool
+    ensures { λ r. ⌜ r ≡ isSummed (now (own .entry)) w ⌝ }
+{
+    groups::has_summary(front(own), w)
+}
+
+// 0; 2 of cells and columns; or 13 of the summary, where there is one.
+fn own_refusal(records: &[u32], own: &[u32], w: Window) -> u32
+    ensures { λ r. ⌜ r ≡ ownRefusal (now (records .entry)) (now (own .entry)) w ⌝ }
+{
+    if is_summed(own, w) {
+        if window::check_window(summary::plain_words(own, w), w) == 0 {
+            let air = last_in(own);
+            return groups::check_summary(records, front(own), window::with_air(w, air));
+        }
+        return 2;
+    }
+    window::check_window(own, w)
+}
+
+// 0, 2 or 13.
+fn refusal_at(records: &[u32], windows: &[u32], cells: &[u32], j: u32) -> u32
+    ensures { λ r. ⌜ r ≡ refusalAt (now (records .entry)) (now (windows .entry)) (now (cells .entry)) j ⌝ }
 {
     let words = window_row(windows, j);
     if words.len() == WINDOW_WIDTH {
         let row = window_at(windows, j);
         let end = wide(row.first) + wide(row.count);
         if end <= cells.len() {
-            return window::check_window(cells_in(cells, row), row.window);
+            return own_refusal(records, cells_in(cells, row), row.window);
         }
         return 2;
     }
@@ -61,23 +104,23 @@ fn refusal_at(windows: &[u32], cells: &[u32], j: u32) -> u32
 }
 
 // The same for a window that is one of so many; 2 beyond them.
-fn checked_at(windows: &[u32], count: u32, cells: &[u32], j: u32) -> u32
-    ensures { λ r. ⌜ r ≡ checkedAt (now (windows .entry)) (now (cells .entry)) count j ⌝ }
+fn checked_at(records: &[u32], windows: &[u32], count: u32, cells: &[u32], j: u32) -> u32
+    ensures { λ r. ⌜ r ≡ checkedAt (now (records .entry)) (now (windows .entry)) (now (cells .entry)) count j ⌝ }
 {
     if j < count {
-        return refusal_at(windows, cells, j);
+        return refusal_at(records, windows, cells, j);
     }
     2
 }
 
 // Each window checked, once for all bodies.
-pub(crate) fn check_all(windows: &[u32], count: u32, cells: &[u32]) -> [u32; 16]
-    ensures { λ r. ⌜ r ≡ listed (checkedAt (now (windows .entry)) (now (cells .entry)) count) 16 0 ⌝ }
+pub(crate) fn check_all(records: &[u32], windows: &[u32], count: u32, cells: &[u32]) -> [u32; 16]
+    ensures { λ r. ⌜ r ≡ listed (checkedAt (now (records .entry)) (now (windows .entry)) (now (cells .entry)) count) 16 0 ⌝ }
 {
     let mut checked = [2; 16];
     let mut j = 0u32;
     while j < 16 {
-        checked[j as usize] = checked_at(windows, count, cells, j);
+        checked[j as usize] = checked_at(records, windows, count, cells, j);
         j += 1;
     }
     checked

@@ -16,6 +16,7 @@ use Rattle.window.specs.Look.{lookAt}
 use Rattle.lent.specs.Lent.{unless, direct}
 use Rattle.collection.specs.Collect.{collectBlockBoxes, collidesWithBlocks}
 use Rattle.collection.specs.Answers.{heldAsked}
+use Rattle.summary.specs.Calls.{plain, summed}
 use Rattle.moves.specs.declared.HitAnswer.{HitAnswer}
 unfoldable pub use Rattle.through.specs.Through.{moveAabb}
 
@@ -45,3 +46,13 @@ moveEntry records shapes cells w aabb delta stepHeight wasOnGround =
     (unless (not (isStep stepHeight)) 3
     (unless (not (isBox aabb && isDelta delta)) 4
     (moveAabb (lookAt cells w) records shapes aabb delta stepHeight wasOnGround))))
+
+-- over a summary: 11 and 13 after 4, then the move over cells and columns
+unfoldable pub moveSummed : List ℕ → List Float → List ℕ → Window → Aabb → Vec3 → Float → Bool → MoveAnswer
+moveSummed records shapes words w aabb delta stepHeight wasOnGround =
+    moveAnswer aabb
+    (direct records shapes (plain words w) w
+    (unless (not (isStep stepHeight)) 3
+    (unless (not (isBox aabb && isDelta delta)) 4
+    (summed records words w
+    (moveAabb (lookAt (plain words w) w) records shapes aabb delta stepHeight wasOnGround)))))

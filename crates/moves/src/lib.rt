@@ -12,7 +12,7 @@ ghost use mathlib.Core.Bool.{_&&_};
 ghost use Rattle.base.specs.Ask.{refused};
 ghost use Rattle.boxes.specs.Limits.{isBox, isDelta};
 ghost use Rattle.sweeps.specs.Lists.{heldIn};
-ghost use Rattle.moves.specs.Answers.{moveAnswer, collectEntry, collidesEntry, moveEntry};
+ghost use Rattle.moves.specs.Answers.{moveAnswer, collectEntry, collidesEntry, moveEntry, moveSummed};
 
 // Refusal 0 and whether a box was hit, or a refusal and no.
 pub struct HitAnswer {
@@ -86,6 +86,35 @@ pub fn move_aabb(records: &[u32], shapes: &[f32], cells: &[u32], w: Window, aabb
     if boxes::is_step(step) {
         if is_fit(aabb, delta) {
             let told = through::move_through(records, shapes, cells, w, aabb, delta, step, ground);
+            return match told {
+                AskedMove::Refused(n) => refused_move(n, aabb),
+                AskedMove::To(m) => MoveAnswer {
+                    refusal: 0,
+                    result: m,
+                },
+            };
+        }
+        return refused_move(4, aabb);
+    }
+    refused_move(3, aabb)
+}
+
+// For hosts: the move through a window with a summary behind its words, by which it passes over layers. As `move_aabb`, with 11 and 13 after 4.
+pub fn move_summed(records: &[u32], shapes: &[f32], words: &[u32], w: Window, aabb: Aabb, delta: Vec3, step: f64, ground: bool) -> MoveAnswer
+    ensures { λ r. ⌜ r ≡ moveSummed (now (records .entry)) (now (shapes .entry)) (now (words .entry)) w aabb delta step ground ⌝ }
+{
+    let cells = summary::plain_words(words, w);
+    let bad = lent::check_direct(records, shapes, cells, w);
+    if bad != 0 {
+        return refused_move(bad, aabb);
+    }
+    if boxes::is_step(step) {
+        if is_fit(aabb, delta) {
+            let wrong = groups::check_summary(records, words, w);
+            if wrong != 0 {
+                return refused_move(wrong, aabb);
+            }
+            let told = through::move_through(records, shapes, words, w, aabb, delta, step, ground);
             return match told {
                 AskedMove::Refused(n) => refused_move(n, aabb),
                 AskedMove::To(m) => MoveAnswer {

@@ -3,3 +3,4 @@ pub mod Laws
 pub mod Refuses
 pub mod Tells
 pub mod Friction
+pub mod Summed

@@ -13,6 +13,7 @@ use Rattle.window.specs.declared.Window.{Window}
 use Rattle.window.specs.Look.{lookAt}
 use Rattle.window.specs.Numbers.{withAir}
 use Rattle.lent.specs.Lent.{unless, sound}
+use Rattle.summary.specs.Calls.{plain, summed}
 use Rattle.bodies.specs.declared.BodyNumbers.{BodyNumbers}
 use Rattle.bodies.specs.declared.Rules.{Rules}
 use Rattle.bodies.specs.declared.MotionNumbers.{MotionNumbers}
@@ -26,7 +27,7 @@ use Rattle.drags.specs.declared.Sample.{Sample}
 use Rattle.drags.specs.declared.Support.the-variants.{Asked, NotAsked}
 use Rattle.drags.specs.Cases.{sampleOr}
 use Rattle.samples.specs.Samples.{livingSample, livingBlockFriction}
-use Rattle.ticks.specs.Step.{stepBodySensed}
+use Rattle.ticks.specs.Step.{stepBodySensed, stepBodyPast}
 
 -- 9 comes last: a result that is not finite
 unfoldable pub finiteTick : Tick → Ask Tick
@@ -54,9 +55,15 @@ checkedAsked records shapes cells w rules body given age =
     fitting records rules body given
     (stepBodySensed (lookAt cells (withAir w (rules .air))) records shapes rules (bodyOf body) (motionOf given) age >>= finiteTick)
 
--- step_checked: over tables and a window that were checked before
+-- the same where the move goes by the summary behind the words; over a window that has none, or a true one, it is the same (proofs/Laws.antt)
+abbrev pub pastAsked : List ℕ → List Float → List ℕ → Window → Rules → BodyNumbers → MotionNumbers → ℕ → Ask Tick
+pastAsked records shapes words w rules body given age =
+    fitting records rules body given
+    (stepBodyPast words (withAir w (rules .air)) records shapes rules (bodyOf body) (motionOf given) age >>= finiteTick)
+
+-- step_checked: over tables and a window that were checked before, and so was its summary, where there is one
 unfoldable pub checkedEntry : List ℕ → List Float → List ℕ → Window → Rules → BodyNumbers → MotionNumbers → ℕ → StepAnswer
-checkedEntry records shapes cells w rules body given age = stepAnswer given (checkedAsked records shapes cells w rules body given age)
+checkedEntry records shapes words w rules body given age = stepAnswer given (pastAsked records shapes words w rules body given age)
 
 -- step_body_sensed: 1 and 2 before all that
 abbrev pub stepAsked : List ℕ → List Float → List ℕ → Window → Rules → BodyNumbers → MotionNumbers → ℕ → Ask Tick
@@ -64,6 +71,16 @@ stepAsked records shapes cells w rules body given age = sound records shapes cel
 
 unfoldable pub stepEntry : List ℕ → List Float → List ℕ → Window → Rules → BodyNumbers → MotionNumbers → ℕ → StepAnswer
 stepEntry records shapes cells w rules body given age = stepAnswer given (stepAsked records shapes cells w rules body given age)
+
+-- over a summary, which is of a window and an air state: 11 and 13 after 4, then the step over cells and columns
+abbrev pub summedAsked : List ℕ → List Float → List ℕ → Window → Rules → BodyNumbers → MotionNumbers → ℕ → Ask Tick
+summedAsked records shapes words w rules body given age =
+    fitting records rules body given
+    (summed records words (withAir w (rules .air)) (checkedAsked records shapes (plain words w) w rules body given age))
+
+unfoldable pub stepSummed : List ℕ → List Float → List ℕ → Window → Rules → BodyNumbers → MotionNumbers → ℕ → StepAnswer
+stepSummed records shapes words w rules body given age =
+    stepAnswer given (sound records shapes (plain words w) w (summedAsked records shapes words w rules body given age))
 
 -- step_body: the same without what was sensed
 abbrev pub motionAlone : StepAnswer → MotionAnswer

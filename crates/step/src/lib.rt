@@ -21,7 +21,7 @@ use ticks::step_through;
 use window::Window;
 ghost use mathlib.Core.Path.{_≡_};
 ghost use Rattle.base.specs.Ask.{refused, found};
-ghost use Rattle.step.specs.Answers.{finiteTick, stepAnswer, checkedEntry, stepEntry, motionAlone, refusedFriction, frictionAnswer, frictionEntry};
+ghost use Rattle.step.specs.Answers.{finiteTick, stepAnswer, checkedEntry, stepEntry, stepSummed, motionAlone, refusedFriction, frictionAnswer, frictionEntry};
 
 // What a host is handed: refusal 0, the motion after the step, the liquid and the sample; or a refusal, the motion as given, none, and not asked.
 pub struct StepAnswer {
@@ -144,6 +144,35 @@ pub fn step_body_sensed(
         return refused_step(refusal, given);
     }
     step_checked(records, shapes, cells, w, rules, body, given, age)
+}
+
+// For hosts: the same over a window with a summary behind its words, by which the move passes over layers: 11 and 13 after 4.
+pub fn step_summed(
+    records: &[u32],
+    shapes: &[f32],
+    words: &[u32],
+    w: Window,
+    rules: Rules,
+    body: BodyNumbers,
+    given: MotionNumbers,
+    age: u64,
+) -> StepAnswer
+    ensures { λ r. ⌜ r ≡ stepSummed (now (records .entry)) (now (shapes .entry)) (now (words .entry)) w rules body given age ⌝ }
+{
+    let cells = summary::plain_words(words, w);
+    let refusal = check_lent(records, shapes, cells, w);
+    if refusal != 0 {
+        return refused_step(refusal, given);
+    }
+    let unfit = number_refusal(records, rules, body, given);
+    if unfit != 0 {
+        return refused_step(unfit, given);
+    }
+    let wrong = groups::check_summary(records, words, window::with_air(w, rules.air));
+    if wrong != 0 {
+        return refused_step(wrong, given);
+    }
+    step_checked(records, shapes, words, w, rules, body, given, age)
 }
 
 // For hosts: one tick of a body.

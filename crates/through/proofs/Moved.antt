@@ -1,11 +1,12 @@
--- The move over what was collected from the swept area comes to `moveAabb`, and refuses 5 and 6 alone. Assumes nothing.
+-- The move over what was collected from the swept area comes to `moveAabbPast`, and refuses 5 and 6 alone. Assumes nothing.
 use mathlib.Core.Path.{_≡_, refl}
 use mathlib.Core.Bool.{Bool}
 use mathlib.Core.List.{List, []}
-use Prim.Native.Nat.{ℕ, _-_}
+use Prim.Native.Nat.{ℕ, _≤_, _<_}
 use native.Mathlib.Omega.{arith}
 use lib.ListN.{take, length-replicate}
 use lib.Ieee.{Float}
+use Rattle.base.specs.Choose.{choose}
 use Rattle.base.specs.Ask.{Ask, refused, found, next}
 use Rattle.boxes.specs.declared.Aabb.{Aabb}
 use Rattle.sweeps.specs.declared.Request.{Request}
@@ -18,42 +19,58 @@ use Rattle.window.specs.declared.Window.{Window}
 use Rattle.window.specs.Look.{lookAt}
 use Rattle.ranges.specs.declared.Range.{Range}
 use Rattle.ranges.specs.Ranges.{trimmed}
-use Rattle.collection.specs.Collect.{push, rangeOf, collectIn, sweptArea}
+use Rattle.passing.specs.declared.Reach.{Reach}
+use Rattle.passing.specs.Passing.{reachIn, linesBy, passes}
+use Rattle.collection.specs.Collect.{push, rangeOf, sweptArea}
+use Rattle.collection.specs.Past.{collectInPast}
 use Rattle.collection.specs.Answers.{heldAsked}
-use Rattle.through.specs.Through.{moveAabb}
+use Rattle.through.specs.Through.{moveAabb, moveAabbPast}
 use Rattle.through.specs.Few.{few, emptyFew, moveFrom}
 use Rattle.through.specs.declared.Few.{Few}
 use Rattle.boxes.specs.declared.Vec3.{Vec3}
-use Rattle.collection.proofs.Collects.{Room, all, in-range}
+use Rattle.collection.proofs.Collects.{Room, allPast}
+use Rattle.collection.proofs.Past.{in-range}
 use Rattle.collection.proofs.Caps.{list-told, refusal-told}
-use Rattle.collection.proofs.Refuses.{Refuses, FiveOrSix, finds, after, range-refuses, collect-refuses}
+use Rattle.collection.proofs.Refuses.{Refuses, FiveOrSix, finds, after, past-refuses, collect-refuses}
 
-module _ (cells : List ℕ) (w : Window) (records : List ℕ) (shapes : List Float) (q : Request) (area : Aabb) (r : Range) where
+module _ (over : ℕ → Bool) (cells : List ℕ) (w : Window) (records : List ℕ) (shapes : List Float) (q : Request) (area : Aabb) (r : Range) where
   abbrev whole-move : Ask MoveResult
-  whole-move = moveFrom (lookAt cells w) records shapes q area r
+  whole-move = moveFrom over (lookAt cells w) records shapes q area r
 
-  pub moved : (bs : List Aabb) → found (next bs) ≡ all (push room) (lookAt cells w) records shapes area r [] → (s : Sweep) → s ≡ sweepOf bs q → (m : MoveResult) → m ≡ endOfMove q s → found m ≡ whole-move
+  pub moved : (bs : List Aabb) → found (next bs) ≡ allPast (push room) (lookAt cells w) records shapes area r over [] → (s : Sweep) → s ≡ sweepOf bs q → (m : MoveResult) → m ≡ endOfMove q s → found m ≡ whole-move
   unfolding moveFrom
   moved bs h s es m em = rw (← h, em, moves bs q s es)
 
-  pub not-moved : (k : ℕ) → refused k ≡ all (push room) (lookAt cells w) records shapes area r [] → refused k ≡ whole-move
+  pub not-moved : (k : ℕ) → refused k ≡ allPast (push room) (lookAt cells w) records shapes area r over [] → refused k ≡ whole-move
   unfolding moveFrom
   not-moved k h = rw (← h)
 
   -- from the answer of a collection
-  module _ (h : Held) (e : h ≡ heldAsked (collectIn room (lookAt cells w) records shapes area r)) where
+  module _ (h : Held) (e : h ≡ heldAsked (collectInPast over room (lookAt cells w) records shapes area r)) where
     pub moved-over : h .refusal ≡ 0 → (s : Sweep) → s ≡ sweepOf (h .boxes) q → (m : MoveResult) → m ≡ endOfMove q s → found m ≡ whole-move
     unfolding moveFrom
-    moved-over z s es m em = rw (list-told h (collectIn room (lookAt cells w) records shapes area r) (range-refuses room cells w records shapes area r) e z, em, moves (h .boxes) q s es)
+    moved-over z s es m em = rw (list-told h (collectInPast over room (lookAt cells w) records shapes area r) (past-refuses over room cells w records shapes area r) e z, em, moves (h .boxes) q s es)
 
     pub told-refused : (h .refusal ≡ 0 → ⊥) → refused (h .refusal) ≡ whole-move
     unfolding moveFrom
-    told-refused z = rw (refusal-told h (collectIn room (lookAt cells w) records shapes area r) e z)
+    told-refused z = rw (refusal-told h (collectInPast over room (lookAt cells w) records shapes area r) e z)
 
-  -- the range of the swept area, as `range_of` answers it
-  pub as-asked : area ≡ sweptArea (q .aabb) (q .delta) (q .step) → r ≡ trimmed (rangeOf area) → whole-move ≡ moveAabb (lookAt cells w) records shapes (q .aabb) (q .delta) (q .step) (q .ground)
-  unfolding moveFrom moveAabb
-  as-asked e er = rw (in-range room (lookAt cells w) records shapes area r er, e)
+-- for the range of the swept area, as `range_of` answers it
+pub as-asked : (over : Range → ℕ → Bool) (cells : List ℕ) (w : Window) (records : List ℕ) (shapes : List Float) (q : Request) (area : Aabb) (r : Range) → area ≡ sweptArea (q .aabb) (q .delta) (q .step) → r ≡ trimmed (rangeOf area)
+    → moveFrom (over r) (lookAt cells w) records shapes q area r ≡ moveAabbPast over (lookAt cells w) records shapes (q .aabb) (q .delta) (q .step) (q .ground)
+unfolding moveFrom moveAabbPast
+as-asked over cells w records shapes q area r e er = rw (in-range over room (lookAt cells w) records shapes area r er, e)
+
+-- ---- the lines of a layer, as the program has them
+module _ (words : List ℕ) (w : Window) (r : Range) (k : Reach) (y lines x : ℕ) (e : k ≡ reachIn words w r) (f : lines ≡ linesBy words w r k y) where
+  come-to : lines ≡ choose (passes words w r y) 0 (r .x .count)
+  come-to = rw e at f
+
+  pub on-the-way : x < lines → x < choose (passes words w r y) 0 (r .x .count)
+  on-the-way h = rw come-to at h
+
+  pub at-the-end : lines ≤ x → choose (passes words w r y) 0 (r .x .count) ≤ x
+  at-the-end h = rw come-to at h
 
 pub move-refuses : (cells : List ℕ) (w : Window) (records : List ℕ) (shapes : List Float) (aabb : Aabb) (delta : Vec3) (step : Float) (ground : Bool) → Refuses FiveOrSix (moveAabb (lookAt cells w) records shapes aabb delta step ground)
 unfolding moveAabb

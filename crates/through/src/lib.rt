@@ -9,7 +9,8 @@ use sweeps::Request;
 use window::Window;
 ghost use mathlib.Core.Path.{_≡_};
 ghost use Rattle.window.specs.Look.{lookAt};
-ghost use Rattle.through.specs.Through.{movedAsked, moveAabb};
+ghost use Rattle.passing.specs.Passing.{passes};
+ghost use Rattle.through.specs.Through.{movedAsked, moveAabbPast};
 ghost use Rattle.through.specs.Few.{emptyFew, moveFrom};
 
 // A move, or the number of a refusal.
@@ -39,7 +40,7 @@ impl Few {
 // A move of more boxes than a few, from its range on, over the whole list. It is here that 6 is refused. It has two callers, so that the compiler
 // leaves it out of the loop below, which is slower with it inside.
 fn crowded(records: &[u32], shapes: &[f32], cells: &[u32], w: Window, q: Request, area: Aabb, r: Range) -> AskedMove
-    ensures { λ m. ⌜ movedAsked m ≡ moveFrom (lookAt (now (cells .entry)) w) (now (records .entry)) (now (shapes .entry)) q area r ⌝ }
+    ensures { λ m. ⌜ movedAsked m ≡ moveFrom (passes (now (cells .entry)) w r) (lookAt (now (cells .entry)) w) (now (records .entry)) (now (shapes .entry)) q area r ⌝ }
 {
     let c = collection::collect_range(records, shapes, cells, w, area, r);
     let refusal = c.refusal;
@@ -53,11 +54,13 @@ fn crowded(records: &[u32], shapes: &[f32], cells: &[u32], w: Window, q: Request
 // A move of a few boxes. Collection and passes stand in one function, so that the list is read where it was built: handed on by value, it would be
 // copied.
 fn swept_through(records: &[u32], shapes: &[f32], cells: &[u32], w: Window, q: Request, area: Aabb, r: Range) -> AskedMove
-    ensures { λ m. ⌜ movedAsked m ≡ moveFrom (lookAt (now (cells .entry)) w) (now (records .entry)) (now (shapes .entry)) q area r ⌝ }
+    ensures { λ m. ⌜ movedAsked m ≡ moveFrom (passes (now (cells .entry)) w r) (lookAt (now (cells .entry)) w) (now (records .entry)) (now (shapes .entry)) q area r ⌝ }
 {
+    let over = passing::reach_in(cells, w, r);
     let mut list = Few::new();
     for y in 0..r.y.count {
-        for x in 0..r.x.count {
+        let lines = passing::lines_at(cells, w, r, over, y);
+        for x in 0..lines {
             for z in 0..r.z.count {
                 let p = ranges::place(r, At { x, y, z });
                 let part = match solids::quick_part(records, cells, w, p) {
@@ -102,7 +105,7 @@ fn swept_through(records: &[u32], shapes: &[f32], cells: &[u32], w: Window, q: R
 
 // The move: step is the step height, ground whether the body was on the ground. It refuses 5 and 6 alone.
 pub fn move_through(records: &[u32], shapes: &[f32], cells: &[u32], w: Window, aabb: Aabb, delta: Vec3, step: f64, ground: bool) -> AskedMove
-    ensures { λ r. ⌜ movedAsked r ≡ moveAabb (lookAt (now (cells .entry)) w) (now (records .entry)) (now (shapes .entry)) aabb delta step ground ⌝ }
+    ensures { λ r. ⌜ movedAsked r ≡ moveAabbPast (passes (now (cells .entry)) w) (lookAt (now (cells .entry)) w) (now (records .entry)) (now (shapes .entry)) aabb delta step ground ⌝ }
 {
     let q = Request {
         aabb,

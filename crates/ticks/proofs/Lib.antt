@@ -3,3 +3,4 @@ pub mod Answers
 pub mod Refuses
 pub mod Alike
 pub mod Tells
+pub mod Past

@@ -17,6 +17,7 @@ use Rattle.window.specs.declared.Pos.{Pos}
 use Rattle.window.specs.declared.Window.{Window}
 use Rattle.window.specs.Look.{Block, none, some, lookAt}
 use Rattle.collection.proofs.Refuses.{Refuses, FiveOrSix, wider, finds, names, either, after, walks, asks, resumes, look-refuses}
+use Rattle.through.specs.Through.{moveAabb}
 use Rattle.through.proofs.Moved.{move-refuses}
 use Rattle.flow.specs.Liquid.{liquidHeld, stopsFlow, blocksLiquidFlow}
 use Rattle.flow.specs.Flow.{FlowSoFar, difference, walledBy, sideFlow, liquidFlow}
@@ -30,7 +31,7 @@ use Rattle.bodies.specs.declared.Rules.{Rules}
 use Rattle.bodies.specs.declared.Motion.{Motion}
 use Rattle.drags.specs.Drags.{pulled}
 use Rattle.samples.specs.Samples.{sampled, supportingFriction, livingSample, livingBlockFriction, told, livingSupport, groundSupport, supportAfter}
-use Rattle.ticks.specs.Step.{afterMove, moveOn, itemBegins, tickBegins, senses, stepBodySensed}
+use Rattle.ticks.specs.Step.{afterMove, moveOnBy, itemBegins, tickBegins, senses, stepBodyBy, stepBodySensed}
 
 -- ---- what asks for cells, where a look-up refuses by P
 module _ {P : ℕ → Type 0} (look : Pos → Ask Block) (h : (p : Pos) → Refuses P (look p)) (records : List ℕ) where
@@ -155,14 +156,14 @@ module _ (cells : List ℕ) (w : Window) (records : List ℕ) where
   looks p = wider _ five (look-refuses cells w p)
 
   module _ (shapes : List Float) (rules : Rules) (body : Body) where
-    on-refuses : (aabb : Aabb) (onGround : Bool) (flotation liquid : LiquidKind) (v : Vec3) → Refuses FiveToSeven (moveOn (lookAt cells w) records shapes rules body aabb onGround flotation liquid v)
-    unfolding moveOn
+    on-refuses : (aabb : Aabb) (onGround : Bool) (flotation liquid : LiquidKind) (v : Vec3) → Refuses FiveToSeven (moveOnBy (moveAabb (lookAt cells w) records shapes) (lookAt cells w) records rules body aabb onGround flotation liquid v)
+    unfolding moveOnBy
     on-refuses aabb onGround flotation liquid v =
         after _ _ (wider _ five-or-six (move-refuses cells w records shapes aabb (pulled body flotation v) (body .step) onGround)) (λ m.
         after-refuses (lookAt cells w) looks records rules _ body liquid _ _)
 
     pub core-refuses : (motion : Motion) (age : ℕ) → Refuses FiveToSeven (stepBodySensed (lookAt cells w) records shapes rules body motion age)
-    unfolding stepBodySensed senses
+    unfolding stepBodySensed stepBodyBy senses
     core-refuses motion age =
         after _ _ (begins-refuses (lookAt cells w) looks records (omega arith, omega arith) (omega arith, omega arith) body _ motion age) (λ b.
         either _ _ _ (finds _)

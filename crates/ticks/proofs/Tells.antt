@@ -29,7 +29,7 @@ use Rattle.samples.specs.Samples.{isBlock, takesSample, isAsked, supportAfter}
 use Rattle.samples.proofs.Asks.{asked-there}
 use Rattle.ticks.specs.declared.Begun.{Begun}
 use Rattle.ticks.specs.declared.Tick.{Tick}
-use Rattle.ticks.specs.Step.{tickTo, tickAfter, afterMove, moveOn, tickBegins, senses, stepBodySensed, restsBy, isAtRest, tellsSample}
+use Rattle.ticks.specs.Step.{tickTo, tickAfter, afterMove, moveOnBy, tickBegins, senses, stepBodyBy, stepBodySensed, restsBy, isAtRest, tellsSample}
 
 -- ---- what all that can be found fits
 pub record Finds {A : Type 0} (P : A → Type 0) (m : Ask A) : Type 0 where
@@ -88,8 +88,8 @@ module _ (look : Pos → Ask Block) (records : List ℕ) (rules : Rules) (body :
     abbrev start : Aabb
     start = fromFeet (motion .feet) (body .width) (body .height)
 
-    on-tells : (flotation liquid : LiquidKind) (v : Vec3) → Finds Told (moveOn look records shapes rules body start (motion .ground) flotation liquid v)
-    unfolding moveOn
+    on-tells : (flotation liquid : LiquidKind) (v : Vec3) → Finds Told (moveOnBy (moveAabb look records shapes) look records rules body start (motion .ground) flotation liquid v)
+    unfolding moveOnBy
     on-tells flotation liquid v =
         let velocity = pulled body flotation v in
         after (moveAabb look records shapes start velocity (body .step) (motion .ground)) _
@@ -101,7 +101,7 @@ module _ (look : Pos → Ask Block) (records : List ℕ) (rules : Rules) (body :
     abbrev going : Bool → Begun → Ask Tick
     going rests b =
         choose rests (found (tickTo (motion .feet) (b .velocity) (motion .ground) None NotAsked))
-        (senses look records body start >>= λ liquid. moveOn look records shapes rules body start (motion .ground) (b .flotation) liquid (b .velocity))
+        (senses look records body start >>= λ liquid. moveOnBy (moveAabb look records shapes) look records rules body start (motion .ground) (b .flotation) liquid (b .velocity))
 
     rests-or-goes : (rests : Bool) (b : Begun) → Finds (ToldUnless rests) (going rests b)
     unfolding choose
@@ -113,5 +113,5 @@ module _ (look : Pos → Ask Block) (records : List ℕ) (rules : Rules) (body :
     begins (found b) = rests-or-goes (b .rests) b
 
     pub tick-tells : Finds (λ (t : Tick). isAsked (t .support) ≡ tellsSample look records body motion age (t .liquid) (t .motion .ground)) (stepBodySensed look records shapes rules body motion age)
-    unfolding stepBodySensed isAtRest
+    unfolding stepBodySensed stepBodyBy isAtRest
     tick-tells = begins (tickBegins look records body start motion age)

@@ -16,8 +16,10 @@ use Rattle.tables.specs.declared.LiquidKind.{LiquidKind}
 use Rattle.tables.specs.declared.LiquidKind.the-variants.{None}
 use Rattle.tables.specs.declared.LiquidState.{LiquidState}
 use Rattle.window.specs.declared.Pos.{Pos}
-use Rattle.window.specs.Look.{Block}
-use Rattle.through.specs.Through.{moveAabb}
+use Rattle.window.specs.declared.Window.{Window}
+use Rattle.window.specs.Look.{Block, lookAt}
+use Rattle.passing.specs.Passing.{passes}
+use Rattle.through.specs.Through.{moveAabb, moveAabbPast}
 use Rattle.currents.specs.declared.Current.{Current}
 use Rattle.boxes.specs.Vectors.{zeroVec}
 use Rattle.flow.specs.Liquid.{liquidHeld}
@@ -57,11 +59,11 @@ afterMove look records rules body liquid feet onGround v = do
   support ← supportAfter look records rules body liquid feet onGround
   found (tickAfter rules body liquid feet onGround support v)
 
--- from gravity before the move on: `flotation` is an item's, `liquid` a living body's, and `v` the velocity
-unfoldable pub moveOn : (Pos → Ask Block) → List ℕ → List Float → Rules → Body → Aabb → Bool → LiquidKind → LiquidKind → Vec3 → Ask Tick
-moveOn look records shapes rules body aabb onGround flotation liquid v = do
+-- from gravity before the move on: `move` is the Rust's `move_aabb` among the blocks, `flotation` an item's, `liquid` a living body's, and `v` the velocity
+unfoldable pub moveOnBy : (Aabb → Vec3 → Float → Bool → Ask MoveResult) → (Pos → Ask Block) → List ℕ → Rules → Body → Aabb → Bool → LiquidKind → LiquidKind → Vec3 → Ask Tick
+moveOnBy move look records rules body aabb onGround flotation liquid v = do
   let velocity : Vec3 = pulled body flotation v
-  result ← moveAabb look records shapes aabb velocity (body .step) onGround
+  result ← move aabb velocity (body .step) onGround
   afterMove look records rules body liquid (feetOf (result .aabb)) (result .ground) (keptAfter (result .moved) velocity)
 
 -- ---- step_body_sensed, whole
@@ -87,14 +89,25 @@ tickBegins look records body aabb motion age =
 unfoldable pub senses : (Pos → Ask Block) → List ℕ → Body → Aabb → Ask LiquidKind
 senses look records body aabb = choose (isLiving (body .model)) (livingLiquid look records aabb) (found None)
 
-unfoldable pub stepBodySensed : (Pos → Ask Block) → List ℕ → List Float → Rules → Body → Motion → ℕ → Ask Tick
-stepBodySensed look records shapes rules body motion age = do
+unfoldable pub stepBodyBy : (Aabb → Vec3 → Float → Bool → Ask MoveResult) → (Pos → Ask Block) → List ℕ → Rules → Body → Motion → ℕ → Ask Tick
+stepBodyBy move look records rules body motion age = do
   let aabb : Aabb = fromFeet (motion .feet) (body .width) (body .height)
   begun ← tickBegins look records body aabb motion age
   choose (begun .rests) (found (tickTo (motion .feet) (begun .velocity) (motion .ground) None NotAsked))
       (do
         liquid ← senses look records body aabb
-        moveOn look records shapes rules body aabb (motion .ground) (begun .flotation) liquid (begun .velocity))
+        moveOnBy move look records rules body aabb (motion .ground) (begun .flotation) liquid (begun .velocity))
+
+unfoldable pub stepBodySensed : (Pos → Ask Block) → List ℕ → List Float → Rules → Body → Motion → ℕ → Ask Tick
+stepBodySensed look records shapes = stepBodyBy (moveAabb look records shapes) look records
+
+-- the same where the move passes over layers, by the summary behind the words of a window; with a true one, and with none, it is the same step
+-- (proofs/Past.antt)
+abbrev pub movePast : List ℕ → Window → List ℕ → List Float → Aabb → Vec3 → Float → Bool → Ask MoveResult
+movePast words w = moveAabbPast (passes words w) (lookAt words w)
+
+abbrev pub stepBodyPast : List ℕ → Window → List ℕ → List Float → Rules → Body → Motion → ℕ → Ask Tick
+stepBodyPast words w records shapes = stepBodyBy (movePast words w records shapes) (lookAt words w) records
 
 -- ---- of its sample, for who reads cases
 

@@ -22,7 +22,7 @@ use tables::LiquidKind;
 use window::Window;
 ghost use mathlib.Core.Path.{_≡_};
 ghost use Rattle.window.specs.Look.{lookAt};
-ghost use Rattle.ticks.specs.Step.{afterMove, moveOn, itemBegins, tickBegins, senses, stepBodySensed};
+ghost use Rattle.ticks.specs.Step.{afterMove, moveOnBy, itemBegins, tickBegins, senses, movePast, stepBodyPast};
 ghost use Rattle.liquids.specs.Answers.{kindAsked};
 ghost use Rattle.ticks.specs.Answers.{tickAsked, begunAsked};
 
@@ -64,7 +64,7 @@ fn move_on(
     liquid: LiquidKind,
     v: Vec3,
 ) -> AskedTick
-    ensures { λ r. ⌜ tickAsked r ≡ moveOn (lookAt (now (cells .entry)) w) (now (records .entry)) (now (shapes .entry)) rules body aabb ground flotation liquid v ⌝ }
+    ensures { λ r. ⌜ tickAsked r ≡ moveOnBy (movePast (now (cells .entry)) w (now (records .entry)) (now (shapes .entry))) (lookAt (now (cells .entry)) w) (now (records .entry)) rules body aabb ground flotation liquid v ⌝ }
 {
     let velocity = drags::pulled(body, flotation, v);
     let told = through::move_through(records, shapes, cells, w, aabb, velocity, body.step, ground);
@@ -178,7 +178,7 @@ pub fn step_through(
     motion: Motion,
     age: u64,
 ) -> AskedTick
-    ensures { λ r. ⌜ tickAsked r ≡ stepBodySensed (lookAt (now (cells .entry)) w) (now (records .entry)) (now (shapes .entry)) rules body motion age ⌝ }
+    ensures { λ r. ⌜ tickAsked r ≡ stepBodyPast (now (cells .entry)) w (now (records .entry)) (now (shapes .entry)) rules body motion age ⌝ }
 {
     let feet = motion.feet;
     let aabb = Aabb::from_feet(feet, body.width, body.height);

@@ -8,10 +8,11 @@ ghost use mathlib.Core.Bool.{not};
 ghost use lib.Dec.{eqb};
 ghost use Rattle.boxes.specs.Boxes.{vec};
 ghost use Rattle.window.specs.Look.{lookAt};
+ghost use Rattle.passing.specs.Passing.{passes};
 ghost use Rattle.window.specs.Numbers.{windowOf};
 ghost use Rattle.ranges.specs.Cells.{cellHolding};
 ghost use Rattle.connect.specs.Answers.{connectedEntry};
-ghost use Rattle.through.specs.Through.{moveAabb};
+ghost use Rattle.through.specs.Through.{moveAabbPast};
 ghost use Rattle.timed.specs.Ways.{boxBetween, alongOf, wayOf};
 
 fn along(v: Vec3, k: u32) -> f64
@@ -54,7 +55,7 @@ pub extern "C" fn boltjuniper_way(
     ground: u32,
     k: u32,
 ) -> f64
-    ensures { λ r. ⌜ r ≡ wayOf k (moveAabb (lookAt (now (cells .entry)) (windowOf ox oy oz sx sy sz lowest highest air)) (now (records .entry)) (now (shapes .entry)) (boxBetween x0 y0 z0 x1 y1 z1) (vec dx dy dz) step (not (eqb ground 0))) ⌝ }
+    ensures { λ r. ⌜ r ≡ wayOf k (moveAabbPast (passes (now (cells .entry)) (windowOf ox oy oz sx sy sz lowest highest air)) (lookAt (now (cells .entry)) (windowOf ox oy oz sx sy sz lowest highest air)) (now (records .entry)) (now (shapes .entry)) (boxBetween x0 y0 z0 x1 y1 z1) (vec dx dy dz) step (not (eqb ground 0))) ⌝ }
 {
     let w = window::window_of(ox, oy, oz, sx, sy, sz, lowest, highest, air);
     let a = Aabb {

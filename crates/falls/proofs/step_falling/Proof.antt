@@ -1,7 +1,9 @@
 -- `falls::step_falling` meets its contract. Assumes nothing.
-use Rattle.falls.specs.Answers.{fallingChecked, fallingEntry, withFall}
+use mathlib.Core.Path.{sym, _∙_}
+use Rattle.falls.proofs.Laws.{checked-alike}
+use Rattle.falls.specs.Answers.{fallingEntry, withFall}
 use Rattle.base.specs.Choose.{choose}
-use borrow.Author.Tests.{eq-eqb, ne-eqb}
+use borrow.Author.Tests.{ne-eqb}
 use borrow.Author.Needs.{needs}
 use Rattle.falls.proofs.step_falling.Statement.{statement}
 use Rattle.falls.proofs.step_falling.Tie as tie
@@ -22,8 +24,7 @@ step-falling-checked-requires : tie.Need-step-falling-checked-requires
 step-falling-checked-requires c κs = search needs
 
 returns-2 : tie.Need-returns-2
-unfolding fallingChecked fallingEntry choose
-returns-2 c = rw (← c .before .before .check-lent .ensures, eq-eqb _ _ (c .before .if1 .left), ← c .step-falling-checked .ensures)
+returns-2 c = c .step-falling-checked .ensures ∙ checked-alike _ _ _ _ _ _ _ _ _ (sym (c .before .before .check-lent .ensures) ∙ c .before .if1 .left)
 
 pub step-falling-spec : {M : Type 1} → statement M
 step-falling-spec =

@@ -1,6 +1,9 @@
 -- `moves::move_aabb` meets its contract. Assumes nothing.
 use borrow.Author.Tests.{eq-eqb, ne-eqb}
 use Rattle.base.specs.Choose.{choose}
+use mathlib.Core.Path.{sym, _∙_}
+use Rattle.past.proofs.Plain.{direct-short}
+use Rattle.through.proofs.Same.{move-without}
 use Rattle.moves.specs.Answers.{moveEntry}
 use borrow.Author.Needs.{needs}
 use Rattle.moves.proofs.move_aabb.Statement.{statement}
@@ -45,7 +48,7 @@ returns-2 c =
     let at-is-step = at-if2 .before in
     let at-if1 = at-is-step .before in
     let at-check-direct = at-if1 .before in
-    rw (← at-check-direct .check-direct .ensures, eq-eqb _ _ (at-if1 .if1 .left), ← at-is-step .is-step .ensures, at-if2 .if2 .taken, ← at-is-fit .is-fit .ensures, at-if3 .if3 .taken, ← at-move-through .move-through .ensures, at-told .told .given .1, ← c .refused-move2 .ensures)
+    rw (← at-check-direct .check-direct .ensures, eq-eqb _ _ (at-if1 .if1 .left), ← at-is-step .is-step .ensures, at-if2 .if2 .taken, ← at-is-fit .is-fit .ensures, at-if3 .if3 .taken, ← (at-move-through .move-through .ensures ∙ move-without _ _ _ _ (direct-short _ _ _ _ (sym (at-check-direct .check-direct .ensures) ∙ at-if1 .if1 .left)) _ _ _ _), at-told .told .given .1, ← c .refused-move2 .ensures)
 
 returns-3 : tie.Need-returns-3
 unfolding moveEntry choose
@@ -57,7 +60,7 @@ returns-3 c =
     let at-is-step = at-if2 .before in
     let at-if1 = at-is-step .before in
     let at-check-direct = at-if1 .before in
-    rw (← at-check-direct .check-direct .ensures, eq-eqb _ _ (at-if1 .if1 .left), ← at-is-step .is-step .ensures, at-if2 .if2 .taken, ← at-is-fit .is-fit .ensures, at-if3 .if3 .taken, ← at-move-through .move-through .ensures, c .before .told2 .given .1)
+    rw (← at-check-direct .check-direct .ensures, eq-eqb _ _ (at-if1 .if1 .left), ← at-is-step .is-step .ensures, at-if2 .if2 .taken, ← at-is-fit .is-fit .ensures, at-if3 .if3 .taken, ← (at-move-through .move-through .ensures ∙ move-without _ _ _ _ (direct-short _ _ _ _ (sym (at-check-direct .check-direct .ensures) ∙ at-if1 .if1 .left)) _ _ _ _), c .before .told2 .given .1)
 
 refused-move-requires-3 : tie.Need-refused-move-requires-3
 refused-move-requires-3 c κs = search needs

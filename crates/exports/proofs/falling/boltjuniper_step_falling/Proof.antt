@@ -48,7 +48,7 @@ returns c =
     let a = s .args in
     let w = windowOf (a .ox) (a .oy) (a .oz) (a .sx) (a .sy) (a .sz) (a .lowest) (a .highest) 0 in
     let whole = sym (at-whole .whole-falling .ensures) ∙ at-if1 .if1 .taken in
-    rw (at-step .step-falling .ensures, at-window .window-of .ensures, at-rules .rules-from .ensures, at-body .body-from .ensures, at-motion .motion-from .ensures, toZ-ofZ w32 (a .ox) (s .fits .ox), toZ-ofZ w32 (a .oy) (s .fits .oy), toZ-ofZ w32 (a .oz) (s .fits .oz), toZ-ofZ w32 (a .lowest) (s .fits .lowest), toZ-ofZ w32 (a .highest) (s .fits .highest), falling-whole (a .records .now) (a .shapes .now) (a .cells .now) w (a .numbers .now) (a .words .now) (a .age) (fallOf (a .sum) (a .landed)) (length (a .out .now)) whole) at (at-into .falling-into .ensures)
+    rw (at-step .step-falling .ensures, at-window .window-of .ensures, at-rules .rules-from .ensures, at-body .body-from .ensures, at-motion .motion-from .ensures, toZ-ofZ w32 (a .ox) (s .fits .ox), toZ-ofZ w32 (a .oy) (s .fits .oy), toZ-ofZ w32 (a .oz) (s .fits .oz), toZ-ofZ w32 (a .lowest) (s .fits .lowest), toZ-ofZ w32 (a .highest) (s .fits .highest), falling-whole (a .records .now) (a .numbers .now) (a .words .now) (fallOf (a .sum) (a .landed)) (a .shapes .now) (a .cells .now) w (a .age) (length (a .out .now)) whole) at (at-into .falling-into .ensures)
 
 falling-refusal-requires : tie.Need-falling-refusal-requires
 falling-refusal-requires c κs = search needs
@@ -71,7 +71,7 @@ returns-2 c =
     let w = windowOf (a .ox) (a .oy) (a .oz) (a .sx) (a .sy) (a .sz) (a .lowest) (a .highest) 0 in
     let first = rw (at-window .window-of .ensures, toZ-ofZ w32 (a .ox) (s .fits .ox), toZ-ofZ w32 (a .oy) (s .fits .oy), toZ-ofZ w32 (a .oz) (s .fits .oz), toZ-ofZ w32 (a .lowest) (s .fits .lowest), toZ-ofZ w32 (a .highest) (s .fits .highest)) at (at-lent .check-lent .ensures) in
     let short = sym (at-whole .whole-falling .ensures) ∙ at-if1 .if1 .left in
-    short-falling (a .records .now) (a .shapes .now) (a .cells .now) w (a .numbers .now) (a .words .now) (a .age) (fallOf (a .sum) (a .landed)) (a .out .now) _ short (rw (at-early .falling-refusal .ensures, first) at (c .short-of .ensures))
+    short-falling (a .records .now) (a .numbers .now) (a .words .now) (fallOf (a .sum) (a .landed)) _ _ (a .out .now) _ short (rw (at-early .falling-refusal .ensures, first) at (c .short-of .ensures))
 
 pub boltjuniper-step-falling-spec : {M : Type 1} → statement M
 boltjuniper-step-falling-spec =

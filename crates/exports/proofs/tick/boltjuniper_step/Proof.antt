@@ -54,7 +54,7 @@ returns-2 c =
     let s = c .before .before .before .before .before .before .before .before .before .before .before .before in
     let a = s .args in
     let first = rw (c .before .before .before .before .before .window-of .ensures, toZ-ofZ w32 (s .args .ox) (s .fits .ox), toZ-ofZ w32 (s .args .oy) (s .fits .oy), toZ-ofZ w32 (s .args .oz) (s .fits .oz), toZ-ofZ w32 (s .args .lowest) (s .fits .lowest), toZ-ofZ w32 (s .args .highest) (s .fits .highest)) at (c .before .check-lent .ensures) in
-    short-body (a .records .now) (a .shapes .now) (a .cells .now) (windowOf (a .ox) (a .oy) (a .oz) (a .sx) (a .sy) (a .sz) (a .lowest) (a .highest) 0) (a .numbers .now) (a .words .now) (a .age) _ (a .out .now) _ (sym (c .before .before .before .before .whole-body .ensures) ∙ c .before .before .before .if1 .left) (rw (c .before .before .body-refusal .ensures, first) at (c .short-of .ensures))
+    short-body (a .records .now) (a .shapes .now) (a .cells .now) (windowOf (a .ox) (a .oy) (a .oz) (a .sx) (a .sy) (a .sz) (a .lowest) (a .highest) 0) (a .numbers .now) (a .words .now) (a .age) _ _ (a .out .now) _ (sym (c .before .before .before .before .whole-body .ensures) ∙ c .before .before .before .if1 .left) (rw (c .before .before .body-refusal .ensures, first) at (c .short-of .ensures))
 
 pub boltjuniper-step-spec : {M : Type 1} → statement M
 boltjuniper-step-spec =

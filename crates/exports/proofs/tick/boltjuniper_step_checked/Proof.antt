@@ -50,7 +50,7 @@ returns-2 : tie.Need-returns-2
 returns-2 c =
     let s = c .before .before .before .before .before .before .before .before .before .before .before in
     let a = s .args in
-    short-body (a .records .now) (a .shapes .now) (a .cells .now) (windowOf (a .ox) (a .oy) (a .oz) (a .sx) (a .sy) (a .sz) (a .lowest) (a .highest) 0) (a .numbers .now) (a .words .now) (a .age) 0 (a .out .now) _ (sym (c .before .before .before .whole-body .ensures) ∙ c .before .before .if1 .left) (rw (c .before .body-refusal .ensures) at (c .short-of .ensures))
+    short-body (a .records .now) (a .shapes .now) (a .cells .now) (windowOf (a .ox) (a .oy) (a .oz) (a .sx) (a .sy) (a .sz) (a .lowest) (a .highest) 0) (a .numbers .now) (a .words .now) (a .age) 0 _ (a .out .now) _ (sym (c .before .before .before .whole-body .ensures) ∙ c .before .before .if1 .left) (rw (c .before .body-refusal .ensures) at (c .short-of .ensures))
 
 pub boltjuniper-step-checked-spec : {M : Type 1} → statement M
 boltjuniper-step-checked-spec =

@@ -23,28 +23,28 @@ checked-step-requires c κs = search needs
 
 returns : tie.Need-returns
 unfolding answerBy choose
-returns c = rw (← c .before .before .before .before .before .before .before .is-whole .ensures, c .before .before .before .before .before .before .if1 .taken, ← c .before .before .before .before .before .word .ensures, lt-ltb _ _ (c .before .before .before .before .if2 .taken), ← c .before .before .before .refusal-of .ensures, eq-eqb _ _ (c .before .before .if3 .taken), ← c .before .window-at .ensures) (c .checked-step .ensures)
+returns c = rw (← c .before .before .before .before .before .before .before .is-whole .ensures, c .before .before .before .before .before .before .if1 .taken, ← c .before .before .before .before .before .word .ensures, lt-ltb _ _ (c .before .before .before .before .if2 .taken), ← c .before .before .before .refusal-of .ensures, eq-eqb _ _ (c .before .if3 .taken), ← c .before .before .window-at .ensures) (c .checked-step .ensures)
+
+wrong-step-requires : tie.Need-wrong-step-requires
+wrong-step-requires c κs = search needs
+
+returns-2 : tie.Need-returns-2
+unfolding answerBy choose
+returns-2 c = rw (← c .before .before .before .before .before .before .before .is-whole .ensures, c .before .before .before .before .before .before .if1 .taken, ← c .before .before .before .before .before .word .ensures, lt-ltb _ _ (c .before .before .before .before .if2 .taken), ← c .before .before .before .refusal-of .ensures, ne-eqb _ _ (c .before .if3 .left), ← c .before .before .window-at .ensures) (c .wrong-step .ensures)
 
 refused-body-requires : tie.Need-refused-body-requires
 refused-body-requires c κs = search needs
 
-returns-2 : tie.Need-returns-2
+returns-3 : tie.Need-returns-3
 unfolding answerBy choose
-returns-2 c = rw (← c .before .before .before .before .before .before .is-whole .ensures, c .before .before .before .before .before .if1 .taken, ← c .before .before .before .before .word .ensures, lt-ltb _ _ (c .before .before .before .if2 .taken), ← c .before .before .refusal-of .ensures, ne-eqb _ _ (c .before .if3 .left)) (c .refused-body .ensures)
+returns-3 c = rw (← c .before .before .before .before .is-whole .ensures, c .before .before .before .if1 .taken, ← c .before .before .word .ensures, le-ltb _ _ (c .before .if2 .left)) (c .refused-body .ensures)
 
 refused-body-requires-2 : tie.Need-refused-body-requires-2
 refused-body-requires-2 c κs = search needs
 
-returns-3 : tie.Need-returns-3
-unfolding answerBy choose
-returns-3 c = rw (← c .before .before .before .before .is-whole .ensures, c .before .before .before .if1 .taken, ← c .before .before .word .ensures, le-ltb _ _ (c .before .if2 .left)) (c .refused-body2 .ensures)
-
-refused-body-requires-3 : tie.Need-refused-body-requires-3
-refused-body-requires-3 c κs = search needs
-
 returns-4 : tie.Need-returns-4
 unfolding answerBy choose
-returns-4 c = rw (← c .before .before .is-whole .ensures, c .before .if1 .left) (c .refused-body3 .ensures)
+returns-4 c = rw (← c .before .before .is-whole .ensures, c .before .if1 .left) (c .refused-body2 .ensures)
 
 pub answer-of-spec : {M : Type 1} → statement M
 answer-of-spec =
@@ -56,9 +56,9 @@ answer-of-spec =
     window-at-requires
     checked-step-requires
     returns
-    refused-body-requires
+    wrong-step-requires
     returns-2
-    refused-body-requires-2
+    refused-body-requires
     returns-3
-    refused-body-requires-3
+    refused-body-requires-2
     returns-4)

@@ -4,14 +4,17 @@ use borrow.Author.Needs.{needs}
 use Rattle.midnight.proofs.answers.checked_step.Statement.{statement}
 use Rattle.midnight.proofs.answers.checked_step.Tie as tie
 
-cells-in-requires : tie.Need-cells-in-requires
-cells-in-requires c κs = search needs
-
 scene-words-requires : tie.Need-scene-words-requires
 scene-words-requires c κs = search needs
 
 rules-from-requires : tie.Need-rules-from-requires
 rules-from-requires c κs = search needs
+
+cells-in-requires : tie.Need-cells-in-requires
+cells-in-requires c κs = search needs
+
+step-words-requires : tie.Need-step-words-requires
+step-words-requires c κs = search needs
 
 body-from-requires : tie.Need-body-from-requires
 body-from-requires c κs = search needs
@@ -30,15 +33,18 @@ step-falling-checked-requires c κs = search needs
 
 returns : tie.Need-returns
 unfolding checkedStep
-returns c = rw (← c .before .before .before .before .before .before .before .cells-in .ensures, ← c .before .before .before .before .before .before .scene-words .ensures, ← c .before .before .before .before .before .rules-from .ensures, ← c .before .before .before .before .body-from .ensures, ← c .before .before .before .motion-from .ensures, ← c .before .before .age-in .ensures, ← c .before .fall-in .ensures) (c .step-falling-checked .ensures)
+returns c =
+    let own = rw (c .before .before .before .before .before .before .cells-in .ensures, c .before .before .before .before .before .before .before .rules-from .ensures, c .before .before .before .before .before .before .before .before .scene-words .ensures) at (c .before .before .before .before .before .step-words .ensures) in
+    rw (← own, ← c .before .before .before .before .before .before .before .before .scene-words .ensures, ← c .before .before .before .before .before .before .before .rules-from .ensures, ← c .before .before .before .before .body-from .ensures, ← c .before .before .before .motion-from .ensures, ← c .before .before .age-in .ensures, ← c .before .fall-in .ensures) (c .step-falling-checked .ensures)
 
 pub checked-step-spec : {M : Type 1} → statement M
 checked-step-spec =
     tie.close
     (tie.spec
-    cells-in-requires
     scene-words-requires
     rules-from-requires
+    cells-in-requires
+    step-words-requires
     body-from-requires
     motion-from-requires
     age-in-requires

@@ -13,10 +13,10 @@ use Rattle.midnight.proofs.windows.check_all.Statement.{statement}
 use Rattle.midnight.proofs.windows.check_all.Tie as tie
 
 abbrev Inv-loop : tie.InvT-loop
-Inv-loop windows count cells checked₀ j₀ checked j = (j ≤ 16) × (length checked ≡ 16) × (take j checked ++ listed (checkedAt windows cells count) (16 - j) j ≡ listed (checkedAt windows cells count) 16 0)
+Inv-loop records windows count cells checked₀ j₀ checked j = (j ≤ 16) × (length checked ≡ 16) × (take j checked ++ listed (checkedAt records windows cells count) (16 - j) j ≡ listed (checkedAt records windows cells count) 16 0)
 
 abbrev μ-loop : tie.MeasureT-loop
-μ-loop windows count cells checked₀ j₀ checked j = 16 - j
+μ-loop records windows count cells checked₀ j₀ checked j = 16 - j
 
 loop-holds : tie.Need-loop-holds Inv-loop μ-loop
 loop-holds c = (search needs, refl, refl)
@@ -42,15 +42,15 @@ loop-less c = search needs
 loop-again : tie.Need-loop-again Inv-loop μ-loop
 loop-again c =
     let at-loop = c .before .before in
-    let a = at-loop .before .before .before .args in
-    let f : ℕ → ℕ = checkedAt (a .windows .now) (a .cells .now) (a .count) in
+    let a = at-loop .before .before .before .before .args in
+    let f : ℕ → ℕ = checkedAt (a .records .now) (a .windows .now) (a .cells .now) (a .count) in
     (search needs, simp length-set (at-loop .loop .inv .1), turn f 16 (at-loop .loop .j) (at-loop .loop .checked) _ (c .checked-at .result) (c .checked-at .ensures) (search needs) (search needs) (at-loop .loop .inv .2))
 
 returns : tie.Need-returns Inv-loop μ-loop
 returns c =
     let at-loop = c .before in
-    let a = at-loop .before .before .before .args in
-    let f : ℕ → ℕ = checkedAt (a .windows .now) (a .cells .now) (a .count) in
+    let a = at-loop .before .before .before .before .args in
+    let f : ℕ → ℕ = checkedAt (a .records .now) (a .windows .now) (a .cells .now) (a .count) in
     let l : List ℕ = at-loop .loop .checked in
     let all : length l ≤ 16 = let e = at-loop .loop .inv .1 in omega (arith, e) in
     sym (take-all 16 l all) ∙ whole f 16 (at-loop .loop .j) l (listed f 16 0) (search needs) (at-loop .loop .inv .0) (at-loop .loop .inv .2)

@@ -22,17 +22,17 @@ add-end c = search needs
 cells-in-requires : tie.Need-cells-in-requires
 cells-in-requires c κs = search needs
 
-check-window-requires : tie.Need-check-window-requires
-check-window-requires c κs = search needs
+own-refusal-requires : tie.Need-own-refusal-requires
+own-refusal-requires c κs = search needs
 
 returns : tie.Need-returns
-returns c = all-there (c .before .before .before .before .before .before .before .before .before .before .args .windows .now) (c .before .before .before .before .before .before .before .before .before .before .args .cells .now) (c .before .before .before .before .before .before .before .before .before .before .args .j) (c .before .before .before .before .before .before .before .window-row .result .now) (c .before .before .before .before .before .before .before .window-row .ensures) (c .before .before .before .before .before .before .if1 .taken) (c .before .before .before .before .before .window-at .result) (c .before .before .before .before .before .window-at .ensures) (rw (c .before .before .before .before .wide .ensures, c .before .before .before .wide2 .ensures) at (c .before .before .if2 .taken)) (c .before .cells-in .result .now) _ (c .before .cells-in .ensures) (c .check-window .ensures)
+returns c = all-there (c .before .before .before .before .before .before .before .before .before .before .before .args .records .now) (c .before .before .before .before .before .before .before .before .before .before .before .args .windows .now) (c .before .before .before .before .before .before .before .before .before .before .before .args .cells .now) (c .before .before .before .before .before .before .before .before .before .before .before .args .j) (c .before .before .before .before .before .before .before .window-row .result .now) (c .before .before .before .before .before .before .before .window-row .ensures) (c .before .before .before .before .before .before .if1 .taken) (c .before .before .before .before .before .window-at .result) (c .before .before .before .before .before .window-at .ensures) (rw (c .before .before .before .before .wide .ensures, c .before .before .before .wide2 .ensures) at (c .before .before .if2 .taken)) (c .before .cells-in .result .now) _ (c .before .cells-in .ensures) (c .own-refusal .ensures)
 
 returns-2 : tie.Need-returns-2
-returns-2 c = no-words (c .before .before .before .before .before .before .before .before .args .windows .now) (c .before .before .before .before .before .before .before .before .args .cells .now) (c .before .before .before .before .before .before .before .before .args .j) (c .before .before .before .before .before .window-row .result .now) (c .before .before .before .before .before .window-row .ensures) (c .before .before .before .before .if1 .taken) (c .before .before .before .window-at .result) (c .before .before .before .window-at .ensures) (rw (c .before .before .wide .ensures, c .before .wide2 .ensures) at (c .if2 .left))
+returns-2 c = no-words (c .before .before .before .before .before .before .before .before .before .args .records .now) (c .before .before .before .before .before .before .before .before .before .args .windows .now) (c .before .before .before .before .before .before .before .before .before .args .cells .now) (c .before .before .before .before .before .before .before .before .before .args .j) (c .before .before .before .before .before .window-row .result .now) (c .before .before .before .before .before .window-row .ensures) (c .before .before .before .before .if1 .taken) (c .before .before .before .window-at .result) (c .before .before .before .window-at .ensures) (rw (c .before .before .wide .ensures, c .before .wide2 .ensures) at (c .if2 .left))
 
 returns-3 : tie.Need-returns-3
-returns-3 c = no-row (c .before .before .before .before .args .windows .now) (c .before .before .before .before .args .cells .now) (c .before .before .before .before .args .j) (c .before .window-row .result .now) (c .before .window-row .ensures) (c .if1 .left)
+returns-3 c = no-row (c .before .before .before .before .before .args .records .now) (c .before .before .before .before .before .args .windows .now) (c .before .before .before .before .before .args .cells .now) (c .before .before .before .before .before .args .j) (c .before .window-row .result .now) (c .before .window-row .ensures) (c .if1 .left)
 
 pub refusal-at-spec : {M : Type 1} → statement M
 refusal-at-spec =
@@ -44,7 +44,7 @@ refusal-at-spec =
     wide-requires-2
     add-end
     cells-in-requires
-    check-window-requires
+    own-refusal-requires
     returns
     returns-2
     returns-3)

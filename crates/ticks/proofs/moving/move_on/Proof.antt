@@ -1,5 +1,5 @@
 -- `ticks::moving::move_on` meets its contract. Assumes nothing.
-use Rattle.ticks.specs.Step.{moveOn}
+use Rattle.ticks.specs.Step.{moveOnBy}
 use borrow.Author.Needs.{needs}
 use Rattle.ticks.proofs.moving.move_on.Statement.{statement}
 use Rattle.ticks.proofs.moving.move_on.Tie as tie
@@ -26,14 +26,14 @@ after-move-requires : tie.Need-after-move-requires
 after-move-requires c κs = search needs
 
 returns : tie.Need-returns
-unfolding moveOn
+unfolding moveOnBy
 returns c =
     let at-move-through = c .before .before .before in
     let at-pulled = at-move-through .before in
     rw (← at-pulled .pulled .ensures, ← at-move-through .move-through .ensures, c .before .told .given .1)
 
 returns-2 : tie.Need-returns-2
-unfolding moveOn
+unfolding moveOnBy
 returns-2 c =
     let at-kept-after = c .before .before in
     let at-told2 = at-kept-after .before .before in

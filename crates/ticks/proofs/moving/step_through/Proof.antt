@@ -1,5 +1,5 @@
 -- `ticks::moving::step_through` meets its contract. Assumes nothing.
-use Rattle.ticks.specs.Step.{stepBodySensed}
+use Rattle.ticks.specs.Step.{stepBodyBy}
 use Rattle.base.specs.Choose.{choose}
 use borrow.Author.Needs.{needs}
 use Rattle.ticks.proofs.moving.step_through.Statement.{statement}
@@ -15,7 +15,7 @@ enum-known-n : tie.Need-enum-known-n
 enum-known-n c = search needs
 
 returns : tie.Need-returns
-unfolding stepBodySensed choose
+unfolding stepBodyBy choose
 returns c =
     let at-tick-begins = c .before .before .before in
     let at-from-feet = at-tick-begins .before in
@@ -28,7 +28,7 @@ tick-to-requires : tie.Need-tick-to-requires
 tick-to-requires c κs = search needs
 
 returns-2 : tie.Need-returns-2
-unfolding stepBodySensed choose
+unfolding stepBodyBy choose
 returns-2 c =
     let at-if1 = c .before .before in
     let at-b = at-if1 .before .before in
@@ -43,7 +43,7 @@ enum-known-n-2 : tie.Need-enum-known-n-2
 enum-known-n-2 c = search needs
 
 returns-3 : tie.Need-returns-3
-unfolding stepBodySensed choose
+unfolding stepBodyBy choose
 returns-3 c =
     let at-senses = c .before .before .before in
     let at-if1 = at-senses .before in
@@ -59,7 +59,7 @@ move-on-requires : tie.Need-move-on-requires
 move-on-requires c κs = search needs
 
 returns-4 : tie.Need-returns-4
-unfolding stepBodySensed choose
+unfolding stepBodyBy choose
 returns-4 c =
     let at-kind = c .before .before .before in
     let at-senses = at-kind .before .before in

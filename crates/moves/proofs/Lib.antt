@@ -1,0 +1,2 @@
+-- The laws of a host's moves.
+pub mod Summed

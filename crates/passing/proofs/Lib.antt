@@ -1,0 +1,4 @@
+-- Laws of this crate's definitions, on plain values.
+pub mod Spans
+pub mod Clear
+pub mod Bounds

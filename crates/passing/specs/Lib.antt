@@ -1,0 +1,2 @@
+-- The definitions of what a collection passes over.
+pub mod Passing

@@ -1,0 +1,2 @@
+-- The definitions of the calls that keep a summary.
+pub mod Calls
