@@ -20,7 +20,7 @@ ghost use Rattle.sweeps.specs.Passes.{sweepOf};
 ghost use Rattle.sweeps.specs.Entry.{refusalOf, moveOverList};
 
 // All passes of a move over a list. The axis is fixed while the boxes are gone through.
-fn swept_over(list: BoxList, q: Request) -> Sweep
+pub fn swept_over(list: BoxList, q: Request) -> Sweep
     ensures { λ r. ⌜ r ≡ sweepOf (listOf list) q ⌝ }
 {
     let n = counted(list.count);

@@ -15,7 +15,6 @@ use Rattle.sweeps.specs.declared.MoveResult.{MoveResult}
 use Rattle.sweeps.specs.Passes.{sweepOf, endOfMove}
 use Rattle.sweeps.proofs.Shape.{moves}
 use Rattle.sweeps.specs.Lists.{Held, room, noBox}
-use Rattle.sweeps.specs.Move.{moveOver}
 use Rattle.window.specs.declared.Window.{Window}
 use Rattle.window.specs.Look.{lookAt}
 use Rattle.ranges.specs.declared.Range.{Range}
@@ -48,9 +47,9 @@ module _ (over : ℕ → Bool) (cells : List ℕ) (w : Window) (records : List �
 
   -- from the answer of a collection
   module _ (h : Held) (e : h ≡ heldAsked (collectInPast over room (lookAt cells w) records shapes area r)) where
-    pub moved-over : h .refusal ≡ 0 → (m : MoveResult) → m ≡ moveOver (h .boxes) (q .aabb) (q .delta) (q .step) (q .ground) → found m ≡ whole-move
+    pub moved-over : h .refusal ≡ 0 → (s : Sweep) → s ≡ sweepOf (h .boxes) q → (m : MoveResult) → m ≡ endOfMove q s → found m ≡ whole-move
     unfolding moveFrom
-    moved-over z m em = rw (list-told h (collectInPast over room (lookAt cells w) records shapes area r) (past-refuses over room cells w records shapes area r) e z, em)
+    moved-over z s es m em = rw (list-told h (collectInPast over room (lookAt cells w) records shapes area r) (past-refuses over room cells w records shapes area r) e z, em, moves (h .boxes) q s es)
 
     pub told-refused : (h .refusal ≡ 0 → ⊥) → refused (h .refusal) ≡ whole-move
     unfolding moveFrom

@@ -45,7 +45,8 @@ fn crowded(records: &[u32], shapes: &[f32], cells: &[u32], w: Window, q: Request
     let c = collection::collect_range(records, shapes, cells, w, area, r);
     let refusal = c.refusal;
     if refusal == 0 {
-        return AskedMove::To(list_moves::move_over(c.list, q.aabb, q.delta, q.step, q.ground));
+        let s = list_moves::swept_over(c.list, q);
+        return AskedMove::To(sweeps::ended(q, s));
     }
     AskedMove::Refused(refusal)
 }
