@@ -77,7 +77,8 @@ pub struct BodyNumbers {
     pub friction: u32,
 }
 
-// What holds for every body: a living body's default friction and sample depth, gravity and drags in liquids, and the air state.
+// What holds for every body: a living body's default friction and sample depth, gravity and drags in liquids, the air state, and
+// how many boxes a move may collect, 0 for as many as its list has room for.
 pub struct Rules {
     pub friction: f64,
     pub depth: f64,
@@ -85,6 +86,7 @@ pub struct Rules {
     pub water: f64,
     pub lava: f64,
     pub air: u32,
+    pub cap: u32,
 }
 
 pub struct Motion {
