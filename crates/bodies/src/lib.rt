@@ -2,7 +2,7 @@
 // out of lent numbers, and limits.rt has what is refused.
 use boxes::Vec3;
 ghost use mathlib.Core.Path.{_≡_};
-ghost use Rattle.bodies.specs.Body.{modelOf, stageOf, frictionOf, isYes, yesNumber, flapOf, bodyOf, motionOf, isItem, isLiving, isFallingBlock};
+ghost use Rattle.bodies.specs.Body.{modelOf, stageOf, frictionOf, isYes, yesNumber, flapOf, bodyOf, motionOf, withCap, isItem, isLiving, isFallingBlock};
 
 mod limits;
 mod numbers;
@@ -192,6 +192,21 @@ pub fn motion_of(m: MotionNumbers) -> Motion
         feet,
         velocity,
         ground,
+    }
+}
+
+// The same rules with this cap.
+pub fn with_cap(rules: Rules, cap: u32) -> Rules
+    ensures { λ r. ⌜ r ≡ withCap rules cap ⌝ }
+{
+    Rules {
+        friction: rules.friction,
+        depth: rules.depth,
+        gravity: rules.gravity,
+        water: rules.water,
+        lava: rules.lava,
+        air: rules.air,
+        cap,
     }
 }
 

@@ -10,10 +10,11 @@ use Rattle.base.specs.Choose.{choose}
 use Rattle.base.specs.Ask.{Ask, refused}
 use Rattle.base.proofs.Every.{both}
 use Rattle.sweeps.specs.declared.MoveResult.{MoveResult}
+use Rattle.sweeps.specs.Lists.{isCap, capOf}
 use Rattle.boxes.specs.Limits.{isBox, isDelta, isStep}
 use Rattle.table_check.specs.Check.{tablesFit}
 use Rattle.lent.specs.Lent.{lentRefusal, directRefusal, direct, unless}
-use Rattle.movers.specs.Movers.{vecAt, aabbAt, moverRefusal, wholeMove}
+use Rattle.movers.specs.Movers.{vecAt, aabbAt, moverFits, moverRefusal, wholeMove}
 use Rattle.lent_numbers.specs.Written.{writtenBy}
 use Rattle.window.specs.declared.Window.{Window}
 use Rattle.window.specs.Window.{windowFits, windowRefusal}
@@ -31,24 +32,24 @@ tests false f ask = refl
 tests true true ask = refl
 tests true false ask = refl
 
-module _ (records : List ℕ) (shapes : List Float) (cells : List ℕ) (w : Window) (mover : List Float) (step : Float) (ground : ℕ) where
+module _ (cap : ℕ) (records : List ℕ) (shapes : List Float) (cells : List ℕ) (w : Window) (mover : List Float) (step : Float) (ground : ℕ) where
   abbrev first : ℕ
   first = directRefusal records shapes cells w
 
   abbrev early : ℕ
-  early = moverRefusal mover step ground true
+  early = moverRefusal cap mover step ground true
 
   abbrev asked : Ask MoveResult
-  asked = moveAabb (lookAt cells w) records shapes (aabbAt mover 0) (vecAt mover 6) step (eqb ground 1)
+  asked = moveAabb (capOf cap) (lookAt cells w) records shapes (aabbAt mover 0) (vecAt mover 6) step (eqb ground 1)
 
   -- what the entry comes to
-  entry : moveEntry records shapes cells w (aabbAt mover 0) (vecAt mover 6) step (eqb ground 1)
-      ≡ moveAnswer (aabbAt mover 0) (direct records shapes cells w (unless (not (isStep step)) 3 (unless (not (isBox (aabbAt mover 0) && isDelta (vecAt mover 6))) 4 asked)))
+  entry : moveEntry cap records shapes cells w (aabbAt mover 0) (vecAt mover 6) step (eqb ground 1)
+      ≡ moveAnswer (aabbAt mover 0) (direct records shapes cells w (unless (not (isCap cap && isStep step)) 3 (unless (not (isBox (aabbAt mover 0) && isDelta (vecAt mover 6))) 4 asked)))
   unfolding moveEntry
   entry = refl
 
   pub move-whole : (places : ℕ) → wholeMove mover ground places ≡ true
-      → moveEntry records shapes cells w (aabbAt mover 0) (vecAt mover 6) step (eqb ground 1) ≡ moveAt records shapes cells w mover step ground places
+      → moveEntry cap records shapes cells w (aabbAt mover 0) (vecAt mover 6) step (eqb ground 1) ≡ moveAt cap records shapes cells w mover step ground places
   unfolding moveAt moverRefusal choose
   move-whole places whole =
       let g = both (ltb ground 2) (eqb (length mover) 9 && leb 10 places) whole in
@@ -56,21 +57,24 @@ module _ (records : List ℕ) (shapes : List Float) (cells : List ℕ) (w : Wind
       entry
       ∙ rw (g .one, n .one, n .two)
         (ap (λ (ask : Ask MoveResult). moveAnswer (aabbAt mover 0) (direct records shapes cells w ask))
-        (tests (isStep step) (isBox (aabbAt mover 0) && isDelta (vecAt mover 6)) asked))
+        (tests (isCap cap && isStep step) (isBox (aabbAt mover 0) && isDelta (vecAt mover 6)) asked))
 
   three : ltb ground 2 ≡ false → eqb early 0 ≡ false
   unfolding moverRefusal choose
-  three e = rw e
+  three e = rw e (never (isCap cap)) where
+    never : (s : Bool) → eqb (choose (s && false) (choose (moverFits mover true) 0 4) 3) 0 ≡ false
+    never true = refl
+    never false = refl
 
   four : eqb (length mover) 9 ≡ false → eqb early 0 ≡ false
   unfolding moverRefusal choose
-  four e = rw e (either (ltb ground 2 && isStep step)) where
+  four e = rw e (either (isCap cap && (ltb ground 2 && isStep step))) where
     either : (s : Bool) → eqb (choose s 4 3) 0 ≡ false
     either true = refl
     either false = refl
 
   cases : (places : ℕ) (a b : Bool) → ltb ground 2 ≡ a → eqb (length mover) 9 ≡ b → a && (b && leb 10 places) ≡ false
-      → moveAt records shapes cells w mover step ground places ≡ moveAnswer (aabbAt mover 0) (refused (shortOf first early))
+      → moveAt cap records shapes cells w mover step ground places ≡ moveAnswer (aabbAt mover 0) (refused (shortOf first early))
   unfolding moveAt
   cases places true true ea eb n = rw n (ap (moveAnswer (aabbAt mover 0)) (no-room first early asked))
   cases places true false ea eb n = ap (moveAnswer (aabbAt mover 0)) (no-early first early asked (leb 10 places) (four eb))
@@ -78,7 +82,7 @@ module _ (records : List ℕ) (shapes : List Float) (cells : List ℕ) (w : Wind
 
   -- nothing is written then
   pub short-move : (out : List Float) (r : ℕ) → wholeMove mover ground (length out) ≡ false → r ≡ shortOf first early
-      → (r ≡ moveAt records shapes cells w mover step ground (length out) .refusal)
-      × (out ≡ writtenBy out (moveAt records shapes cells w mover step ground (length out)))
+      → (r ≡ moveAt cap records shapes cells w mover step ground (length out) .refusal)
+      × (out ≡ writtenBy out (moveAt cap records shapes cells w mover step ground (length out)))
   unfolding writtenBy choose
   short-move out r h e = rw (cases (length out) (ltb ground 2) (eqb (length mover) 9) refl refl h, never-0 first early) (e, refl)

@@ -6,6 +6,7 @@ use Prim.Native.Nat.{ℕ}
 use lib.Dec.{eqb, leb}
 use lib.Ieee.{Float}
 use Rattle.sweeps.specs.declared.MoveAnswer.{MoveAnswer}
+use Rattle.sweeps.specs.Lists.{capOf}
 use Rattle.lent.specs.Lent.{directRefusal}
 use Rattle.movers.specs.Movers.{vecAt, aabbAt, moverRefusal}
 use Rattle.window.specs.declared.Window.{Window}
@@ -14,8 +15,8 @@ use Rattle.moves.specs.Answers.{moveAabb, moveAnswer}
 use Rattle.exports.specs.Room.{roomy}
 
 -- move_aabb: 1, 2, 3, 4 and 11 in order, before any cell is asked for; then 5 or 6
-unfoldable pub moveAt : List ℕ → List Float → List ℕ → Window → List Float → Float → ℕ → ℕ → MoveAnswer
-moveAt records shapes cells w mover step ground places =
+unfoldable pub moveAt : ℕ → List ℕ → List Float → List ℕ → Window → List Float → Float → ℕ → ℕ → MoveAnswer
+moveAt cap records shapes cells w mover step ground places =
     moveAnswer (aabbAt mover 0)
-    (roomy (directRefusal records shapes cells w) (moverRefusal mover step ground true) (leb 10 places)
-    (moveAabb (lookAt cells w) records shapes (aabbAt mover 0) (vecAt mover 6) step (eqb ground 1)))
+    (roomy (directRefusal records shapes cells w) (moverRefusal cap mover step ground true) (leb 10 places)
+    (moveAabb (capOf cap) (lookAt cells w) records shapes (aabbAt mover 0) (vecAt mover 6) step (eqb ground 1)))

@@ -2,6 +2,8 @@
 use crate::WindowRow;
 use crate::rows::ANSWER_WIDTH;
 use crate::rows::NUMBER_WIDTH;
+use crate::rows::OLDER_CAP;
+use crate::rows::OLDER_WIDTH;
 use crate::rows::WORD_WIDTH;
 use crate::rows::scene_words;
 use crate::rows::wide;
@@ -21,18 +23,29 @@ ghost use Rattle.tables.specs.Tables.{wordAt};
 ghost use Rattle.bodies.specs.Numbers.{numberAt};
 ghost use Rattle.lent_words.specs.Words.{wideOf};
 ghost use Rattle.falls.specs.Rule.{fallOf};
-ghost use Rattle.midnight.specs.Rows.{rowWith, isWhole, givenIn, answerNumbers};
+ghost use Rattle.midnight.specs.Rows.{rowWith, isWhole, capIn, givenIn, answerNumbers};
 ghost use Rattle.midnight.specs.Answers.{lentWith, refusedBody, checkedStep, answerBy};
 ghost use Rattle.midnight.specs.Run.{rowWritten};
 
-fn is_whole(numbers: &[f64], words: &[u32]) -> bool
-    ensures { λ r. ⌜ r ≡ isWhole (rowWith (now (numbers .entry)) (now (words .entry))) ⌝ }
+fn is_whole(older: bool, numbers: &[f64], words: &[u32]) -> bool
+    ensures { λ r. ⌜ r ≡ isWhole (rowWith older (now (numbers .entry)) (now (words .entry))) ⌝ }
 {
-    (numbers.len() == NUMBER_WIDTH) & (words.len() == WORD_WIDTH)
+    let width = if older { OLDER_WIDTH } else { WORD_WIDTH };
+    (numbers.len() == NUMBER_WIDTH) & (words.len() == width)
 }
 
-fn given_in(numbers: &[f64], words: &[u32]) -> MotionNumbers
-    ensures { λ r. ⌜ r ≡ givenIn (rowWith (now (numbers .entry)) (now (words .entry))) ⌝ }
+// The cap of a row: an older one stands for 128.
+fn cap_in(older: bool, numbers: &[f64], words: &[u32]) -> u32
+    ensures { λ r. ⌜ r ≡ capIn (rowWith older (now (numbers .entry)) (now (words .entry))) ⌝ }
+{
+    if older {
+        return OLDER_CAP;
+    }
+    tables::word(scene_words(words), 0, 6)
+}
+
+fn given_in(older: bool, numbers: &[f64], words: &[u32]) -> MotionNumbers
+    ensures { λ r. ⌜ r ≡ givenIn (rowWith older (now (numbers .entry)) (now (words .entry))) ⌝ }
 {
     bodies::motion_from(numbers, scene_words(words))
 }
@@ -46,10 +59,10 @@ fn fall_in(numbers: &[f64]) -> Fall
 }
 
 // A refused body: its motion and fall record as given.
-fn refused_body(refusal: u32, numbers: &[f64], words: &[u32]) -> FallingAnswer
-    ensures { λ r. ⌜ r ≡ refusedBody refusal (rowWith (now (numbers .entry)) (now (words .entry))) ⌝ }
+fn refused_body(older: bool, refusal: u32, numbers: &[f64], words: &[u32]) -> FallingAnswer
+    ensures { λ r. ⌜ r ≡ refusedBody refusal (rowWith older (now (numbers .entry)) (now (words .entry))) ⌝ }
 {
-    let given = given_in(numbers, words);
+    let given = given_in(older, numbers, words);
     let fall = fall_in(numbers);
     falls::refused_falling(refusal, given, fall)
 }
@@ -64,6 +77,7 @@ fn age_in(words: &[u32]) -> u64
 
 // The step in a window that passed its check.
 fn checked_step(
+    older: bool,
     records: &[u32],
     shapes: &[f32],
     cells: &[u32],
@@ -71,11 +85,12 @@ fn checked_step(
     numbers: &[f64],
     words: &[u32],
 ) -> FallingAnswer
-    ensures { λ r. ⌜ r ≡ checkedStep (now (records .entry)) (now (shapes .entry)) (now (cells .entry)) w (rowWith (now (numbers .entry)) (now (words .entry))) ⌝ }
+    ensures { λ r. ⌜ r ≡ checkedStep (now (records .entry)) (now (shapes .entry)) (now (cells .entry)) w (rowWith older (now (numbers .entry)) (now (words .entry))) ⌝ }
 {
     let own = cells_in(cells, w);
     let last = scene_words(words);
-    let rules = bodies::rules_from(numbers, last);
+    let cap = cap_in(older, numbers, words);
+    let rules = bodies::with_cap(bodies::rules_from(numbers, last), cap);
     let body = bodies::body_from(numbers, last);
     let given = bodies::motion_from(numbers, last);
     let age = age_in(words);
@@ -103,6 +118,7 @@ fn refusal_of(checked: &[u32], j: u32) -> u32
 
 // 3, then 10, then 2, then what the step gives.
 pub(crate) fn answer_of(
+    older: bool,
     records: &[u32],
     shapes: &[f32],
     windows: &[u32],
@@ -112,20 +128,20 @@ pub(crate) fn answer_of(
     numbers: &[f64],
     words: &[u32],
 ) -> FallingAnswer
-    ensures { λ r. ⌜ r ≡ answerBy (getD (now (checked .entry)) (wordAt (now (words .entry)) 0 0) 2) (lentWith (now (records .entry)) (now (shapes .entry)) (now (windows .entry)) count (now (cells .entry))) (rowWith (now (numbers .entry)) (now (words .entry))) ⌝ }
+    ensures { λ r. ⌜ r ≡ answerBy (getD (now (checked .entry)) (wordAt (now (words .entry)) 0 0) 2) (lentWith (now (records .entry)) (now (shapes .entry)) (now (windows .entry)) count (now (cells .entry))) (rowWith older (now (numbers .entry)) (now (words .entry))) ⌝ }
 {
-    if is_whole(numbers, words) {
+    if is_whole(older, numbers, words) {
         let named = tables::word(words, 0, 0);
         if named < count {
             if refusal_of(checked, named) == 0 {
                 let w = window_at(windows, named);
-                return checked_step(records, shapes, cells, w, numbers, words);
+                return checked_step(older, records, shapes, cells, w, numbers, words);
             }
-            return refused_body(2, numbers, words);
+            return refused_body(older, 2, numbers, words);
         }
-        return refused_body(10, numbers, words);
+        return refused_body(older, 10, numbers, words);
     }
-    refused_body(3, numbers, words)
+    refused_body(older, 3, numbers, words)
 }
 
 // The numbers of an answer, as `answerNumbers` has them.
