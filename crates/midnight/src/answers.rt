@@ -30,8 +30,10 @@ ghost use Rattle.midnight.specs.Run.{rowWritten};
 fn is_whole(older: bool, numbers: &[f64], words: &[u32]) -> bool
     ensures { λ r. ⌜ r ≡ isWhole (rowWith older (now (numbers .entry)) (now (words .entry))) ⌝ }
 {
-    let width = if older { OLDER_WIDTH } else { WORD_WIDTH };
-    (numbers.len() == NUMBER_WIDTH) & (words.len() == width)
+    if older {
+        return (numbers.len() == NUMBER_WIDTH) & (words.len() == OLDER_WIDTH);
+    }
+    (numbers.len() == NUMBER_WIDTH) & (words.len() == WORD_WIDTH)
 }
 
 // The cap of a row: an older one stands for 128.

@@ -10,8 +10,14 @@ cells-in-requires c κs = search needs
 scene-words-requires : tie.Need-scene-words-requires
 scene-words-requires c κs = search needs
 
+cap-in-requires : tie.Need-cap-in-requires
+cap-in-requires c κs = search needs
+
 rules-from-requires : tie.Need-rules-from-requires
 rules-from-requires c κs = search needs
+
+with-cap-requires : tie.Need-with-cap-requires
+with-cap-requires c κs = search needs
 
 body-from-requires : tie.Need-body-from-requires
 body-from-requires c κs = search needs
@@ -30,7 +36,16 @@ step-falling-checked-requires c κs = search needs
 
 returns : tie.Need-returns
 unfolding checkedStep
-returns c = rw (← c .before .before .before .before .before .before .before .cells-in .ensures, ← c .before .before .before .before .before .before .scene-words .ensures, ← c .before .before .before .before .before .rules-from .ensures, ← c .before .before .before .before .body-from .ensures, ← c .before .before .before .motion-from .ensures, ← c .before .before .age-in .ensures, ← c .before .fall-in .ensures) (c .step-falling-checked .ensures)
+returns c =
+    let at-age-in = c .before .before in
+    let at-motion-from = at-age-in .before in
+    let at-body-from = at-motion-from .before in
+    let at-with-cap = at-body-from .before in
+    let at-rules-from = at-with-cap .before in
+    let at-cap-in = at-rules-from .before in
+    let at-scene-words = at-cap-in .before in
+    let at-cells-in = at-scene-words .before in
+    rw (c .before .fall-in .ensures, at-age-in .age-in .ensures, at-motion-from .motion-from .ensures, at-body-from .body-from .ensures, at-with-cap .with-cap .ensures, at-rules-from .rules-from .ensures, at-cap-in .cap-in .ensures, at-scene-words .scene-words .ensures, at-cells-in .cells-in .ensures) at (c .step-falling-checked .ensures)
 
 pub checked-step-spec : {M : Type 1} → statement M
 checked-step-spec =
@@ -38,7 +53,9 @@ checked-step-spec =
     (tie.spec
     cells-in-requires
     scene-words-requires
+    cap-in-requires
     rules-from-requires
+    with-cap-requires
     body-from-requires
     motion-from-requires
     age-in-requires
