@@ -25,7 +25,7 @@ use Rattle.collection.specs.Answers.{heldAsked}
 use Rattle.collection.proofs.Refuses.{Refuses, Five, FiveOrSix, look-refuses, cell-refuses, capped-refuses}
 
 -- ---- what was asked, from the answer of a collection
-list-told : (h : Held) (m : Ask (List Aabb)) → Refuses FiveOrSix m → h ≡ heldAsked m → h .refusal ≡ 0 → m ≡ found (h .boxes)
+pub list-told : (h : Held) (m : Ask (List Aabb)) → Refuses FiveOrSix m → h ≡ heldAsked m → h .refusal ≡ 0 → m ≡ found (h .boxes)
 list-told h (found bs) f e z = rw e
 list-told h (refused n) f e z = never (f .only n refl) (sym (ap (λ (x : Held). x .refusal) e) ∙ z)
   where
@@ -33,7 +33,7 @@ list-told h (refused n) f e z = never (f .only n refl) (sym (ap (λ (x : Held). 
     never (inl a) b = absurd (omega arith)
     never (inr a) b = absurd (omega arith)
 
-refusal-told : (h : Held) (m : Ask (List Aabb)) → h ≡ heldAsked m → (h .refusal ≡ 0 → ⊥) → m ≡ refused (h .refusal)
+pub refusal-told : (h : Held) (m : Ask (List Aabb)) → h ≡ heldAsked m → (h .refusal ≡ 0 → ⊥) → m ≡ refused (h .refusal)
 refusal-told h (found bs) e z = absurd (z (ap (λ (x : Held). x .refusal) e))
 refusal-told h (refused n) e z = rw e
 

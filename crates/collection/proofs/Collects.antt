@@ -24,7 +24,7 @@ use Rattle.ranges.specs.declared.At.{At}
 use Rattle.ranges.specs.Ranges.{placeAt, placeOf, startOf, nextOf, trimmed}
 use Rattle.ranges.specs.Walk.{line, layer, walk}
 use Rattle.ranges.proofs.Walks.{walk-trimmed, rest, rest-start, rest-turn, rest-end, Within, start-within, next-within, left, next-less}
-use Rattle.collection.specs.Collect.{cellShape, offer, offerAll, visit, push, rangeOf, collectUpTo}
+use Rattle.collection.specs.Collect.{cellShape, offer, offerAll, visit, push, rangeOf, collectIn, collectUpTo}
 use Rattle.tables.specs.Tables.{boxesAt}
 use Rattle.solids.specs.declared.Shape.{Shape}
 use Rattle.solids.specs.Parts.{shapeIn, countOf, nthAabb}
@@ -214,18 +214,21 @@ pub empty-list : (l : BoxList) → l ≡ emptyList → Room room (l .boxes) (l .
 unfolding emptyList
 empty-list l e = rw e (record { whole = length-replicate 128 noBox; counts = omega arith }, refl)
 
--- ---- the answers, for r the range of the area as `range_of` answers it
-module _ (cap : ℕ) (look : Pos → Ask Block) (records : List ℕ) (shapes : List Float) (area : Aabb) (r : Range) (e : r ≡ trimmed (rangeOf area)) where
-  pub was-collected : (bs : List Aabb) → found (next bs) ≡ all (push cap) look records shapes area r [] → collectUpTo cap look records shapes area ≡ found bs
-  unfolding collectUpTo
-  was-collected bs h = rw (← walk-trimmed (visiting (push cap) look records shapes area) (rangeOf area) [], ← e, ← h)
+-- ---- the answers
+module _ (cap : ℕ) (look : Pos → Ask Block) (records : List ℕ) (shapes : List Float) (area : Aabb) (r : Range) where
+  pub was-collected : (bs : List Aabb) → found (next bs) ≡ all (push cap) look records shapes area r [] → collectIn cap look records shapes area r ≡ found bs
+  was-collected bs h = rw (← h)
 
-  pub was-refused : (k : ℕ) → refused k ≡ all (push cap) look records shapes area r [] → collectUpTo cap look records shapes area ≡ refused k
-  unfolding collectUpTo
-  was-refused k h = rw (← walk-trimmed (visiting (push cap) look records shapes area) (rangeOf area) [], ← e, ← h)
+  pub was-refused : (k : ℕ) → refused k ≡ all (push cap) look records shapes area r [] → collectIn cap look records shapes area r ≡ refused k
+  was-refused k h = rw (← h)
 
-  pub collected : (most : ℕ) (bs : List Aabb) (i : ℕ) → Room most bs i → found (next (take i bs)) ≡ all (push cap) look records shapes area r [] → record { refusal = 0; count = i; boxes = take i bs } ≡ heldAsked (collectUpTo cap look records shapes area)
+  pub collected : (most : ℕ) (bs : List Aabb) (i : ℕ) → Room most bs i → found (next (take i bs)) ≡ all (push cap) look records shapes area r [] → record { refusal = 0; count = i; boxes = take i bs } ≡ heldAsked (collectIn cap look records shapes area r)
   collected most bs i has h = rw (was-collected (take i bs) h, counted most bs i has)
 
-  pub not-collected : (k : ℕ) → refused k ≡ all (push cap) look records shapes area r [] → held k [] ≡ heldAsked (collectUpTo cap look records shapes area)
+  pub not-collected : (k : ℕ) → refused k ≡ all (push cap) look records shapes area r [] → held k [] ≡ heldAsked (collectIn cap look records shapes area r)
   not-collected k h = rw (was-refused k h)
+
+  -- for the range of the area, as `range_of` answers it
+  pub in-range : r ≡ trimmed (rangeOf area) → collectIn cap look records shapes area r ≡ collectUpTo cap look records shapes area
+  unfolding collectUpTo
+  in-range e = rw (e, walk-trimmed (visiting (push cap) look records shapes area) (rangeOf area) [])

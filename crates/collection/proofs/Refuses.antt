@@ -20,7 +20,7 @@ use Rattle.ranges.specs.declared.Range.{Range}
 use Rattle.ranges.specs.Walk.{line, layer, walk}
 use Rattle.joining.specs.declared.Joined.{Joined}
 use Rattle.connect.specs.Connect.{connectKind, joins, post, besideNeighbours, connectedState}
-use Rattle.collection.specs.Collect.{connectedShape, shapeOf, cellShape, offer, offerAll, visit, push, hit, collectUpTo, collectBlockBoxes, collidesWithBlocks}
+use Rattle.collection.specs.Collect.{connectedShape, shapeOf, cellShape, offer, offerAll, visit, push, hit, rangeOf, collectIn, collectUpTo, collectBlockBoxes, collidesWithBlocks}
 
 -- what a refusal's number can be
 pub record Refuses {A : Type 0} (P : ℕ → Type 0) (m : Ask A) : Type 0 where
@@ -127,10 +127,13 @@ module _ (look : Pos → Ask Block) (h : (p : Pos) → Refuses Five (look p)) (r
 push-refuses : (cap : ℕ) (b : Aabb) (bs : List Aabb) → Refuses FiveOrSix (push cap b bs)
 push-refuses cap b bs = either _ _ _ (finds _) (names 6 (inr refl))
 
+pub range-refuses : (cap : ℕ) (cells : List ℕ) (w : Window) (records : List ℕ) (shapes : List Float) (area : Aabb) (r : Range) → Refuses FiveOrSix (collectIn cap (lookAt cells w) records shapes area r)
+range-refuses cap cells w records shapes area r =
+    after _ _ (walks _ r (visit-refuses (lookAt cells w) (look-refuses cells w) records (λ n e. inl e) (push cap) (push-refuses cap) area shapes) []) (λ t. finds _)
+
 pub capped-refuses : (cap : ℕ) (cells : List ℕ) (w : Window) (records : List ℕ) (shapes : List Float) (area : Aabb) → Refuses FiveOrSix (collectUpTo cap (lookAt cells w) records shapes area)
 unfolding collectUpTo
-capped-refuses cap cells w records shapes area =
-    after _ _ (walks _ _ (visit-refuses (lookAt cells w) (look-refuses cells w) records (λ n e. inl e) (push cap) (push-refuses cap) area shapes) []) (λ t. finds _)
+capped-refuses cap cells w records shapes area = range-refuses cap cells w records shapes area (rangeOf area)
 
 pub collect-refuses : (cells : List ℕ) (w : Window) (records : List ℕ) (shapes : List Float) (area : Aabb) → Refuses FiveOrSix (collectBlockBoxes (lookAt cells w) records shapes area)
 collect-refuses = capped-refuses room

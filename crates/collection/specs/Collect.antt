@@ -55,10 +55,14 @@ abbrev pub pushed : Turn (List Aabb) Bool → List Aabb
 pushed (next bs) = bs
 pushed (done b) = []
 
-unfoldable pub collectUpTo : ℕ → (Pos → Ask Block) → List ℕ → List Float → Aabb → Ask (List Aabb)
-collectUpTo cap look records shapes area = do
-  t ← anyBlockBox (push cap) look records shapes area []
+-- from the cells of a range
+abbrev pub collectIn : ℕ → (Pos → Ask Block) → List ℕ → List Float → Aabb → Range → Ask (List Aabb)
+collectIn cap look records shapes area r = do
+  t ← walk (visit (push cap) area look records shapes) r []
   found (pushed t)
+
+unfoldable pub collectUpTo : ℕ → (Pos → Ask Block) → List ℕ → List Float → Aabb → Ask (List Aabb)
+collectUpTo cap look records shapes area = collectIn cap look records shapes area (rangeOf area)
 
 -- into the list, whose 129th box is 6
 abbrev pub collectBlockBoxes : (Pos → Ask Block) → List ℕ → List Float → Aabb → Ask (List Aabb)

@@ -15,7 +15,7 @@ ghost use Rattle.tables.specs.Tables.{boxesAt};
 ghost use Rattle.ranges.specs.Ranges.{trimmed};
 ghost use Rattle.solids.specs.Parts.{countOf, nthAabb};
 ghost use Rattle.window.specs.Look.{lookAt};
-ghost use Rattle.collection.specs.Collect.{rangeOf, sweptArea, collectUpTo, collectBlockBoxes, collidesWithBlocks};
+ghost use Rattle.collection.specs.Collect.{rangeOf, sweptArea, collectIn, collectBlockBoxes, collidesWithBlocks};
 ghost use Rattle.collection.specs.Answers.{heldAsked, hitAsked};
 
 pub enum AskedHit {
@@ -56,13 +56,12 @@ fn box_in(shapes: &[f32], part: Shape, p: Pos, k: u32) -> Aabb
     solids::nth_aabb(part.cube, shape, p, k)
 }
 
-// The boxes of every cell that the area reaches, which strictly overlap it: as many as the cap says, and with one more it refuses 6. The list is
-// built in place.
-fn collect_up_to(cap: usize, records: &[u32], shapes: &[f32], cells: &[u32], w: Window, area: Aabb) -> Collected
+// The boxes of every cell of a range, which strictly overlap the area: as many as the cap says, and with one more it refuses 6. The list is built
+// in place.
+fn collect_up_to(cap: usize, records: &[u32], shapes: &[f32], cells: &[u32], w: Window, area: Aabb, r: Range) -> Collected
     requires { ⌜ cap ≤ room ⌝ }
-    ensures { λ r. ⌜ heldIn r ≡ heldAsked (collectUpTo cap (lookAt (now (cells .entry)) w) (now (records .entry)) (now (shapes .entry)) area) ⌝ }
+    ensures { λ c. ⌜ heldIn c ≡ heldAsked (collectIn cap (lookAt (now (cells .entry)) w) (now (records .entry)) (now (shapes .entry)) area r) ⌝ }
 {
-    let r = range_of(area);
     let mut list = BoxList::new();
     let mut t = ranges::start(r);
     while t.y < r.y.count {
@@ -88,11 +87,18 @@ fn collect_up_to(cap: usize, records: &[u32], shapes: &[f32], cells: &[u32], w: 
     Collected { list, refusal: 0 }
 }
 
-// Collection into the list. It refuses 5 and 6 alone.
+// Collection into the list from the cells of a range that is known already. It refuses 5 and 6 alone.
+pub fn collect_range(records: &[u32], shapes: &[f32], cells: &[u32], w: Window, area: Aabb, r: Range) -> Collected
+    ensures { λ c. ⌜ heldIn c ≡ heldAsked (collectIn room (lookAt (now (cells .entry)) w) (now (records .entry)) (now (shapes .entry)) area r) ⌝ }
+{
+    collect_up_to(128, records, shapes, cells, w, area, r)
+}
+
+// The same from the cells that the area reaches.
 pub fn collect(records: &[u32], shapes: &[f32], cells: &[u32], w: Window, area: Aabb) -> Collected
     ensures { λ r. ⌜ heldIn r ≡ heldAsked (collectBlockBoxes (lookAt (now (cells .entry)) w) (now (records .entry)) (now (shapes .entry)) area) ⌝ }
 {
-    collect_up_to(128, records, shapes, cells, w, area)
+    collect_range(records, shapes, cells, w, area, range_of(area))
 }
 
 // Whether a block box strictly overlaps the area. It stops at its first hit: no cell after that is asked for. It refuses 5 alone.
@@ -100,7 +106,7 @@ pub fn collect(records: &[u32], shapes: &[f32], cells: &[u32], w: Window, area: 
 pub fn collides(records: &[u32], shapes: &[f32], cells: &[u32], w: Window, area: Aabb) -> AskedHit
     ensures { λ r. ⌜ hitAsked r ≡ collidesWithBlocks (lookAt (now (cells .entry)) w) (now (records .entry)) (now (shapes .entry)) area ⌝ }
 {
-    let none = collect_up_to(0, records, shapes, cells, w, area);
+    let none = collect_up_to(0, records, shapes, cells, w, area, range_of(area));
     let refusal = none.refusal;
     if refusal == 0 {
         return AskedHit::Is(false);

@@ -21,7 +21,7 @@ use Rattle.window.specs.Look.{Block, some}
 use Rattle.connect.specs.Connect.{connectKind, connectedState}
 use Rattle.solids.specs.declared.Shape.{Shape}
 use Rattle.solids.specs.Shapes.{CellShape, cube, boxes, aabbsOf, connectedShape, shapeOf}
-use Rattle.solids.specs.Parts.{shapeIn, countOf, nthAabb}
+use Rattle.solids.specs.Parts.{shapeIn, countOf, inWorld, nthAabb}
 
 -- a record that is registered
 pub head-registered : (records : List ℕ) (id : ℕ) (h : Head) → h ≡ headAt records id → isRegistered records id ≡ h .registered
@@ -63,7 +63,7 @@ part-count shapes first count = go (leb (first + count) (boxCount shapes)) (leb�
 -- all boxes of a cell, from number 0 on
 pub listed-all : (shapes shape : List Float) (p : Pos) (s : Shape) (n : ℕ) → shape ≡ boxesAt shapes (s .first) (s .count) → n ≡ countOf (s .cube) (s .count) shape
     → aabbsOf shapes p (shapeIn s) ≡ listed (nthAabb (s .cube) shape p) n 0
-unfolding countOf nthAabb choose listed
+unfolding countOf inWorld choose listed
 listed-all shapes shape p s n e m = go (s .cube) refl
   where
     go : (b : Bool) → s .cube ≡ b → aabbsOf shapes p (choose (s .cube) cube (boxes (s .first) (s .count))) ≡ listed (nthAabb (s .cube) shape p) n 0

@@ -27,5 +27,8 @@ shapeAsked (Refused n) = refused n
 unfoldable pub countOf : Bool → ℕ → List Float → ℕ
 countOf isCube count shape = choose isCube 1 (choose (eqb (length shape) 0) 0 count)
 
-unfoldable pub nthAabb : Bool → List Float → Pos → ℕ → Aabb
-nthAabb isCube shape p k = choose isCube (cubeAt p) (offsetBy (toAabb (boxAt shape k)) (originOf p))
+unfoldable pub inWorld : Bool → Aabb → Pos → Aabb
+inWorld isCube b p = choose isCube (cubeAt p) (offsetBy b (originOf p))
+
+abbrev pub nthAabb : Bool → List Float → Pos → ℕ → Aabb
+nthAabb isCube shape p k = inWorld isCube (toAabb (boxAt shape k)) p

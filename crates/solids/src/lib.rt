@@ -9,7 +9,7 @@ ghost use mathlib.Core.Path.{_≡_};
 ghost use Rattle.tables.specs.Tables.{boxAt};
 ghost use Rattle.window.specs.Look.{lookAt};
 ghost use Rattle.solids.specs.Shapes.{originOf, cubeAt, toAabb, connectedShape, cellShape};
-ghost use Rattle.solids.specs.Parts.{shapeAsked, countOf, nthAabb};
+ghost use Rattle.solids.specs.Parts.{shapeAsked, countOf, inWorld, nthAabb};
 
 // What stands in a cell: a full cube, or the boxes of the shapes by the two words of a record.
 pub struct Shape {
@@ -64,7 +64,7 @@ fn part_of(records: &[u32], cells: &[u32], w: Window, p: Pos, id: u32) -> AskedS
     }
 }
 
-// What stands in the cell at p. A record that connects as nothing has its own boxes, and is done with here.
+// What stands in the cell at p.
 pub fn part_at(records: &[u32], cells: &[u32], w: Window, p: Pos) -> AskedShape
     ensures { λ r. ⌜ shapeAsked r ≡ cellShape (lookAt (now (cells .entry)) w) (now (records .entry)) p ⌝ }
 {
@@ -77,6 +77,28 @@ pub fn part_at(records: &[u32], cells: &[u32], w: Window, p: Pos) -> AskedShape
             count: 1,
         }),
         Cell::State(id) => {
+            if tables::is_registered(records, id) {
+                return part_of(records, cells, w, p, id);
+            }
+            AskedShape::Is(Shape {
+                cube: false,
+                first: 0,
+                count: 0,
+            })
+        }
+    }
+}
+
+// The same for the loop of the move, and for that alone: the compiler puts a function of this size in place for one caller, and with two it is
+// called for each cell. A record that connects as nothing has its own boxes, and is done with here.
+pub fn quick_part(records: &[u32], cells: &[u32], w: Window, p: Pos) -> AskedShape
+    ensures { λ r. ⌜ shapeAsked r ≡ cellShape (lookAt (now (cells .entry)) w) (now (records .entry)) p ⌝ }
+{
+    let cell = window::look(cells, w, p);
+    match cell {
+        Cell::Outside => part_at(records, cells, w, p),
+        Cell::Unloaded => part_at(records, cells, w, p),
+        Cell::State(id) => {
             let h = tables::head_at(records, id);
             if h.registered {
                 if h.kind == 0 {
@@ -88,11 +110,7 @@ pub fn part_at(records: &[u32], cells: &[u32], w: Window, p: Pos) -> AskedShape
                 }
                 return part_of(records, cells, w, p, id);
             }
-            AskedShape::Is(Shape {
-                cube: false,
-                first: 0,
-                count: 0,
-            })
+            part_at(records, cells, w, p)
         }
     }
 }
@@ -110,6 +128,24 @@ pub fn count_of(cube: bool, count: u32, shape: &[f32]) -> u32
     count
 }
 
+// Box k of a shape, number by number.
+fn read_aabb(shape: &[f32], k: u32) -> Aabb
+    ensures { λ r. ⌜ r ≡ toAabb (boxAt (now (shape .entry)) k) ⌝ }
+{
+    let i = (k as usize) * 6;
+    let x0 = tables::float_at(shape, i);
+    let y0 = tables::float_at(shape, i + 1);
+    let z0 = tables::float_at(shape, i + 2);
+    let x1 = tables::float_at(shape, i + 3);
+    let y1 = tables::float_at(shape, i + 4);
+    let z1 = tables::float_at(shape, i + 5);
+    Aabb {
+        min: Vec3 { x: x0, y: y0, z: z0 },
+        max: Vec3 { x: x1, y: y1, z: z1 },
+    }
+}
+
+// The same, all at once where they are there.
 fn shape_aabb(shape: &[f32], k: u32) -> Aabb
     ensures { λ r. ⌜ r ≡ toAabb (boxAt (now (shape .entry)) k) ⌝ }
 {
@@ -128,12 +164,26 @@ fn shape_aabb(shape: &[f32], k: u32) -> Aabb
     }
 }
 
-// Box k of a cell, in the world's coordinates.
-pub fn nth_aabb(cube: bool, shape: &[f32], p: Pos, k: u32) -> Aabb
-    ensures { λ r. ⌜ r ≡ nthAabb cube (now (shape .entry)) p k ⌝ }
+// A box of a cell in the world's coordinates, whatever b is where the cell is a cube.
+fn in_world(cube: bool, b: Aabb, p: Pos) -> Aabb
+    ensures { λ r. ⌜ r ≡ inWorld cube b p ⌝ }
 {
     if cube {
         return cube_at(p);
     }
-    shape_aabb(shape, k).offset(origin_of(p))
+    b.offset(origin_of(p))
+}
+
+// Box k of a cell.
+pub fn nth_aabb(cube: bool, shape: &[f32], p: Pos, k: u32) -> Aabb
+    ensures { λ r. ⌜ r ≡ nthAabb cube (now (shape .entry)) p k ⌝ }
+{
+    in_world(cube, read_aabb(shape, k), p)
+}
+
+// The same for the loop of the move alone, as with `quick_part`.
+pub fn quick_aabb(cube: bool, shape: &[f32], p: Pos, k: u32) -> Aabb
+    ensures { λ r. ⌜ r ≡ nthAabb cube (now (shape .entry)) p k ⌝ }
+{
+    in_world(cube, shape_aabb(shape, k), p)
 }

@@ -1,2 +1,3 @@
 -- The definition of module 6: the move through a window.
 pub mod Through
+pub mod Few

@@ -2,14 +2,15 @@
 use boxes::Aabb;
 use boxes::Vec3;
 use ranges::At;
+use ranges::Range;
 use solids::AskedShape;
-use sweeps::BoxList;
 use sweeps::MoveResult;
 use sweeps::Request;
 use window::Window;
 ghost use mathlib.Core.Path.{_≡_};
 ghost use Rattle.window.specs.Look.{lookAt};
 ghost use Rattle.through.specs.Through.{movedAsked, moveAabb};
+ghost use Rattle.through.specs.Few.{emptyFew, moveFrom};
 
 // A move, or the number of a refusal.
 pub enum AskedMove {
@@ -17,29 +18,59 @@ pub enum AskedMove {
     Refused(u32),
 }
 
-// Collection and passes stand in one function, so that the list is read where it was built: handed on by value, it would be copied.
-fn swept_through(records: &[u32], shapes: &[f32], cells: &[u32], w: Window, q: Request) -> AskedMove
-    ensures { λ r. ⌜ movedAsked r ≡ moveAabb (lookAt (now (cells .entry)) w) (now (records .entry)) (now (shapes .entry)) (q .aabb) (q .delta) (q .step) (q .ground) ⌝ }
+// A list with room for the boxes of nearly every move. A list is filled with zeros before it is used, whatever its room; 42 boxes stay below 2 KB,
+// from which on C's memset is slow to start.
+struct Few {
+    boxes: [Aabb; 42],
+    count: usize,
+}
+
+impl Few {
+    fn new() -> Few
+        ensures { λ r. ⌜ r ≡ emptyFew ⌝ }
+    {
+        let zero = Vec3 { x: 0.0, y: 0.0, z: 0.0 };
+        let none = Aabb { min: zero, max: zero };
+        let boxes = [none; 42];
+        Few { boxes, count: 0 }
+    }
+}
+
+// A move of more boxes than a few, from its range on, over the whole list. It is here that 6 is refused. It has two callers, so that the compiler
+// leaves it out of the loop below, which is slower with it inside.
+fn crowded(records: &[u32], shapes: &[f32], cells: &[u32], w: Window, q: Request, area: Aabb, r: Range) -> AskedMove
+    ensures { λ m. ⌜ movedAsked m ≡ moveFrom (lookAt (now (cells .entry)) w) (now (records .entry)) (now (shapes .entry)) q area r ⌝ }
 {
-    let area = collection::swept_area(q.aabb, q.delta, q.step);
-    let r = collection::range_of(area);
-    let mut list = BoxList::new();
+    let c = collection::collect_range(records, shapes, cells, w, area, r);
+    let refusal = c.refusal;
+    if refusal == 0 {
+        return AskedMove::To(list_moves::move_over(c.list, q.aabb, q.delta, q.step, q.ground));
+    }
+    AskedMove::Refused(refusal)
+}
+
+// A move of a few boxes. Collection and passes stand in one function, so that the list is read where it was built: handed on by value, it would be
+// copied.
+fn swept_through(records: &[u32], shapes: &[f32], cells: &[u32], w: Window, q: Request, area: Aabb, r: Range) -> AskedMove
+    ensures { λ m. ⌜ movedAsked m ≡ moveFrom (lookAt (now (cells .entry)) w) (now (records .entry)) (now (shapes .entry)) q area r ⌝ }
+{
+    let mut list = Few::new();
     for y in 0..r.y.count {
         for x in 0..r.x.count {
             for z in 0..r.z.count {
                 let p = ranges::place(r, At { x, y, z });
-                let part = match solids::part_at(records, cells, w, p) {
+                let part = match solids::quick_part(records, cells, w, p) {
                     AskedShape::Refused(n) => return AskedMove::Refused(n),
                     AskedShape::Is(s) => s,
                 };
                 let shape = tables::boxes_at(shapes, part.first, part.count);
                 let n = solids::count_of(part.cube, part.count, shape);
                 for k in 0..n {
-                    let b = solids::nth_aabb(part.cube, shape, p, k);
+                    let b = solids::quick_aabb(part.cube, shape, p, k);
                     if b.intersects(area) {
                         let i = list.count;
-                        if i >= 128 {
-                            return AskedMove::Refused(6);
+                        if i >= 42 {
+                            return crowded(records, shapes, cells, w, q, area, r);
                         }
                         list.boxes[i] = b;
                         list.count = i + 1;
@@ -77,5 +108,10 @@ pub fn move_through(records: &[u32], shapes: &[f32], cells: &[u32], w: Window, a
         step,
         ground,
     };
-    swept_through(records, shapes, cells, w, q)
+    let area = collection::swept_area(aabb, delta, step);
+    let r = collection::range_of(area);
+    if (r.x.count > 6) & (r.z.count > 6) {
+        return crowded(records, shapes, cells, w, q, area, r); // one layer of ground is more than a few boxes
+    }
+    swept_through(records, shapes, cells, w, q, area, r)
 }

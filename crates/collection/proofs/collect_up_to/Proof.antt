@@ -37,9 +37,6 @@ Inv-loop cap records shapes cells w area r list₀ t₀ list t =
 abbrev μ-loop : tie.MeasureT-loop
 μ-loop cap records shapes cells w area r list₀ t₀ list t = left r t
 
-range-of-requires : tie.Need-range-of-requires Inv-loop2 μ-loop2 Inv-loop μ-loop
-range-of-requires c κs = search needs
-
 new-requires : tie.Need-new-requires Inv-loop2 μ-loop2 Inv-loop μ-loop
 new-requires c κs = search needs
 
@@ -49,7 +46,7 @@ start-requires c κs = search needs
 loop-holds : tie.Need-loop-holds Inv-loop2 μ-loop2 Inv-loop μ-loop
 loop-holds c =
     let e = empty-list _ (c .before .new .ensures) in
-    let f = push (c .before .before .before .before .before .before .args .cap) in
+    let f = push (c .before .before .before .before .before .args .cap) in
     let b = range-begins f _ _ _ _ _ _ _ (c .start .ensures) in
     (e .0, (b .0, b .1 ∙ ap (all f _ _ _ _ _) (e .1)))
 
@@ -69,13 +66,12 @@ returns : tie.Need-returns Inv-loop2 μ-loop2 Inv-loop μ-loop
 returns c =
     let asked = c .before .before .before .before in
     let went = asked .before .before .before .before .before in
-    let ranged = went .before .before .before in
-    let cap = ranged .before .before .before .before .args .cap in
+    let cap = c .before .before .before .before .before .before .before .before .before .before .before .before .before .before .before .args .cap in
     let i = went .loop .inv in
     let turn = cell-turn (push cap) _ _ _ _ _ _ (i .1 .0) (asked .before .before .if1 .taken) _ _ (asked .before .place .ensures) in
     let shape = sym (asked .part-at .ensures) ∙ ap shapeAsked (c .before .before .n .given .1) in
     let stop = cell-refused (push cap) _ _ _ _ _ _ _ _ turn (c .before .before .n .given .0 .0) shape in
-    c .refused .ensures ∙ not-collected cap _ _ _ _ _ (ranged .range-of .ensures) _ (sym stop ∙ i .1 .1)
+    c .refused .ensures ∙ not-collected cap _ _ _ _ _ _ (sym stop ∙ i .1 .1)
 
 enum-known-s : tie.Need-enum-known-s Inv-loop2 μ-loop2 Inv-loop μ-loop
 enum-known-s c = search needs
@@ -87,8 +83,7 @@ loop2-holds : tie.Need-loop2-holds Inv-loop2 μ-loop2 Inv-loop μ-loop
 loop2-holds c =
     let asked = c .before .before .before .before in
     let went = asked .before .before .before .before .before in
-    let ranged = went .before .before .before in
-    let f = push (ranged .before .before .before .before .args .cap) in
+    let f = push (c .before .before .before .before .before .before .before .before .before .before .before .before .before .before .before .args .cap) in
     let i = went .loop .inv in
     let turn = cell-turn f _ _ _ _ _ _ (i .1 .0) (asked .before .before .if1 .taken) _ _ (asked .before .place .ensures) in
     let shape = sym (asked .part-at .ensures) ∙ ap shapeAsked (c .before .before .s .given .1) in
@@ -107,17 +102,16 @@ refused-requires-2 c κs = search needs
 returns-2 : tie.Need-returns-2 Inv-loop2 μ-loop2 Inv-loop μ-loop
 returns-2 c =
     let turn = c .before .before .before .before .before .before in
-    let ranged = turn .before .before .before .before .before .before .before .before .before .before .before .before .before in
-    let cap = ranged .before .before .before .before .args .cap in
+    let cap = c .before .before .before .before .before .before .before .before .before .before .before .before .before .before .before .before .before .before .before .before .before .before .args .cap in
     let i = turn .loop2 .inv in
     let more = full room _ _ (i .0) cap _ _ (c .before .if3 .taken) (sym (c .before .before .before .intersects .ensures) ∙ c .before .before .if2 .taken) in
     let stop = box-refused (push cap) _ _ _ _ _ _ _ (c .before .before .before .before .before .loop2-test .taken) (c .before .before .before .before .box-in .ensures) 6 more in
-    c .refused2 .ensures ∙ not-collected cap _ _ _ _ _ (ranged .range-of .ensures) 6 (sym stop ∙ i .1)
+    c .refused2 .ensures ∙ not-collected cap _ _ _ _ _ 6 (sym stop ∙ i .1)
 
 mul-b : tie.Need-mul-b Inv-loop2 μ-loop2 Inv-loop μ-loop
 mul-b c =
     let turn = c .before .before .before .before .before in
-    let start = turn .before .before .before .before .before .before .before .before .before .before .before .before .before .before .before .before .before in
+    let start = c .before .before .before .before .before .before .before .before .before .before .before .before .before .before .before .before .before .before .before .before .before in
     let p : start .args .cap ≤ 128 = start .pre in
     let i = turn .loop2 .inv .0 .whole in
     omega arith
@@ -125,7 +119,7 @@ mul-b c =
 element-set-from-b : tie.Need-element-set-from-b Inv-loop2 μ-loop2 Inv-loop μ-loop
 element-set-from-b c =
     let turn = c .before .before .before .before .before in
-    let start = turn .before .before .before .before .before .before .before .before .before .before .before .before .before .before .before .before .before in
+    let start = c .before .before .before .before .before .before .before .before .before .before .before .before .before .before .before .before .before .before .before .before .before in
     let p : start .args .cap ≤ 128 = start .pre in
     let i = turn .loop2 .inv .0 .whole in
     omega arith
@@ -133,7 +127,7 @@ element-set-from-b c =
 add-list : tie.Need-add-list Inv-loop2 μ-loop2 Inv-loop μ-loop
 add-list c =
     let turn = c .before .before .before .before .before in
-    let start = turn .before .before .before .before .before .before .before .before .before .before .before .before .before .before .before .before .before in
+    let start = c .before .before .before .before .before .before .before .before .before .before .before .before .before .before .before .before .before .before .before .before .before in
     let p : start .args .cap ≤ 128 = start .pre in
     let i = turn .loop2 .inv .0 .whole in
     omega arith
@@ -147,7 +141,7 @@ loop2-less c = omega arith
 loop2-again : tie.Need-loop2-again Inv-loop2 μ-loop2 Inv-loop μ-loop
 loop2-again c =
     let turn = c .before .before .before .before in
-    let start = turn .before .before .before .before .before .before .before .before .before .before .before .before .before .before .before .before .before in
+    let start = c .before .before .before .before .before .before .before .before .before .before .before .before .before .before .before .before .before .before .before .before in
     let cap = start .args .cap in
     let p : cap ≤ 128 = start .pre in
     let l = turn .loop2 .list in
@@ -175,7 +169,7 @@ loop-less c =
 loop-again : tie.Need-loop-again Inv-loop2 μ-loop2 Inv-loop μ-loop
 loop-again c =
     let cell = c .before .before .before .before .before .before .before .before .before in
-    let f = push (cell .before .before .before .before .before .before .before .before .before .before .args .cap) in
+    let f = push (c .before .before .before .before .before .before .before .before .before .before .before .before .before .before .before .before .before .before .args .cap) in
     let i = c .before .before .loop2 .inv in
     let on = cell-next f _ _ _ _ _ _ (cell .before .before .before .loop .inv .1 .0) (cell .if1 .taken) _ (c .next .ensures) _ in
     (i .0, (on .0, on .1 ∙ sym (boxes-end f _ _ _ _ _ _ (c .before .loop2-test .left)) ∙ i .1))
@@ -183,10 +177,9 @@ loop-again c =
 returns-3 : tie.Need-returns-3 Inv-loop2 μ-loop2 Inv-loop μ-loop
 returns-3 c =
     let went = c .before .before .before in
-    let ranged = went .before .before .before in
-    let cap = ranged .before .before .before .before .args .cap in
+    let cap = c .before .before .before .before .before .before .before .before .before .args .cap in
     let i = went .loop .inv in
-    collected cap _ _ _ _ _ (ranged .range-of .ensures) room _ _ (i .0) (sym (range-ends (push cap) _ _ _ _ _ _ _ (c .if1 .left)) ∙ i .1 .1)
+    collected cap _ _ _ _ _ room _ _ (i .0) (sym (range-ends (push cap) _ _ _ _ _ _ _ (c .if1 .left)) ∙ i .1 .1)
 
 pub collect-up-to-spec : {M : Type 1} → statement M
 collect-up-to-spec =
@@ -196,7 +189,6 @@ collect-up-to-spec =
     μ-loop2
     Inv-loop
     μ-loop
-    range-of-requires
     new-requires
     start-requires
     loop-holds

@@ -7,44 +7,46 @@ use Prim.Native.Nat.{ℕ, _+_, _-_, _<_}
 use native.Mathlib.Omega.{arith}
 use lib.ListN.{take, drop}
 use Rattle.boxes.specs.declared.Aabb.{Aabb}
-use Rattle.sweeps.specs.declared.BoxList.{BoxList}
+
 use Rattle.sweeps.specs.Lists.{room}
+use Rattle.through.specs.declared.Few.{Few}
+use Rattle.through.specs.Few.{few}
 use Rattle.sweeps.specs.Move.{clipAll}
 use Rattle.sweeps.specs.Passes.{clipAlong, passesFrom, sweepOf}
 use Rattle.sweeps.proofs.Turns.{clip-turn, made, pass-on, pass-over, passes-end}
 use Rattle.window.specs.Look.{lookAt}
 use Rattle.collection.specs.Collect.{push}
 use Rattle.solids.specs.Parts.{nthAabb, shapeAsked}
-use Rattle.collection.proofs.Collects.{Room, all, layersFrom, linesFrom, cellsFrom, boxesFrom, walk-begins, layer-begins, line-begins, cells-turn, cell-begins, cell-refused, box-next, boxes-end, cells-end, lines-end, layers-end, kept, passed, box-refused, full, empty-list, fully}
-use Rattle.through.proofs.Moved.{moved, not-moved}
+use Rattle.collection.proofs.Collects.{Room, all, layersFrom, linesFrom, cellsFrom, boxesFrom, walk-begins, layer-begins, line-begins, cells-turn, cell-begins, cell-refused, box-next, boxes-end, cells-end, lines-end, layers-end, kept, passed, fully}
+use Rattle.through.proofs.Moved.{moved, not-moved, empty-few}
 use borrow.Author.Needs.{needs}
 use Rattle.through.proofs.swept_through.Statement.{statement}
 use Rattle.through.proofs.swept_through.Tie as tie
 
 abbrev Inv-loop4 : tie.InvT-loop4
 Inv-loop4 records shapes cells w q area r list₀ y x z p part shape n k₀ y-end x-end z-end list k =
-    Room room (list .boxes) (list .count) × (boxesFrom (push room) area (cellsFrom (push room) (lookAt cells w) records shapes area r y x (z + 1)) (nthAabb (part .cube) shape p) n k (take (list .count) (list .boxes)) ≡ all (push room) (lookAt cells w) records shapes area r [])
+    Room few (list .boxes) (list .count) × (boxesFrom (push room) area (cellsFrom (push room) (lookAt cells w) records shapes area r y x (z + 1)) (nthAabb (part .cube) shape p) n k (take (list .count) (list .boxes)) ≡ all (push room) (lookAt cells w) records shapes area r [])
 
 abbrev μ-loop4 : tie.MeasureT-loop4
 μ-loop4 records shapes cells w q area r list₀ y x z p part shape n k₀ y-end x-end z-end list k = n - k
 
 abbrev Inv-loop3 : tie.InvT-loop3
 Inv-loop3 records shapes cells w q area r list₀ y x z₀ y-end x-end z-end list z =
-    Room room (list .boxes) (list .count) × (cellsFrom (push room) (lookAt cells w) records shapes area r y x z (take (list .count) (list .boxes)) ≡ all (push room) (lookAt cells w) records shapes area r [])
+    Room few (list .boxes) (list .count) × (cellsFrom (push room) (lookAt cells w) records shapes area r y x z (take (list .count) (list .boxes)) ≡ all (push room) (lookAt cells w) records shapes area r [])
 
 abbrev μ-loop3 : tie.MeasureT-loop3
 μ-loop3 records shapes cells w q area r list₀ y x z₀ y-end x-end z-end list z = z-end - z
 
 abbrev Inv-loop2 : tie.InvT-loop2
 Inv-loop2 records shapes cells w q area r list₀ y x₀ y-end x-end list x =
-    Room room (list .boxes) (list .count) × (linesFrom (push room) (lookAt cells w) records shapes area r y x (take (list .count) (list .boxes)) ≡ all (push room) (lookAt cells w) records shapes area r [])
+    Room few (list .boxes) (list .count) × (linesFrom (push room) (lookAt cells w) records shapes area r y x (take (list .count) (list .boxes)) ≡ all (push room) (lookAt cells w) records shapes area r [])
 
 abbrev μ-loop2 : tie.MeasureT-loop2
 μ-loop2 records shapes cells w q area r list₀ y x₀ y-end x-end list x = x-end - x
 
 abbrev Inv-loop : tie.InvT-loop
 Inv-loop records shapes cells w q area r list₀ y₀ y-end list y =
-    Room room (list .boxes) (list .count) × (layersFrom (push room) (lookAt cells w) records shapes area r y (take (list .count) (list .boxes)) ≡ all (push room) (lookAt cells w) records shapes area r [])
+    Room few (list .boxes) (list .count) × (layersFrom (push room) (lookAt cells w) records shapes area r y (take (list .count) (list .boxes)) ≡ all (push room) (lookAt cells w) records shapes area r [])
 
 abbrev μ-loop : tie.MeasureT-loop
 μ-loop records shapes cells w q area r list₀ y₀ y-end list y = y-end - y
@@ -63,19 +65,11 @@ Inv-loop5 records shapes cells q list s₀ pass₀ s pass =
 abbrev μ-loop5 : tie.MeasureT-loop5
 μ-loop5 records shapes cells q list s₀ pass₀ s pass = 7 - pass
 
-swept-area-requires :
-    tie.Need-swept-area-requires Inv-loop4 μ-loop4 Inv-loop3 μ-loop3 Inv-loop2 μ-loop2 Inv-loop μ-loop Inv-loop6 μ-loop6 Inv-loop5 μ-loop5
-swept-area-requires c κs = search needs
-
-range-of-requires :
-    tie.Need-range-of-requires Inv-loop4 μ-loop4 Inv-loop3 μ-loop3 Inv-loop2 μ-loop2 Inv-loop μ-loop Inv-loop6 μ-loop6 Inv-loop5 μ-loop5
-range-of-requires c κs = search needs
-
 new-requires : tie.Need-new-requires Inv-loop4 μ-loop4 Inv-loop3 μ-loop3 Inv-loop2 μ-loop2 Inv-loop μ-loop Inv-loop6 μ-loop6 Inv-loop5 μ-loop5
 new-requires c κs = search needs
 
 loop-holds : tie.Need-loop-holds Inv-loop4 μ-loop4 Inv-loop3 μ-loop3 Inv-loop2 μ-loop2 Inv-loop μ-loop Inv-loop6 μ-loop6 Inv-loop5 μ-loop5
-loop-holds c = let e = empty-list _ (c .new .ensures) in (e .0, walk-begins (push room) _ _ _ _ _ _ ∙ ap (all (push room) _ _ _ _ _) (e .1))
+loop-holds c = let e = empty-few _ (c .new .ensures) in (e .0, walk-begins (push room) _ _ _ _ _ _ ∙ ap (all (push room) _ _ _ _ _) (e .1))
 
 loop2-holds : tie.Need-loop2-holds Inv-loop4 μ-loop4 Inv-loop3 μ-loop3 Inv-loop2 μ-loop2 Inv-loop μ-loop Inv-loop6 μ-loop6 Inv-loop5 μ-loop5
 loop2-holds c = let i = c .before .loop .inv in (i .0, sym (layer-begins (push room) _ _ _ _ _ _ _ (c .loop-test .taken)) ∙ i .1)
@@ -86,9 +80,9 @@ loop3-holds c = let i = c .before .loop2 .inv in (i .0, sym (line-begins (push r
 place-requires : tie.Need-place-requires Inv-loop4 μ-loop4 Inv-loop3 μ-loop3 Inv-loop2 μ-loop2 Inv-loop μ-loop Inv-loop6 μ-loop6 Inv-loop5 μ-loop5
 place-requires c κs = search needs
 
-part-at-requires :
-    tie.Need-part-at-requires Inv-loop4 μ-loop4 Inv-loop3 μ-loop3 Inv-loop2 μ-loop2 Inv-loop μ-loop Inv-loop6 μ-loop6 Inv-loop5 μ-loop5
-part-at-requires c κs = search needs
+quick-part-requires :
+    tie.Need-quick-part-requires Inv-loop4 μ-loop4 Inv-loop3 μ-loop3 Inv-loop2 μ-loop2 Inv-loop μ-loop Inv-loop6 μ-loop6 Inv-loop5 μ-loop5
+quick-part-requires c κs = search needs
 
 enum-known-n : tie.Need-enum-known-n Inv-loop4 μ-loop4 Inv-loop3 μ-loop3 Inv-loop2 μ-loop2 Inv-loop μ-loop Inv-loop6 μ-loop6 Inv-loop5 μ-loop5
 enum-known-n c = search needs
@@ -97,9 +91,9 @@ returns : tie.Need-returns Inv-loop4 μ-loop4 Inv-loop3 μ-loop3 Inv-loop2 μ-lo
 returns c =
     let i = c .before .before .before .before .before .before .loop3 .inv in
     let cell = c .before .before .before .before .place .ensures in
-    let shape = sym (c .before .before .before .part-at .ensures) ∙ ap shapeAsked (c .before .n .given .1) in
+    let shape = sym (c .before .before .before .quick-part .ensures) ∙ ap shapeAsked (c .before .n .given .1) in
     let stop = cell-refused (push room) _ _ _ _ _ _ _ _ (cells-turn (push room) _ _ _ _ _ _ _ _ _ (c .before .before .before .before .before .loop3-test .taken) _ cell) (c .before .n .given .0 .0) shape in
-    not-moved _ _ _ _ _ _ (c .before .before .before .before .before .before .before .before .before .before .before .before .before .swept-area .ensures) _ (c .before .before .before .before .before .before .before .before .before .before .before .before .range-of .ensures) _ (sym stop ∙ i .1)
+    not-moved _ _ _ _ _ _ _ _ (sym stop ∙ i .1)
 
 enum-known-s : tie.Need-enum-known-s Inv-loop4 μ-loop4 Inv-loop3 μ-loop3 Inv-loop2 μ-loop2 Inv-loop μ-loop Inv-loop6 μ-loop6 Inv-loop5 μ-loop5
 enum-known-s c = search needs
@@ -116,20 +110,24 @@ loop4-holds : tie.Need-loop4-holds Inv-loop4 μ-loop4 Inv-loop3 μ-loop3 Inv-loo
 loop4-holds c =
     let i = c .before .before .before .before .before .before .before .before .loop3 .inv in
     let cell = c .before .before .before .before .before .before .place .ensures in
-    let shape = sym (c .before .before .before .before .before .part-at .ensures) ∙ ap shapeAsked (c .before .before .before .s .given .1) in
+    let shape = sym (c .before .before .before .before .before .quick-part .ensures) ∙ ap shapeAsked (c .before .before .before .s .given .1) in
     let begun = cell-begins (push room) _ _ _ _ _ _ _ _ (cells-turn (push room) _ _ _ _ _ _ _ _ _ (c .before .before .before .before .before .before .before .loop3-test .taken) _ cell) (c .before .before .before .s .given .0 .0) _ _ shape (c .before .boxes-at .ensures) (c .count-of .ensures) in
     (i .0, sym begun ∙ i .1)
 
-nth-aabb-requires :
-    tie.Need-nth-aabb-requires Inv-loop4 μ-loop4 Inv-loop3 μ-loop3 Inv-loop2 μ-loop2 Inv-loop μ-loop Inv-loop6 μ-loop6 Inv-loop5 μ-loop5
-nth-aabb-requires c κs = search needs
+quick-aabb-requires :
+    tie.Need-quick-aabb-requires Inv-loop4 μ-loop4 Inv-loop3 μ-loop3 Inv-loop2 μ-loop2 Inv-loop μ-loop Inv-loop6 μ-loop6 Inv-loop5 μ-loop5
+quick-aabb-requires c κs = search needs
 
 intersects-requires :
     tie.Need-intersects-requires Inv-loop4 μ-loop4 Inv-loop3 μ-loop3 Inv-loop2 μ-loop2 Inv-loop μ-loop Inv-loop6 μ-loop6 Inv-loop5 μ-loop5
 intersects-requires c κs = search needs
 
+crowded-requires :
+    tie.Need-crowded-requires Inv-loop4 μ-loop4 Inv-loop3 μ-loop3 Inv-loop2 μ-loop2 Inv-loop μ-loop Inv-loop6 μ-loop6 Inv-loop5 μ-loop5
+crowded-requires c κs = search needs
+
 returns-2 : tie.Need-returns-2 Inv-loop4 μ-loop4 Inv-loop3 μ-loop3 Inv-loop2 μ-loop2 Inv-loop μ-loop Inv-loop6 μ-loop6 Inv-loop5 μ-loop5
-returns-2 c = let i = c .before .before .before .before .before .loop4 .inv in not-moved _ _ _ _ _ _ (c .before .before .before .before .before .before .before .before .before .before .before .before .before .before .before .before .before .before .before .before .before .swept-area .ensures) _ (c .before .before .before .before .before .before .before .before .before .before .before .before .before .before .before .before .before .before .before .before .range-of .ensures) 6 (sym (box-refused (push room) _ _ _ _ _ _ _ (c .before .before .before .before .loop4-test .taken) (c .before .before .before .nth-aabb .ensures) 6 (full room _ _ (i .0) room _ _ (c .if2 .taken) (sym (c .before .before .intersects .ensures) ∙ c .before .if1 .taken))) ∙ i .1)
+returns-2 c = c .crowded .ensures
 
 mul-b : tie.Need-mul-b Inv-loop4 μ-loop4 Inv-loop3 μ-loop3 Inv-loop2 μ-loop2 Inv-loop μ-loop Inv-loop6 μ-loop6 Inv-loop5 μ-loop5
 mul-b c = let i = c .before .before .before .before .before .loop4 .inv .0 .whole in omega arith
@@ -152,13 +150,13 @@ loop4-again c =
     let l = c .before .before .before .before .loop4 .list in
     let i = c .before .before .before .before .loop4 .inv in
     let o = sym (c .before .intersects .ensures) in
-    let boxes-in : BoxList → List Aabb = λ x. x .boxes in
-    let count-in : BoxList → ℕ = λ x. x .count in
-    let m = ⊎-elim (λ w. let b : l .count < 128 = w .1 .left in kept room room _ _ (l .boxes) (c .if1 .list .boxes) (l .count) (c .if1 .list .count) (i .0) (ap boxes-in (w .2)) (ap count-in (w .2)) b b (o ∙ w .0 .taken)) (λ w. passed room room _ _ (l .boxes) (c .if1 .list .boxes) (l .count) (c .if1 .list .count) (i .0) (ap boxes-in (w .1)) (ap count-in (w .1)) (o ∙ w .0 .left)) (c .if1 .came) in
-    (m .0, sym (box-next (push room) _ _ _ _ _ _ _ (c .before .before .before .loop4-test .taken) (c .before .before .nth-aabb .ensures) _ (m .1)) ∙ i .1)
+    let boxes-in : Few → List Aabb = λ x. x .boxes in
+    let count-in : Few → ℕ = λ x. x .count in
+    let m = ⊎-elim (λ w. let b : l .count < few = w .1 .left in kept few room _ _ (l .boxes) (c .if1 .list .boxes) (l .count) (c .if1 .list .count) (i .0) (ap boxes-in (w .2)) (ap count-in (w .2)) b (omega arith) (o ∙ w .0 .taken)) (λ w. passed few room _ _ (l .boxes) (c .if1 .list .boxes) (l .count) (c .if1 .list .count) (i .0) (ap boxes-in (w .1)) (ap count-in (w .1)) (o ∙ w .0 .left)) (c .if1 .came) in
+    (m .0, sym (box-next (push room) _ _ _ _ _ _ _ (c .before .before .before .loop4-test .taken) (c .before .before .quick-aabb .ensures) _ (m .1)) ∙ i .1)
 
 add-z : tie.Need-add-z Inv-loop4 μ-loop4 Inv-loop3 μ-loop3 Inv-loop2 μ-loop2 Inv-loop μ-loop Inv-loop6 μ-loop6 Inv-loop5 μ-loop5
-add-z c = let h : c .before .before .before .before .before .before .before .before .before .before .loop3 .z < c .before .before .before .before .before .before .before .before .before .before .before .before .before .before .before .before .range-of .result .z .count = c .before .before .before .before .before .before .before .before .before .loop3-test .taken in omega (arith, c .before .before .before .before .before .before .before .before .before .before .before .before .before .before .before .before .range-of .ok .1 .1 .1 .1 .0)
+add-z c = let h : c .before .before .before .before .before .before .before .before .before .before .loop3 .z < c .before .before .before .before .before .before .before .before .before .before .before .before .before .before .before .before .before .before .before .args .r .z .count = c .before .before .before .before .before .before .before .before .before .loop3-test .taken in omega (arith, c .before .before .before .before .before .before .before .before .before .before .before .before .before .before .before .before .before .before .before .good .1 .1 .1 .1 .1 .1 .0)
 
 loop3-less : tie.Need-loop3-less Inv-loop4 μ-loop4 Inv-loop3 μ-loop3 Inv-loop2 μ-loop2 Inv-loop μ-loop Inv-loop6 μ-loop6 Inv-loop5 μ-loop5
 loop3-less c = omega arith
@@ -167,7 +165,7 @@ loop3-again : tie.Need-loop3-again Inv-loop4 μ-loop4 Inv-loop3 μ-loop3 Inv-loo
 loop3-again c = let i = c .before .loop4 .inv in (i .0, sym (boxes-end (push room) _ _ _ _ _ _ (c .loop4-test .left)) ∙ i .1)
 
 add-x : tie.Need-add-x Inv-loop4 μ-loop4 Inv-loop3 μ-loop3 Inv-loop2 μ-loop2 Inv-loop μ-loop Inv-loop6 μ-loop6 Inv-loop5 μ-loop5
-add-x c = let h : c .before .before .before .loop2 .x < c .before .before .before .before .before .before .before .range-of .result .x .count = c .before .before .loop2-test .taken in omega arith
+add-x c = let h : c .before .before .before .loop2 .x < c .before .before .before .before .before .before .before .before .before .before .args .r .x .count = c .before .before .loop2-test .taken in omega (arith, c .before .before .before .before .before .before .before .before .before .before .good .1 .1 .1 .1 .1 .1 .0)
 
 loop2-less : tie.Need-loop2-less Inv-loop4 μ-loop4 Inv-loop3 μ-loop3 Inv-loop2 μ-loop2 Inv-loop μ-loop Inv-loop6 μ-loop6 Inv-loop5 μ-loop5
 loop2-less c = omega arith
@@ -176,7 +174,7 @@ loop2-again : tie.Need-loop2-again Inv-loop4 μ-loop4 Inv-loop3 μ-loop3 Inv-loo
 loop2-again c = let i = c .before .loop3 .inv in (i .0, sym (cells-end (push room) _ _ _ _ _ _ _ _ _ (c .loop3-test .left)) ∙ i .1)
 
 add-y : tie.Need-add-y Inv-loop4 μ-loop4 Inv-loop3 μ-loop3 Inv-loop2 μ-loop2 Inv-loop μ-loop Inv-loop6 μ-loop6 Inv-loop5 μ-loop5
-add-y c = let h : c .before .before .before .loop .y < c .before .before .before .before .before .range-of .result .y .count = c .before .before .loop-test .taken in omega (arith, c .before .before .before .before .before .range-of .ok .1 .1 .1 .0)
+add-y c = let h : c .before .before .before .loop .y < c .before .before .before .before .before .before .before .before .args .r .y .count = c .before .before .loop-test .taken in omega (arith, c .before .before .before .before .before .before .before .before .good .1 .1 .1 .1 .1 .1 .0)
 
 loop-less : tie.Need-loop-less Inv-loop4 μ-loop4 Inv-loop3 μ-loop3 Inv-loop2 μ-loop2 Inv-loop μ-loop Inv-loop6 μ-loop6 Inv-loop5 μ-loop5
 loop-less c = omega arith
@@ -224,7 +222,7 @@ loop6-again c =
     let at-axis-of = at-loop6 .before .before .before .before in
     let at-loop5 = at-axis-of .before .before in
     let at-loop = at-loop5 .before .before .before in
-    clip-turn (at-loop .loop .list .boxes) (at-loop .loop .list .count) room (at-loop .loop .inv .0 .whole) _ (at-loop6 .loop6 .i) (fully room _ _ (at-loop .loop .inv .0)) (clipAlong (at-axis-of .axis-of .result)) (at-loop5 .loop5 .s .now .aabb) _ (at-loop6 .loop6 .d) _ _ (at-loop6-test .loop6-test .taken) (c .clip-along .ensures) (at-loop6 .loop6 .inv)
+    clip-turn (at-loop .loop .list .boxes) (at-loop .loop .list .count) few (at-loop .loop .inv .0 .whole) _ (at-loop6 .loop6 .i) (fully few _ _ (at-loop .loop .inv .0)) (clipAlong (at-axis-of .axis-of .result)) (at-loop5 .loop5 .s .now .aabb) _ (at-loop6 .loop6 .d) _ _ (at-loop6-test .loop6-test .taken) (c .clip-along .ensures) (at-loop6 .loop6 .inv)
 
 gone-requires : tie.Need-gone-requires Inv-loop4 μ-loop4 Inv-loop3 μ-loop3 Inv-loop2 μ-loop2 Inv-loop μ-loop Inv-loop6 μ-loop6 Inv-loop5 μ-loop5
 gone-requires c κs = search needs
@@ -247,9 +245,7 @@ returns-3 c =
     let at-loop5 = at-loop5-test .before in
     let at-loop-test = at-loop5 .before .before in
     let at-loop = at-loop-test .before in
-    let at-range-of = at-loop .before .before in
-    let at-swept-area = at-range-of .before in
-    moved _ _ _ _ _ _ (at-swept-area .swept-area .ensures) _ (at-range-of .range-of .ensures) _ (sym (layers-end (push room) _ _ _ _ _ _ _ (at-loop-test .loop-test .left)) ∙ at-loop .loop .inv .1) _ (pass-over _ _ (at-loop5 .loop5 .pass) (at-loop5 .loop5 .s) (at-next .next .result) _ (made (at-loop .loop .list .boxes) (at-loop .loop .list .count) room (at-loop .loop .inv .0 .whole) _ _ (fully room _ _ (at-loop .loop .inv .0)) _ (at-loop5 .loop5 .pass) (at-loop5 .loop5 .s) _ _ _ _ (at-loop6 .loop6 .d) (at-axis-of .axis-of .ensures) (at-wanted .wanted .ensures) (at-loop6-test .loop6-test .left) (at-loop6 .loop6 .inv) (at-gone .gone .ensures) (at-next .next .ensures)) (at-loop5-test .loop5-test .taken) (c .before .if3 .taken) (at-loop5 .loop5 .inv)) _ (c .ended .ensures)
+    moved _ _ _ _ _ _ _ _ (sym (layers-end (push room) _ _ _ _ _ _ _ (at-loop-test .loop-test .left)) ∙ at-loop .loop .inv .1) _ (pass-over _ _ (at-loop5 .loop5 .pass) (at-loop5 .loop5 .s) (at-next .next .result) _ (made (at-loop .loop .list .boxes) (at-loop .loop .list .count) few (at-loop .loop .inv .0 .whole) _ _ (fully few _ _ (at-loop .loop .inv .0)) _ (at-loop5 .loop5 .pass) (at-loop5 .loop5 .s) _ _ _ _ (at-loop6 .loop6 .d) (at-axis-of .axis-of .ensures) (at-wanted .wanted .ensures) (at-loop6-test .loop6-test .left) (at-loop6 .loop6 .inv) (at-gone .gone .ensures) (at-next .next .ensures)) (at-loop5-test .loop5-test .taken) (c .before .if3 .taken) (at-loop5 .loop5 .inv)) _ (c .ended .ensures)
 
 add-pass : tie.Need-add-pass Inv-loop4 μ-loop4 Inv-loop3 μ-loop3 Inv-loop2 μ-loop2 Inv-loop μ-loop Inv-loop6 μ-loop6 Inv-loop5 μ-loop5
 add-pass c = omega arith
@@ -267,7 +263,7 @@ loop5-again c =
     let at-loop5-test = at-axis-of .before in
     let at-loop5 = at-loop5-test .before in
     let at-loop = at-loop5 .before .before .before in
-    pass-on _ _ (at-loop5 .loop5 .pass) (at-loop5 .loop5 .s) (c .before .next .result) _ (made (at-loop .loop .list .boxes) (at-loop .loop .list .count) room (at-loop .loop .inv .0 .whole) _ _ (fully room _ _ (at-loop .loop .inv .0)) _ (at-loop5 .loop5 .pass) (at-loop5 .loop5 .s) _ _ _ _ (at-loop6 .loop6 .d) (at-axis-of .axis-of .ensures) (at-wanted .wanted .ensures) (at-loop6-test .loop6-test .left) (at-loop6 .loop6 .inv) (at-gone .gone .ensures) (c .before .next .ensures)) (at-loop5-test .loop5-test .taken) (c .if3 .left) (at-loop5 .loop5 .inv)
+    pass-on _ _ (at-loop5 .loop5 .pass) (at-loop5 .loop5 .s) (c .before .next .result) _ (made (at-loop .loop .list .boxes) (at-loop .loop .list .count) few (at-loop .loop .inv .0 .whole) _ _ (fully few _ _ (at-loop .loop .inv .0)) _ (at-loop5 .loop5 .pass) (at-loop5 .loop5 .s) _ _ _ _ (at-loop6 .loop6 .d) (at-axis-of .axis-of .ensures) (at-wanted .wanted .ensures) (at-loop6-test .loop6-test .left) (at-loop6 .loop6 .inv) (at-gone .gone .ensures) (c .before .next .ensures)) (at-loop5-test .loop5-test .taken) (c .if3 .left) (at-loop5 .loop5 .inv)
 
 ended-requires-2 :
     tie.Need-ended-requires-2 Inv-loop4 μ-loop4 Inv-loop3 μ-loop3 Inv-loop2 μ-loop2 Inv-loop μ-loop Inv-loop6 μ-loop6 Inv-loop5 μ-loop5
@@ -278,9 +274,7 @@ returns-4 c =
     let at-loop5 = c .before .before in
     let at-loop-test = at-loop5 .before .before in
     let at-loop = at-loop-test .before in
-    let at-range-of = at-loop .before .before in
-    let at-swept-area = at-range-of .before in
-    moved _ _ _ _ _ _ (at-swept-area .swept-area .ensures) _ (at-range-of .range-of .ensures) _ (sym (layers-end (push room) _ _ _ _ _ _ _ (at-loop-test .loop-test .left)) ∙ at-loop .loop .inv .1) _ (passes-end _ _ (at-loop5 .loop5 .pass) (at-loop5 .loop5 .s) _ (c .before .loop5-test .left) (at-loop5 .loop5 .inv)) _ (c .ended2 .ensures)
+    moved _ _ _ _ _ _ _ _ (sym (layers-end (push room) _ _ _ _ _ _ _ (at-loop-test .loop-test .left)) ∙ at-loop .loop .inv .1) _ (passes-end _ _ (at-loop5 .loop5 .pass) (at-loop5 .loop5 .s) _ (c .before .loop5-test .left) (at-loop5 .loop5 .inv)) _ (c .ended2 .ensures)
 
 pub swept-through-spec : {M : Type 1} → statement M
 swept-through-spec =
@@ -298,22 +292,21 @@ swept-through-spec =
     μ-loop6
     Inv-loop5
     μ-loop5
-    swept-area-requires
-    range-of-requires
     new-requires
     loop-holds
     loop2-holds
     loop3-holds
     place-requires
-    part-at-requires
+    quick-part-requires
     enum-known-n
     returns
     enum-known-s
     boxes-at-requires
     count-of-requires
     loop4-holds
-    nth-aabb-requires
+    quick-aabb-requires
     intersects-requires
+    crowded-requires
     returns-2
     mul-b
     element-set-from-b
