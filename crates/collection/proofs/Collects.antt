@@ -1,4 +1,4 @@
--- Collection cell by cell and box by box, as the code does it, comes to `collectUpTo`. Assumes nothing.
+-- Collection cell by cell and box by box, as the code does it, comes to `collectBlockBoxes`. Assumes nothing.
 use mathlib.Core.Path.{_≡_, refl, sym, ap, _∙_}
 use mathlib.Core.Bool.{Bool, true, false}
 use mathlib.Core.List.{List, [], _∷_, _++_}
@@ -24,7 +24,7 @@ use Rattle.ranges.specs.declared.At.{At}
 use Rattle.ranges.specs.Ranges.{placeAt, placeOf, startOf, nextOf, trimmed}
 use Rattle.ranges.specs.Walk.{line, layer, walk}
 use Rattle.ranges.proofs.Walks.{walk-trimmed, rest, rest-start, rest-turn, rest-end, Within, start-within, next-within, left, next-less}
-use Rattle.collection.specs.Collect.{cellShape, offer, offerAll, visit, push, rangeOf, collectIn, collectUpTo}
+use Rattle.collection.specs.Collect.{cellShape, offer, offerAll, visit, push, rangeOf, collectIn, collectBlockBoxes}
 use Rattle.tables.specs.Tables.{boxesAt}
 use Rattle.solids.specs.declared.Shape.{Shape}
 use Rattle.solids.specs.Parts.{shapeIn, countOf, nthAabb}
@@ -212,7 +212,7 @@ module _ (most : ℕ) (bs : List Aabb) (i : ℕ) (has : Room most bs i) where
 
 pub empty-list : (l : BoxList) → l ≡ emptyList → Room room (l .boxes) (l .count) × (listOf l ≡ [])
 unfolding emptyList
-empty-list l e = rw e (record { whole = length-replicate 128 noBox; counts = omega arith }, refl)
+empty-list l e = rw e (record { whole = length-replicate room noBox; counts = omega arith }, refl)
 
 -- ---- the answers
 module _ (cap : ℕ) (look : Pos → Ask Block) (records : List ℕ) (shapes : List Float) (area : Aabb) (r : Range) where
@@ -229,6 +229,6 @@ module _ (cap : ℕ) (look : Pos → Ask Block) (records : List ℕ) (shapes : L
   not-collected k h = rw (was-refused k h)
 
   -- for the range of the area, as `range_of` answers it
-  pub in-range : r ≡ trimmed (rangeOf area) → collectIn cap look records shapes area r ≡ collectUpTo cap look records shapes area
-  unfolding collectUpTo
+  pub in-range : r ≡ trimmed (rangeOf area) → collectIn cap look records shapes area r ≡ collectBlockBoxes cap look records shapes area
+  unfolding collectBlockBoxes
   in-range e = rw (e, walk-trimmed (visiting (push cap) look records shapes area) (rangeOf area) [])

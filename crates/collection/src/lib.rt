@@ -10,7 +10,7 @@ use window::Pos;
 use window::Window;
 ghost use mathlib.Core.Path.{_≡_};
 ghost use Prim.Native.Nat.{_≤_};
-ghost use Rattle.sweeps.specs.Lists.{room, heldIn};
+ghost use Rattle.sweeps.specs.Lists.{room, capOf, heldIn};
 ghost use Rattle.tables.specs.Tables.{boxesAt};
 ghost use Rattle.ranges.specs.Ranges.{trimmed};
 ghost use Rattle.solids.specs.Parts.{countOf, nthAabb};
@@ -87,18 +87,18 @@ fn collect_up_to(cap: usize, records: &[u32], shapes: &[f32], cells: &[u32], w: 
     Collected { list, refusal: 0 }
 }
 
-// Collection into the list from the cells of a range that is known already. It refuses 5 and 6 alone.
-pub fn collect_range(records: &[u32], shapes: &[f32], cells: &[u32], w: Window, area: Aabb, r: Range) -> Collected
-    ensures { λ c. ⌜ heldIn c ≡ heldAsked (collectIn room (lookAt (now (cells .entry)) w) (now (records .entry)) (now (shapes .entry)) area r) ⌝ }
+// Collection into the list from the cells of a range that is known already, under a cap of the rules. It refuses 5 and 6 alone.
+pub fn collect_range(cap: u32, records: &[u32], shapes: &[f32], cells: &[u32], w: Window, area: Aabb, r: Range) -> Collected
+    ensures { λ c. ⌜ heldIn c ≡ heldAsked (collectIn (capOf cap) (lookAt (now (cells .entry)) w) (now (records .entry)) (now (shapes .entry)) area r) ⌝ }
 {
-    collect_up_to(128, records, shapes, cells, w, area, r)
+    collect_up_to(sweeps::cap_of(cap), records, shapes, cells, w, area, r)
 }
 
 // The same from the cells that the area reaches.
-pub fn collect(records: &[u32], shapes: &[f32], cells: &[u32], w: Window, area: Aabb) -> Collected
-    ensures { λ r. ⌜ heldIn r ≡ heldAsked (collectBlockBoxes (lookAt (now (cells .entry)) w) (now (records .entry)) (now (shapes .entry)) area) ⌝ }
+pub fn collect(cap: u32, records: &[u32], shapes: &[f32], cells: &[u32], w: Window, area: Aabb) -> Collected
+    ensures { λ r. ⌜ heldIn r ≡ heldAsked (collectBlockBoxes (capOf cap) (lookAt (now (cells .entry)) w) (now (records .entry)) (now (shapes .entry)) area) ⌝ }
 {
-    collect_range(records, shapes, cells, w, area, range_of(area))
+    collect_range(cap, records, shapes, cells, w, area, range_of(area))
 }
 
 // Whether a block box strictly overlaps the area. It stops at its first hit: no cell after that is asked for. It refuses 5 alone.

@@ -1,14 +1,14 @@
 -- How the program makes a move in two ways: over a list with room for few boxes, and where more come over the whole list. No contract of a host's
 -- function cites this file.
 use mathlib.Core.List.{List}
-use Prim.Native.Nat.{ℕ}
+use Prim.Native.Nat.{ℕ, min}
 use lib.ListN.{replicate}
 use lib.Ieee.{Float}
 use Rattle.base.specs.Ask.{Ask, refused, found, _>>=_}
 use Rattle.boxes.specs.declared.Aabb.{Aabb}
 use Rattle.sweeps.specs.declared.Request.{Request}
 use Rattle.sweeps.specs.declared.MoveResult.{MoveResult}
-use Rattle.sweeps.specs.Lists.{room, noBox}
+use Rattle.sweeps.specs.Lists.{capOf, noBox}
 use Rattle.sweeps.specs.Move.{moveOver}
 use Rattle.window.specs.declared.Pos.{Pos}
 use Rattle.window.specs.Look.{Block}
@@ -19,11 +19,15 @@ use Rattle.through.specs.declared.Few.{Few}
 abbrev pub few : ℕ
 few = 42
 
+-- how many boxes are held in it under a cap of the rules
+abbrev pub fewOf : ℕ → ℕ
+fewOf cap = min (capOf cap) few
+
 unfoldable pub emptyFew : Few
 emptyFew = record { boxes = replicate few noBox; count = 0 }
 
 -- the move over what is collected from a range
-unfoldable pub moveFrom : (Pos → Ask Block) → List ℕ → List Float → Request → Aabb → Range → Ask MoveResult
-moveFrom look records shapes q area r = do
-  boxes ← collectIn room look records shapes area r
+unfoldable pub moveFrom : ℕ → (Pos → Ask Block) → List ℕ → List Float → Request → Aabb → Range → Ask MoveResult
+moveFrom cap look records shapes q area r = do
+  boxes ← collectIn cap look records shapes area r
   found (moveOver boxes (q .aabb) (q .delta) (q .step) (q .ground))

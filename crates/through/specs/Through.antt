@@ -14,9 +14,10 @@ use Rattle.collection.specs.Collect.{sweptArea, collectBlockBoxes}
 use Rattle.through.specs.declared.AskedMove.{AskedMove}
 use Rattle.through.specs.declared.AskedMove.the-variants.{To, Refused}
 
-unfoldable pub moveAabb : (Pos → Ask Block) → List ℕ → List Float → Aabb → Vec3 → Float → Bool → Ask MoveResult
-moveAabb look records shapes aabb delta stepHeight wasOnGround = do
-  boxes ← collectBlockBoxes look records shapes (sweptArea aabb delta stepHeight)
+-- `cap` is the cap in force
+unfoldable pub moveAabb : ℕ → (Pos → Ask Block) → List ℕ → List Float → Aabb → Vec3 → Float → Bool → Ask MoveResult
+moveAabb cap look records shapes aabb delta stepHeight wasOnGround = do
+  boxes ← collectBlockBoxes cap look records shapes (sweptArea aabb delta stepHeight)
   found (moveOver boxes aabb delta stepHeight wasOnGround)
 
 abbrev pub movedAsked : AskedMove → Ask MoveResult

@@ -1,6 +1,6 @@
 -- `collection::collect` meets its contract. Assumes nothing.
 use mathlib.Core.Path.{ap, _∙_}
-use Rattle.sweeps.specs.Lists.{room}
+use Rattle.sweeps.specs.Lists.{capOf}
 use Rattle.collection.specs.Answers.{heldAsked}
 use Rattle.collection.proofs.Collects.{in-range}
 use borrow.Author.Needs.{needs}
@@ -14,7 +14,7 @@ collect-range-requires : tie.Need-collect-range-requires
 collect-range-requires c κs = search needs
 
 returns : tie.Need-returns
-returns c = c .collect-range .ensures ∙ ap heldAsked (in-range room _ _ _ _ _ (c .before .range-of .ensures))
+returns c = c .collect-range .ensures ∙ ap heldAsked (in-range (capOf _) _ _ _ _ _ (c .before .range-of .ensures))
 
 pub collect-spec : {M : Type 1} → statement M
 collect-spec = tie.close (tie.spec range-of-requires collect-range-requires returns)

@@ -112,7 +112,7 @@ mul-b : tie.Need-mul-b Inv-loop2 μ-loop2 Inv-loop μ-loop
 mul-b c =
     let turn = c .before .before .before .before .before in
     let start = c .before .before .before .before .before .before .before .before .before .before .before .before .before .before .before .before .before .before .before .before .before in
-    let p : start .args .cap ≤ 128 = start .pre in
+    let p : start .args .cap ≤ room = start .pre in
     let i = turn .loop2 .inv .0 .whole in
     omega arith
 
@@ -120,7 +120,7 @@ element-set-from-b : tie.Need-element-set-from-b Inv-loop2 μ-loop2 Inv-loop μ-
 element-set-from-b c =
     let turn = c .before .before .before .before .before in
     let start = c .before .before .before .before .before .before .before .before .before .before .before .before .before .before .before .before .before .before .before .before .before in
-    let p : start .args .cap ≤ 128 = start .pre in
+    let p : start .args .cap ≤ room = start .pre in
     let i = turn .loop2 .inv .0 .whole in
     omega arith
 
@@ -128,7 +128,7 @@ add-list : tie.Need-add-list Inv-loop2 μ-loop2 Inv-loop μ-loop
 add-list c =
     let turn = c .before .before .before .before .before in
     let start = c .before .before .before .before .before .before .before .before .before .before .before .before .before .before .before .before .before .before .before .before .before in
-    let p : start .args .cap ≤ 128 = start .pre in
+    let p : start .args .cap ≤ room = start .pre in
     let i = turn .loop2 .inv .0 .whole in
     omega arith
 
@@ -143,7 +143,7 @@ loop2-again c =
     let turn = c .before .before .before .before in
     let start = c .before .before .before .before .before .before .before .before .before .before .before .before .before .before .before .before .before .before .before .before in
     let cap = start .args .cap in
-    let p : cap ≤ 128 = start .pre in
+    let p : cap ≤ room = start .pre in
     let l = turn .loop2 .list in
     let m = c .if2 .list in
     let i = turn .loop2 .inv in

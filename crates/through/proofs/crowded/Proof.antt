@@ -11,10 +11,10 @@ move-over-requires : tie.Need-move-over-requires
 move-over-requires c κs = search needs
 
 returns : tie.Need-returns
-returns c = moved-over _ _ _ _ _ _ _ _ (c .before .before .collect-range .ensures) (c .before .if1 .taken) _ (c .move-over .ensures)
+returns c = moved-over _ _ _ _ _ _ _ _ _ (c .before .before .collect-range .ensures) (c .before .if1 .taken) _ (c .move-over .ensures)
 
 returns-2 : tie.Need-returns-2
-returns-2 c = told-refused _ _ _ _ _ _ _ _ (c .before .collect-range .ensures) (c .if1 .left)
+returns-2 c = told-refused _ _ _ _ _ _ _ _ _ (c .before .collect-range .ensures) (c .if1 .left)
 
 pub crowded-spec : {M : Type 1} → statement M
 crowded-spec = tie.close (tie.spec collect-range-requires move-over-requires returns returns-2)
