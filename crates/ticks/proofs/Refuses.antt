@@ -158,7 +158,7 @@ module _ (cells : List ℕ) (w : Window) (records : List ℕ) where
     on-refuses : (aabb : Aabb) (onGround : Bool) (flotation liquid : LiquidKind) (v : Vec3) → Refuses FiveToSeven (moveOn (lookAt cells w) records shapes rules body aabb onGround flotation liquid v)
     unfolding moveOn
     on-refuses aabb onGround flotation liquid v =
-        after _ _ (wider _ five-or-six (move-refuses cells w records shapes aabb (pulled body flotation v) (body .step) onGround)) (λ m.
+        after _ _ (wider _ five-or-six (move-refuses _ cells w records shapes aabb (pulled body flotation v) (body .step) onGround)) (λ m.
         after-refuses (lookAt cells w) looks records rules _ body liquid _ _)
 
     pub core-refuses : (motion : Motion) (age : ℕ) → Refuses FiveToSeven (stepBodySensed (lookAt cells w) records shapes rules body motion age)

@@ -1,5 +1,5 @@
 -- The step: physics.rs' `step_body_sensed`, in the Rust's order and line by line. `look` is its `block_at`: what is looked up outside the window
--- is refused, and the first refusal ends the step. The mob constants and the air state come as `rules`. What the Rust changes through `&mut` goes
+-- is refused, and the first refusal ends the step. The mob constants, the air state and the cap come as `rules`. What the Rust changes through `&mut` goes
 -- in and comes back by value, and where it has an `Option<LiquidKind>` there is a `LiquidKind`, whose `None` is the Rust's. The sample of friction
 -- that it takes after its move is asked for first (`supportAfter` of `samples`), and what it does to the velocity is worked out from it (`drags`).
 use mathlib.Core.Bool.{Bool, false, not, _&&_}
@@ -11,6 +11,7 @@ use Rattle.base.specs.Ask.{Ask, refused, found, _>>=_}
 use Rattle.boxes.specs.declared.Vec3.{Vec3}
 use Rattle.boxes.specs.declared.Aabb.{Aabb}
 use Rattle.sweeps.specs.declared.MoveResult.{MoveResult}
+use Rattle.sweeps.specs.Lists.{capOf}
 use Rattle.boxes.specs.Boxes.{plus, fromFeet, feetOf}
 use Rattle.tables.specs.declared.LiquidKind.{LiquidKind}
 use Rattle.tables.specs.declared.LiquidKind.the-variants.{None}
@@ -61,7 +62,7 @@ afterMove look records rules body liquid feet onGround v = do
 unfoldable pub moveOn : (Pos → Ask Block) → List ℕ → List Float → Rules → Body → Aabb → Bool → LiquidKind → LiquidKind → Vec3 → Ask Tick
 moveOn look records shapes rules body aabb onGround flotation liquid v = do
   let velocity : Vec3 = pulled body flotation v
-  result ← moveAabb look records shapes aabb velocity (body .step) onGround
+  result ← moveAabb (capOf (rules .cap)) look records shapes aabb velocity (body .step) onGround
   afterMove look records rules body liquid (feetOf (result .aabb)) (result .ground) (keptAfter (result .moved) velocity)
 
 -- ---- step_body_sensed, whole

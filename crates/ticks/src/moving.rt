@@ -67,7 +67,7 @@ fn move_on(
     ensures { λ r. ⌜ tickAsked r ≡ moveOn (lookAt (now (cells .entry)) w) (now (records .entry)) (now (shapes .entry)) rules body aabb ground flotation liquid v ⌝ }
 {
     let velocity = drags::pulled(body, flotation, v);
-    let told = through::move_through(records, shapes, cells, w, aabb, velocity, body.step, ground);
+    let told = through::move_through(rules.cap, records, shapes, cells, w, aabb, velocity, body.step, ground);
     match told {
         AskedMove::Refused(n) => AskedTick::Refused(n),
         AskedMove::To(m) => {
