@@ -58,6 +58,7 @@ checked-step-spec =
     tie.close
     (tie.spec
     scene-words-requires
+    cap-in-requires
     rules-from-requires
     cells-in-requires
     step-words-requires
