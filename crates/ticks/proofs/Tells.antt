@@ -15,6 +15,7 @@ use Rattle.tables.specs.declared.LiquidKind.{LiquidKind}
 use Rattle.tables.specs.declared.LiquidKind.the-variants.{None}
 use Rattle.window.specs.declared.Pos.{Pos}
 use Rattle.window.specs.Look.{Block}
+use Rattle.sweeps.specs.Lists.{capOf}
 use Rattle.through.specs.Through.{moveAabb}
 use Rattle.bodies.specs.declared.Model.{Model}
 use Rattle.bodies.specs.declared.Model.the-variants.{Item, Living, FallingBlock, Other}
@@ -92,7 +93,7 @@ module _ (look : Pos → Ask Block) (records : List ℕ) (rules : Rules) (body :
     unfolding moveOn
     on-tells flotation liquid v =
         let velocity = pulled body flotation v in
-        after (moveAabb look records shapes start velocity (body .step) (motion .ground)) _
+        after (moveAabb (capOf (rules .cap)) look records shapes start velocity (body .step) (motion .ground)) _
         (λ m. after-tells liquid (feetOf (m .aabb)) (m .ground) (keptAfter (m .moved) velocity))
 
     abbrev ToldUnless : Bool → Tick → Type 0
