@@ -35,7 +35,7 @@ pub extern "C" fn boltjuniper_move(
     let w = window::window_of(ox, oy, oz, sx, sy, sz, lowest, highest, air);
     if movers::whole_move(mover, ground, out.len()) {
         let q = movers::request_of(mover, step, ground);
-        let a = view::move_window(cap, records, shapes, cells, w, q.aabb, q.delta, q.step, q.ground);
+        let a = view::move_window(records, shapes, cells, w, q.aabb, q.delta, q.step, q.ground, cap);
         return lent_numbers::move_into(out, a);
     }
     let first = lent::check_direct(records, shapes, cells, w);

@@ -21,7 +21,7 @@ pub struct HitAnswer {
 }
 
 // For hosts: collection, with tables, window, cap and area checked before any cell is asked for.
-pub fn collect_block_boxes(cap: u32, records: &[u32], shapes: &[f32], cells: &[u32], w: Window, area: Aabb) -> Collected
+pub fn collect_block_boxes(records: &[u32], shapes: &[f32], cells: &[u32], w: Window, area: Aabb, cap: u32) -> Collected
     ensures { λ r. ⌜ heldIn r ≡ collectEntry cap (now (records .entry)) (now (shapes .entry)) (now (cells .entry)) w area ⌝ }
 {
     let bad = lent::check_direct(records, shapes, cells, w);
@@ -79,7 +79,7 @@ fn is_fit(aabb: Aabb, delta: Vec3) -> bool
 }
 
 // For hosts: the move through a window. 1, 2, 3 and 4 in order, before any cell is asked for; then 5 or 6.
-pub fn move_aabb(cap: u32, records: &[u32], shapes: &[f32], cells: &[u32], w: Window, aabb: Aabb, delta: Vec3, step: f64, ground: bool) -> MoveAnswer
+pub fn move_aabb(records: &[u32], shapes: &[f32], cells: &[u32], w: Window, aabb: Aabb, delta: Vec3, step: f64, ground: bool, cap: u32) -> MoveAnswer
     ensures { λ r. ⌜ r ≡ moveEntry cap (now (records .entry)) (now (shapes .entry)) (now (cells .entry)) w aabb delta step ground ⌝ }
 {
     let bad = lent::check_direct(records, shapes, cells, w);

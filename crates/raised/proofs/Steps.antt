@@ -32,9 +32,8 @@ use Rattle.drags.specs.declared.Support.{Support}
 use Rattle.drags.specs.Drags.{applyLivingDrag, keptAfter, pulled}
 use Rattle.samples.specs.Samples.{supportingFriction, livingSample, livingSupport, groundSupport, supportAfter}
 use Rattle.through.specs.Through.{moveAabb}
-use Rattle.ticks.specs.declared.Begun.{Begun}
 use Rattle.ticks.specs.declared.Tick.{Tick}
-use Rattle.ticks.specs.Step.{tickTo, tickAfter, afterMove, moveOnBy, tickBegins, senses, stepBodyBy, stepBodySensed}
+use Rattle.ticks.specs.Step.{tickAfter, afterMove, moveOn, tickBegins, senses, stepBodySensed}
 use Rattle.step.specs.declared.StepAnswer.{StepAnswer}
 use Rattle.step.specs.Answers.{finiteTick, stepAnswer, fitting, checkedAsked, stepEntry}
 use Rattle.falls.specs.declared.Fall.{Fall}
@@ -85,18 +84,18 @@ module _ (rules : Rules) (c d : ℕ) where
         rw (same-support body liquid feet onGround)
         (alike (supportAfter look records upper body liquid feet onGround) _ _ (λ support. ap found (same-tick body liquid feet onGround support v)))
 
-    -- ---- a tick by two moves side by side
-    module _ (move higher : Aabb → Vec3 → Float → Bool → Ask MoveResult) (both : (aabb : Aabb) (delta : Vec3) (step : Float) (ground : Bool) → Beside (move aabb delta step ground) (higher aabb delta step ground)) where
+    -- ---- a tick whose moves are side by side
+    module _ (shapes : List Float) (both : (aabb : Aabb) (delta : Vec3) (step : Float) (ground : Bool) → Beside (moveAabb (capOf c) look records shapes aabb delta step ground) (moveAabb (capOf d) look records shapes aabb delta step ground)) where
       moves-on : (body : Body) (aabb : Aabb) (onGround : Bool) (flotation liquid : LiquidKind) (v : Vec3)
-          → Beside (moveOnBy move look records lower body aabb onGround flotation liquid v) (moveOnBy higher look records upper body aabb onGround flotation liquid v)
-      unfolding moveOnBy
+          → Beside (moveOn look records shapes lower body aabb onGround flotation liquid v) (moveOn look records shapes upper body aabb onGround flotation liquid v)
+      unfolding moveOn
       moves-on body aabb onGround flotation liquid v =
           let velocity : Vec3 = pulled body flotation v in
           before _ _ _ _ (both aabb velocity (body .step) onGround)
           (λ m. same-after body liquid (feetOf (m .aabb)) (m .ground) (keptAfter (m .moved) velocity))
 
-      ticks : (body : Body) (motion : Motion) (age : ℕ) → Beside (stepBodyBy move look records lower body motion age) (stepBodyBy higher look records upper body motion age)
-      unfolding stepBodyBy
+      ticks : (body : Body) (motion : Motion) (age : ℕ) → Beside (stepBodySensed look records shapes lower body motion age) (stepBodySensed look records shapes upper body motion age)
+      unfolding stepBodySensed
       ticks body motion age =
           let aabb : Aabb = fromFeet (motion .feet) (body .width) (body .height) in
           after (tickBegins look records body aabb motion age) _ _ (λ begun.
@@ -111,13 +110,12 @@ module _ (rules : Rules) (c d : ℕ) (raise : Raised c d) (records : List ℕ) (
   same-refusal = rw (raise .first, raise .second)
 
   checked : Beside (checkedAsked records shapes cells w (withCap rules c) body given age) (checkedAsked records shapes cells w (withCap rules d) body given age)
-  unfolding stepBodySensed
   checked =
       let look : Pos → Ask Block = lookAt cells (withAir w (rules .air)) in
       rw same-refusal
       (chosen _ (refused (numberRefusal records (withCap rules d) body given)) _ _
       (before _ _ _ _
-      (ticks rules c d look records (moveAabb (capOf c) look records shapes) (moveAabb (capOf d) look records shapes)
+      (ticks rules c d look records shapes
       (move-raised records shapes cells (withAir w (rules .air)) (capOf c) (capOf d) (raise .above)) (bodyOf body) (motionOf given) age)
       (λ t. refl)))
 
