@@ -75,7 +75,8 @@ uint32_t boltjuniper_step(const uint32_t *records, size_t records_len, const flo
                           int32_t highest, const double *numbers, size_t numbers_len, const uint32_t *words, size_t words_len, uint64_t age,
                           double *out, size_t out_len);
 
-/* The same for tables and a window that were checked before, once for many bodies: it looks for neither 1 nor 2, and is as safe. */
+/* The same for tables and a window that were checked before, once for many bodies: it looks for neither 1 nor 2, and is as safe. With a summary behind
+   the window's words that was checked too, its move passes over what is empty. */
 uint32_t boltjuniper_step_checked(const uint32_t *records, size_t records_len, const float *shapes, size_t shapes_len, const uint32_t *cells,
                                   size_t cells_len, int32_t ox, int32_t oy, int32_t oz, uint32_t sx, uint32_t sy, uint32_t sz,
                                   int32_t lowest, int32_t highest, const double *numbers, size_t numbers_len, const uint32_t *words,
@@ -90,6 +91,43 @@ uint32_t boltjuniper_step_falling(const uint32_t *records, size_t records_len, c
                                   int32_t lowest, int32_t highest, const double *numbers, size_t numbers_len, const uint32_t *words,
                                   size_t words_len, uint64_t age, double sum, double landed, double *out, size_t out_len);
 
+/* A summary of a window: one word for each group of 4 by 4 by 4 cells, counted from the origin, in the cells' order ((y * groups on z) + z) * groups on x
+   + x, where there are (size + 3) / 4 groups along an axis. Its words stand behind the window's, in one array: cells, columns, groups. A group's word
+   is 0 when every cell of it in the window, as it is looked up, is a registered state that connects as nothing and has no boxes, else 1. Moves pass
+   over groups marked 0, and every answer is the same with a summary and without. A summary is of a window and an air state.
+
+   boltjuniper_build_summary writes it behind cells and columns. Returns 0; or 1, 2, 3 (the air state), then 11 (`cells` is not as long as cells, columns
+   and groups), and writes nothing. */
+uint32_t boltjuniper_build_summary(const uint32_t *records, size_t records_len, const float *shapes, size_t shapes_len, uint32_t *cells,
+                                   size_t cells_len, int32_t ox, int32_t oy, int32_t oz, uint32_t sx, uint32_t sy, uint32_t sz, int32_t lowest, int32_t highest,
+                                   uint32_t air);
+
+/* The cell at x y z becomes this state, and the word of its group is mended. Returns 0; or 1, 2, 3, 11, then 13 (a group's word disagrees with its cells),
+   then 5 (the cell is outside the window), and writes nothing. */
+uint32_t boltjuniper_set_block(const uint32_t *records, size_t records_len, const float *shapes, size_t shapes_len, uint32_t *cells,
+                               size_t cells_len, int32_t ox, int32_t oy, int32_t oz, uint32_t sx, uint32_t sy, uint32_t sz, int32_t lowest, int32_t highest,
+                               uint32_t air, int32_t x, int32_t y, int32_t z, uint32_t state);
+
+/* Returns 0; or 1, 2, 3, 11 or 13. Where it was 0, bodies of this air state may be stepped by boltjuniper_step_checked over the same array. That function
+   looks for neither 11 nor 13: over a summary that does not agree it may pass over a block, and is memory safe all the same. */
+uint32_t boltjuniper_check_summary(const uint32_t *records, size_t records_len, const float *shapes, size_t shapes_len, const uint32_t *cells,
+                                   size_t cells_len, int32_t ox, int32_t oy, int32_t oz, uint32_t sx, uint32_t sy, uint32_t sz, int32_t lowest, int32_t highest,
+                                   uint32_t air);
+
+/* As boltjuniper_move, boltjuniper_step and boltjuniper_step_falling, over a window with a summary, which is of the air state that is named, a step's among
+   its words: 11 and 13 come after 4, 13 at the cost of a look at every cell. */
+uint32_t boltjuniper_move_summed(const uint32_t *records, size_t records_len, const float *shapes, size_t shapes_len, const uint32_t *cells,
+                                 size_t cells_len, int32_t ox, int32_t oy, int32_t oz, uint32_t sx, uint32_t sy, uint32_t sz, int32_t lowest, int32_t highest,
+                                 uint32_t air, const double *mover, size_t mover_len, double step, uint32_t ground, uint32_t cap, double *out,
+                                 size_t out_len);
+uint32_t boltjuniper_step_summed(const uint32_t *records, size_t records_len, const float *shapes, size_t shapes_len, const uint32_t *cells,
+                                 size_t cells_len, int32_t ox, int32_t oy, int32_t oz, uint32_t sx, uint32_t sy, uint32_t sz, int32_t lowest, int32_t highest,
+                                 const double *numbers, size_t numbers_len, const uint32_t *words, size_t words_len, uint64_t age, double *out, size_t out_len);
+uint32_t boltjuniper_step_falling_summed(const uint32_t *records, size_t records_len, const float *shapes, size_t shapes_len, const uint32_t *cells,
+                                         size_t cells_len, int32_t ox, int32_t oy, int32_t oz, uint32_t sx, uint32_t sy, uint32_t sz, int32_t lowest, int32_t highest,
+                                         const double *numbers, size_t numbers_len, const uint32_t *words, size_t words_len, uint64_t age, double sum, double landed,
+                                         double *out, size_t out_len);
+
 /* The midnight run: one tick of each of many bodies over one table and a few windows, in one call. Tables are checked once, and each window once,
    however many bodies name it. Windows, bodies and answers stand in rows, one row behind the other.
 
@@ -100,6 +138,9 @@ uint32_t boltjuniper_step_falling(const uint32_t *records, size_t records_len, c
       0   the number of its window, from 0          1  2   its age, the low word first          3 to 8   the first six words of boltjuniper_step
    Its cap is 128: these are the rows of callers who rely on 6 at the 129th box. boltjuniper_midnight_capped takes a tenth word for each body:
       9   cap
+   A window may lend a summary: its own words are then cells, columns, groups, and behind them one word, the air state that the summary is of; their
+   number (9) says so. It is checked once. Bodies of that air state go by it, and are refused by 13, after 4, where a group's word disagrees with its
+   cells; a body that names another is stepped over cells and columns.
    For each body 13 numbers are written, row i for body i:
       0   its refusal, or 0                         1 to 12   the twelve of boltjuniper_step_falling
    A refused body has its own number there, its motion and fall record as they were handed in, liquid 0 and case 0: 3 for a row that is not there

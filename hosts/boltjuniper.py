@@ -128,6 +128,12 @@ DECLARED = {
     "step": TABLES + WINDOW + BODY + SLICE,
     "step_checked": TABLES + WINDOW + BODY + SLICE,
     "step_falling": TABLES + WINDOW + BODY + [ctypes.c_double] * 2 + SLICE,
+    "build_summary": TABLES + WINDOW + AIR,
+    "set_block": TABLES + WINDOW + AIR + [ctypes.c_int32] * 3 + [ctypes.c_uint32],
+    "check_summary": TABLES + WINDOW + AIR,
+    "move_summed": TABLES + WINDOW + AIR + SLICE + STEP + SLICE,
+    "step_summed": TABLES + WINDOW + BODY + SLICE,
+    "step_falling_summed": TABLES + WINDOW + BODY + [ctypes.c_double] * 2 + SLICE,
     "midnight": TABLES + SLICE + [ctypes.c_uint32] + SLICE * 3 + [ctypes.c_uint32] + SLICE,
     "midnight_capped": TABLES + SLICE + [ctypes.c_uint32] + SLICE * 3 + [ctypes.c_uint32] + SLICE,
     "move": TABLES + WINDOW + AIR + SLICE + STEP + SLICE,
@@ -300,6 +306,45 @@ def step_checked(tables, window, body):
 def step_falling(tables, window, body, fall=Fall()):
     """One tick of a body with its fall record: the Tick, and the record after it. Where it is refused, the record that was handed in still holds."""
     return _judged(_fallen(_Lent().tables(tables).window(window).body(body).fall(fall).answer("step_falling", 12)))
+
+
+def with_summary(tables, window, air):
+    """The window with its summary, for this air state, behind its cells and columns. It goes to the calls below, and to step_checked, whose moves then
+    pass over what is empty."""
+    groups = [(size + 3) // 4 for size in window.sizes]
+    words = array.array("I", [*window.cells, *[0] * (groups[0] * groups[1] * groups[2])])
+    window = window._replace(cells=words)
+    _judged(_Lent().tables(tables).window(window).air(air).answer("build_summary", 0))
+    return window
+
+
+def set_block(tables, window, air, cell, state):
+    """One cell of a window with a summary becomes this state, and the word of its group is mended, in the array itself."""
+    if memoryview(window.cells).readonly:
+        raise TypeError("cells: an array is asked for that may be written to")
+    lent = _Lent().tables(tables).window(window).air(air)
+    lent.arguments += [*_whole(cell, -2**31, 2**31), *_whole([state], 0, 2**32)]
+    _judged(lent.answer("set_block", 0))
+
+
+def check_summary(tables, window, air):
+    """Refused by 1, 2, 3, 11 or 13."""
+    _judged(_Lent().tables(tables).window(window).air(air).answer("check_summary", 0))
+
+
+def step_summed(tables, window, body):
+    """One tick of a body over a window with a summary of its air state: 11 and 13 after 4."""
+    return _judged(_tick(_Lent().tables(tables).window(window).body(body).answer("step_summed", 10)))
+
+
+def step_falling_summed(tables, window, body, fall=Fall()):
+    """The same with its fall record."""
+    return _judged(_fallen(_Lent().tables(tables).window(window).body(body).fall(fall).answer("step_falling_summed", 12)))
+
+
+def move_summed(tables, window, air, mover):
+    """The move through a window with a summary."""
+    return _judged(_moved(_Lent().tables(tables).window(window).air(air).mover(mover).answer("move_summed", 10)))
 
 
 def tick(file):

@@ -21,6 +21,33 @@ mod linked {
             oz: i32, sx: u32, sy: u32, sz: u32, lowest: i32, highest: i32, numbers: *const f64, numbers_len: usize, words: *const u32,
             words_len: usize, age: u64, sum: f64, landed: f64, out: *mut f64, out_len: usize,
         ) -> u32;
+        pub fn boltjuniper_build_summary(
+            records: *const u32, records_len: usize, shapes: *const f32, shapes_len: usize, cells: *mut u32, cells_len: usize, ox: i32, oy: i32,
+            oz: i32, sx: u32, sy: u32, sz: u32, lowest: i32, highest: i32, air: u32,
+        ) -> u32;
+        pub fn boltjuniper_set_block(
+            records: *const u32, records_len: usize, shapes: *const f32, shapes_len: usize, cells: *mut u32, cells_len: usize, ox: i32, oy: i32,
+            oz: i32, sx: u32, sy: u32, sz: u32, lowest: i32, highest: i32, air: u32, x: i32, y: i32, z: i32, state: u32,
+        ) -> u32;
+        pub fn boltjuniper_check_summary(
+            records: *const u32, records_len: usize, shapes: *const f32, shapes_len: usize, cells: *const u32, cells_len: usize, ox: i32, oy: i32,
+            oz: i32, sx: u32, sy: u32, sz: u32, lowest: i32, highest: i32, air: u32,
+        ) -> u32;
+        pub fn boltjuniper_move_summed(
+            records: *const u32, records_len: usize, shapes: *const f32, shapes_len: usize, cells: *const u32, cells_len: usize, ox: i32, oy: i32,
+            oz: i32, sx: u32, sy: u32, sz: u32, lowest: i32, highest: i32, air: u32, mover: *const f64, mover_len: usize, step: f64, ground: u32,
+            cap: u32, out: *mut f64, out_len: usize,
+        ) -> u32;
+        pub fn boltjuniper_step_summed(
+            records: *const u32, records_len: usize, shapes: *const f32, shapes_len: usize, cells: *const u32, cells_len: usize, ox: i32, oy: i32,
+            oz: i32, sx: u32, sy: u32, sz: u32, lowest: i32, highest: i32, numbers: *const f64, numbers_len: usize, words: *const u32,
+            words_len: usize, age: u64, out: *mut f64, out_len: usize,
+        ) -> u32;
+        pub fn boltjuniper_step_falling_summed(
+            records: *const u32, records_len: usize, shapes: *const f32, shapes_len: usize, cells: *const u32, cells_len: usize, ox: i32, oy: i32,
+            oz: i32, sx: u32, sy: u32, sz: u32, lowest: i32, highest: i32, numbers: *const f64, numbers_len: usize, words: *const u32,
+            words_len: usize, age: u64, sum: f64, landed: f64, out: *mut f64, out_len: usize,
+        ) -> u32;
         pub fn boltjuniper_midnight(
             records: *const u32, records_len: usize, shapes: *const f32, shapes_len: usize, windows: *const u32, windows_len: usize,
             windows_count: u32, cells: *const u32, cells_len: usize, numbers: *const f64, numbers_len: usize, words: *const u32, words_len: usize,
@@ -285,6 +312,82 @@ pub fn midnight(
         )
     };
     judged(refusal)
+}
+
+/// How many words the summary of a window of these sizes has: they stand behind those of its cells and columns.
+pub fn summary_words(sizes: [u32; 3]) -> usize {
+    sizes.iter().map(|s| s.div_ceil(4) as usize).product()
+}
+
+/// Writes the summary of a window, for this air state, behind cells and columns; `w.cells` is not looked at.
+pub fn build_summary(t: Tables, words: &mut [u32], w: Window, air: u32) -> Result<(), Refusal> {
+    let ([ox, oy, oz], [sx, sy, sz]) = (w.origin, w.sizes);
+    judged(unsafe {
+        linked::boltjuniper_build_summary(
+            t.records.as_ptr(), t.records.len(), t.shapes.as_ptr(), t.shapes.len(), words.as_mut_ptr(), words.len(), ox, oy, oz, sx, sy, sz,
+            w.lowest, w.highest, air,
+        )
+    })
+}
+
+/// Sets one cell of such words, and mends the word of its group.
+pub fn set_block(t: Tables, words: &mut [u32], w: Window, air: u32, cell: [i32; 3], state: u32) -> Result<(), Refusal> {
+    let ([ox, oy, oz], [sx, sy, sz], [x, y, z]) = (w.origin, w.sizes, cell);
+    judged(unsafe {
+        linked::boltjuniper_set_block(
+            t.records.as_ptr(), t.records.len(), t.shapes.as_ptr(), t.shapes.len(), words.as_mut_ptr(), words.len(), ox, oy, oz, sx, sy, sz,
+            w.lowest, w.highest, air, x, y, z, state,
+        )
+    })
+}
+
+/// The check of a window whose cells have a summary behind them. Where it is fine, `step_checked` may be called over it.
+pub fn check_summary(t: Tables, w: Window, air: u32) -> Result<(), Refusal> {
+    let ([ox, oy, oz], [sx, sy, sz]) = (w.origin, w.sizes);
+    judged(unsafe {
+        linked::boltjuniper_check_summary(
+            t.records.as_ptr(), t.records.len(), t.shapes.as_ptr(), t.shapes.len(), w.cells.as_ptr(), w.cells.len(), ox, oy, oz, sx, sy, sz,
+            w.lowest, w.highest, air,
+        )
+    })
+}
+
+/// The move through a window whose cells have a summary behind them.
+pub fn move_summed(t: Tables, w: Window, air: u32, m: Mover) -> Result<Moved, Refusal> {
+    let ([ox, oy, oz], [sx, sy, sz], mover, mut out) = (w.origin, w.sizes, m.numbers(), [0.0; 10]);
+    let refusal = unsafe {
+        linked::boltjuniper_move_summed(
+            t.records.as_ptr(), t.records.len(), t.shapes.as_ptr(), t.shapes.len(), w.cells.as_ptr(), w.cells.len(), ox, oy, oz, sx, sy, sz,
+            w.lowest, w.highest, air, mover.as_ptr(), mover.len(), m.step, m.ground as u32, m.cap, out.as_mut_ptr(), out.len(),
+        )
+    };
+    moved(refusal, out)
+}
+
+/// One tick of a body over a window whose cells have a summary of its air state behind them.
+pub fn step_summed(t: Tables, w: Window, b: &Body) -> Result<Tick, Refusal> {
+    let ([ox, oy, oz], [sx, sy, sz], mut out) = (w.origin, w.sizes, [0.0; 10]);
+    let refusal = unsafe {
+        linked::boltjuniper_step_summed(
+            t.records.as_ptr(), t.records.len(), t.shapes.as_ptr(), t.shapes.len(), w.cells.as_ptr(), w.cells.len(), ox, oy, oz, sx, sy, sz,
+            w.lowest, w.highest, b.numbers.as_ptr(), b.numbers.len(), b.words.as_ptr(), b.words.len(), b.age, out.as_mut_ptr(), out.len(),
+        )
+    };
+    ticked(refusal, out)
+}
+
+/// The same with its fall record.
+pub fn step_falling_summed(t: Tables, w: Window, b: &Body, fall: Fall) -> Result<(Tick, Fall), Refusal> {
+    let ([ox, oy, oz], [sx, sy, sz], mut out) = (w.origin, w.sizes, [0.0; 12]);
+    let refusal = unsafe {
+        linked::boltjuniper_step_falling_summed(
+            t.records.as_ptr(), t.records.len(), t.shapes.as_ptr(), t.shapes.len(), w.cells.as_ptr(), w.cells.len(), ox, oy, oz, sx, sy, sz,
+            w.lowest, w.highest, b.numbers.as_ptr(), b.numbers.len(), b.words.as_ptr(), b.words.len(), b.age, fall.sum, fall.landed,
+            out.as_mut_ptr(), out.len(),
+        )
+    };
+    let (tick, fall) = fallen(refusal, out);
+    tick.map(|tick| (tick, fall))
 }
 
 /// The tick of a scene file. It reaches 136 KB below its caller, with the words of the file: call it from a thread that has them.

@@ -86,7 +86,7 @@ COUNTS = {name: Count(name) for name in ("tick", "ticks", "step", "step_checked"
                                          "write_scene", "write_scene beside tools/scene",
                                          "move over what it collects", "step of numpy's arrays", "heights, columns and air", "two ticks at a door",
                                          "arrays as they are", "step_falling", "fall records", "midnight", "midnight of older rows", "midnight's refusals",
-                                         "classroom palette", "caps")}
+                                         "classroom palette", "caps", "summaries")}
 
 
 def one_scene(name, theirs):
@@ -103,6 +103,7 @@ def one_scene(name, theirs):
     COUNTS["step_falling"].add(name, tick_text(fallen if isinstance(fallen, b.Refused) else fallen[0], theirs), theirs)
     one_midnight(name, tables, window, body, theirs)
     one_older(name, tables, window, body)
+    summaries(name, tables, window, body)
     COUNTS["steps"].add(name, [tick_text(t, theirs) for t in b.steps(tables, window, [body] * 3)], [theirs] * 3)
     COUNTS["check_tables"].add(name, asked(b.check_tables, tables), b.Refused(1) if theirs == "refused 1" else None)
     early = theirs in ("refused 1", "refused 2")
@@ -357,6 +358,34 @@ def palette():
              for box in scenepalette.boxes_of(window.cells[70 + z * 10 + x])]
     theirs = [(x + box[0] / 16, 1 + box[1] / 16, z + box[2] / 16, x + box[3] / 16, 1 + box[4] / 16, z + box[5] / 16) for x, z, box in stand]
     count.add("its boxes", asked(b.collected, tables, window, 0, b.Mover((1.0, 1.0, 1.0, 8.99, 2.0, 5.99), (0.0, 0.0, 0.0))), theirs)
+
+
+def summaries(name, tables, window, body):
+    """With a summary every answer is that of the plain call, before and after a set."""
+    air, count = body.words[5], COUNTS["summaries"]
+    summed = asked(b.with_summary, tables, window, air)
+    if isinstance(summed, b.Refused):
+        count.add(name, summed.number in (1, 2, 3), True)
+        return
+    plain = len(window.cells)
+    for state in (air, 0, 1):
+        alone = summed._replace(cells=summed.cells[:plain])
+        count.add(name, asked(b.step_summed, tables, summed, body), asked(b.step, tables, alone, body))
+        count.add(name, asked(b.step_checked, tables, summed, body), asked(b.step_checked, tables, alone, body))
+        count.add(name, asked(b.step_falling_summed, tables, summed, body), asked(b.step_falling, tables, alone, body))
+        count.add(name, list(asked(b.with_summary, tables, alone, air).cells), list(summed.cells))
+        b.check_summary(tables, summed, air)
+        b.set_block(tables, summed, air, window.origin, state)
+        count.add(name, summed.cells[0], state)
+    wrong = summed._replace(cells=summed.cells[:-1])
+    count.add(name, asked(b.check_summary, tables, wrong, air), b.Refused(11))
+    wrong = summed._replace(cells=summed.cells[:-1] + array.array("I", [2]))
+    count.add(name, asked(b.check_summary, tables, wrong, air), b.Refused(13))
+    count.add(name, asked(b.set_block, tables, wrong, air, window.origin, 0), b.Refused(13))
+    beyond = (window.origin[0] - 1, *window.origin[1:])
+    count.add(name, asked(b.set_block, tables, summed, air, beyond, 0), b.Refused(5))
+    mover = b.Mover((0.0, 0.0, 0.0, 1.0, 1.0, 1.0), (0.5, -0.5, 0.0), 0.0, False)
+    count.add(name, asked(b.move_summed, tables, summed, air, mover), asked(b.move, tables, summed._replace(cells=summed.cells[:plain]), air, mover))
 
 
 def doors():

@@ -203,6 +203,92 @@ fn whole_nights(count: &mut Count) {
 }
 
 // Case A of the requirements: what its step does to the box; its window with other words, sizes, heights and air; and its body beyond the world.
+/// Numbers that look random, the same at each run.
+struct Random(u64);
+impl Random {
+    fn below(&mut self, n: u64) -> u64 {
+        self.0 ^= self.0 << 13;
+        self.0 ^= self.0 >> 7;
+        self.0 ^= self.0 << 17;
+        self.0 % n
+    }
+}
+
+// With a summary every answer is that of the plain call: over the scene as it is, and after each of some sets at random cells. Where tables, window or air
+// state are refused, so is all of it, and nothing is written.
+fn summaries(c: &mut Count, name: &str, t: Tables, w: Window, body: &Body, random: &mut Random) {
+    let air = body.words[5];
+    let mut words = w.cells.to_vec();
+    words.extend(std::iter::repeat_n(7, summary_words(w.sizes)));
+    let before = words.clone();
+    let none = Mover { aabb: [0.0; 6], delta: [0.0; 3], step: 5.0, ground: false, cap: 0 };
+    let first = move_through(t, w, air, none).err().filter(|n| *n < 3).or_else(|| move_through(t, w, air, Mover { step: 0.0, ..none }).err().filter(|n| *n == 3));
+    let built = build_summary(t, &mut words, w, air);
+    if let Some(n) = first {
+        c.add(name, &format!("{built:?} {}", words == before), &format!("{:?} true", Err::<(), u32>(n)));
+        return;
+    }
+    c.add(name, &format!("{built:?}"), "Ok(())");
+    let feet = [body.numbers[0], body.numbers[1], body.numbers[2]];
+    let m = Mover { aabb: [feet[0] - 0.4, feet[1], feet[2] - 0.4, feet[0] + 0.4, feet[1] + 1.5, feet[2] + 0.4], delta: [0.5, -0.75, 0.25], step: 0.5, ground: true, cap: body.words[6] };
+    let count = (w.sizes[0] * w.sizes[1] * w.sizes[2]) as usize;
+    let plain = w.cells.len();
+    for turn in 0..6 {
+        let (with, without) = (Window { cells: &words, ..w }, Window { cells: &words[..plain], ..w });
+        let same = |a: String, b: String, c: &mut Count| c.add(name, &a, &b);
+        same(format!("{:?}", step_summed(t, with, body)), format!("{:?}", step(t, without, body)), c);
+        same(format!("{:?}", step_checked(t, with, body)), format!("{:?}", step_checked(t, without, body)), c);
+        same(format!("{:?}", step_falling_summed(t, with, body, Fall::default())), format!("{:?}", step_falling(t, without, body, Fall::default())), c);
+        same(format!("{:?}", move_summed(t, with, air, m)), format!("{:?}", move_through(t, without, air, m)), c);
+        // a row of the midnight run, with the summary and its air state behind its words, and with a body of another air state
+        let mut row: Vec<u32> = words.clone();
+        row.push(air);
+        let rows = [WindowRow { origin: w.origin, sizes: w.sizes, lowest: w.lowest, highest: w.highest, first: 0, count: row.len() as u32 }];
+        for other in [air, air ^ 1] {
+            let mut b = *body;
+            b.words[5] = other;
+            let (numbers, own) = b.row(Fall::default(), 0);
+            let mut out = [[0.0; 13]];
+            let run = midnight_capped(t, &rows, &row, &[numbers], &[own], &mut out);
+            let theirs = step_falling(t, without, &b, Fall::default());
+            let ours = answered(&out[0]);
+            same(format!("{run:?} {:?}", ours.0.map(|tick| (tick, ours.1))), format!("Ok(()) {theirs:?}"), c);
+        }
+        // the words are those built afresh
+        let mut afresh = words.clone();
+        build_summary(t, &mut afresh, w, air).unwrap();
+        same(format!("{}", words == afresh), "true".to_string(), c);
+        same(format!("{:?}", check_summary(t, with, air)), "Ok(())".to_string(), c);
+        // a wrong word is 13, and a summary of the wrong length 11, unless the step has a refusal before that
+        let early = step(t, without, body).err().filter(|n| *n < 5);
+        let mut wrong = words.clone();
+        let place = plain + random.below((wrong.len() - plain) as u64) as usize;
+        wrong[place] ^= 1;
+        same(format!("{:?}", step_summed(t, Window { cells: &wrong, ..w }, body).err()), format!("{:?}", early.or(Some(13))), c);
+        same(format!("{:?}", step_summed(t, Window { cells: &words[..words.len() - 1], ..w }, body).err()), format!("{:?}", early.or(Some(11))), c);
+        let mut row = wrong.clone();
+        row.push(air);
+        let (numbers, own) = body.row(Fall::default(), 0);
+        let mut out = [[0.0; 13]];
+        midnight_capped(t, &rows, &row, &[numbers], &[own], &mut out).unwrap();
+        same(format!("{:?}", answered(&out[0]).0.err()), format!("{:?}", early.or(Some(13))), c);
+        let kept = wrong.clone();
+        let told = set_block(t, &mut wrong, w, air, w.origin, 0);
+        same(format!("{told:?} {}", wrong == kept), "Err(13) true".to_string(), c);
+        // outside the window
+        let kept = words.clone();
+        let beyond = [w.origin[0], w.origin[1] + w.sizes[1] as i32, w.origin[2]];
+        let told = set_block(t, &mut words, w, air, beyond, 0);
+        same(format!("{told:?} {}", words == kept), "Err(5) true".to_string(), c);
+        // another cell
+        let place = random.below(count as u64) as usize;
+        let (x, y, z) = (place as u32 % w.sizes[0], place as u32 / w.sizes[0] / w.sizes[2], place as u32 / w.sizes[0] % w.sizes[2]);
+        let state = if turn % 2 == 0 { air } else { random.below(t.records.len() as u64 / 20 + 1) as u32 };
+        let cell = [w.origin[0] + x as i32, w.origin[1] + y as i32, w.origin[2] + z as i32];
+        same(format!("{:?} {}", set_block(t, &mut words, w, air, cell, state), words[place]), format!("Ok(()) {state}"), c);
+    }
+}
+
 fn case_a(moves: &mut Count, windows: &mut Count) {
     let mut records = [0; 40];
     (records[0], records[20], records[28], records[39]) = (1, 3, 1, 15);
@@ -285,9 +371,10 @@ fn classroom(c: &mut Count) {
 fn main() {
     let stored = std::fs::read_to_string("crates/replay/stdout").unwrap();
     let (scenes, calls): (Vec<&str>, Vec<&str>) = stored.lines().partition(|l| l.starts_with(|c: char| c.is_ascii_digit()));
-    let [mut ticks, mut steps, mut checked, mut tables, mut moves, mut lists, mut windows, mut falls, mut night, mut writes, mut palette] = std::array::from_fn(|_| Count::default());
+    let [mut ticks, mut steps, mut checked, mut tables, mut moves, mut lists, mut windows, mut falls, mut night, mut writes, mut palette, mut summed] = std::array::from_fn(|_| Count::default());
     // after NUMBER fall SUM LANDED: the record after the scene's tick, from a fresh one
     let after: std::collections::HashMap<&str, &str> = calls.iter().filter_map(|l| l.strip_prefix("after ")?.split_once(' ')).collect();
+    let mut random = Random(0x9e37_79b9_7f4a_7c15);
     for line in scenes {
         let (name, theirs) = line.split_once(' ').unwrap();
         let file = std::fs::read(format!("crates/replay/data/{name}.scn")).unwrap();
@@ -306,6 +393,7 @@ fn main() {
         }
         nights(&mut night, name, t, w, &s.body, theirs);
         older_night(&mut night, name, t, w, &s.body);
+        summaries(&mut summed, name, t, w, &s.body, &mut random);
         let early = theirs == "refused 1" || theirs == "refused 2";
         tables.add(name, &check_tables(t).err().unwrap_or(0).to_string(), if theirs == "refused 1" { "1" } else { "0" });
         let first = early || theirs == "refused 3" || theirs == "refused 4";
@@ -357,6 +445,7 @@ fn main() {
         night.tell("midnight"),
         writes.tell("write_scene, write_checked"),
         palette.tell("classroom palette"),
+        summed.tell("summaries"),
     ];
     std::process::exit(fine.contains(&false) as i32);
 }

@@ -4,6 +4,7 @@ use mathlib.Core.Bool.{true}
 use mathlib.Core.List.{List}
 use Prim.Native.Nat.{ℕ}
 use lib.Dec.{eqb, leb}
+use lib.IntN.{ℤ}
 use lib.Ieee.{Float}
 use Rattle.sweeps.specs.declared.MoveAnswer.{MoveAnswer}
 use Rattle.base.specs.Ask.{Ask}
@@ -12,10 +13,15 @@ use Rattle.sweeps.specs.Lists.{capOf}
 use Rattle.lent.specs.Lent.{directRefusal}
 use Rattle.summary.specs.Calls.{plain, summed}
 use Rattle.movers.specs.Movers.{vecAt, aabbAt, moverRefusal}
+use Rattle.window.specs.declared.Pos.{Pos}
 use Rattle.window.specs.declared.Window.{Window}
 use Rattle.window.specs.Look.{lookAt}
 use Rattle.moves.specs.Answers.{moveAabb, moveAnswer}
 use Rattle.exports.specs.Room.{roomy}
+
+-- a cell by its three numbers
+abbrev pub cellNamed : ℤ → ℤ → ℤ → Pos
+cellNamed x y z = record { x = x; y = y; z = z }
 
 -- move_aabb: 1, 2, 3, 4 and 11 in order, before any cell is asked for; then 5 or 6
 unfoldable pub movedBy : ℕ → ℕ → Ask MoveResult → List Float → Float → ℕ → ℕ → MoveAnswer

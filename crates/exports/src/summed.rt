@@ -13,7 +13,7 @@ ghost use Rattle.summary.specs.Calls.{summedRefusal, buildEntry, builtEntry, se
 ghost use Rattle.lent_numbers.specs.Written.{writtenBy};
 ghost use Rattle.falls.specs.Rule.{fallOf};
 ghost use Rattle.lent_steps.specs.Falling.{fallingWritten};
-ghost use Rattle.exports.specs.Windows.{moveSummedAt};
+ghost use Rattle.exports.specs.Windows.{cellNamed, moveSummedAt};
 ghost use Rattle.exports.specs.Ticks.{summedAt, answerWritten};
 ghost use Rattle.exports.specs.Falling.{fallingSummedAt};
 
@@ -62,8 +62,8 @@ pub extern "C" fn boltjuniper_set_block(
     z: i32,
     state: u32,
 ) -> u32
-    ensures { λ r. ⌜ r ≡ setEntry (now (records .entry)) (now (shapes .entry)) (now (cells .entry)) (windowOf ox oy oz sx sy sz lowest highest air) (record { x = x; y = y; z = z }) ⌝ }
-    ensures { λ _. ⌜ now (cells .exit) ≡ afterSetEntry (now (records .entry)) (now (shapes .entry)) (now (cells .entry)) (windowOf ox oy oz sx sy sz lowest highest air) (record { x = x; y = y; z = z }) state ⌝ }
+    ensures { λ r. ⌜ r ≡ setEntry (now (records .entry)) (now (shapes .entry)) (now (cells .entry)) (windowOf ox oy oz sx sy sz lowest highest air) (cellNamed x y z) ⌝ }
+    ensures { λ _. ⌜ now (cells .exit) ≡ afterSetEntry (now (records .entry)) (now (shapes .entry)) (now (cells .entry)) (windowOf ox oy oz sx sy sz lowest highest air) (cellNamed x y z) state ⌝ }
 {
     let w = window::window_of(ox, oy, oz, sx, sy, sz, lowest, highest, air);
     summary::set_block(records, shapes, cells, w, Pos { x, y, z }, state)

@@ -15,12 +15,13 @@ use Rattle.base.specs.Loop.{listed}
 use Rattle.table_check.specs.Check.{tableRefusal}
 use Rattle.window.specs.declared.Window.{Window}
 use Rattle.window.specs.Window.{windowFits, windowRefusal}
-use Rattle.lent.specs.Lent.{lentRefusal}
+use Rattle.lent.specs.Lent.{unless, lentRefusal}
 use Rattle.bodies.specs.declared.MotionNumbers.{MotionNumbers}
 use Rattle.ticks.specs.declared.Tick.{Tick}
-use Rattle.step.specs.Answers.{stepAnswer}
+use Rattle.step.specs.Answers.{stepAnswer, pastAsked}
 use Rattle.falls.specs.declared.Fall.{Fall}
 use Rattle.falls.specs.declared.FallingAnswer.{FallingAnswer}
+use Rattle.falls.specs.Rule.{fallFits}
 use Rattle.falls.specs.Answers.{withFall, fallingChecked, fallingEntry, HandedBack}
 use Rattle.falls.proofs.Laws.{checked-alike}
 use Rattle.midnight.specs.declared.WindowRow.{WindowRow}
@@ -73,42 +74,42 @@ pub record NamedSummed (lent : Lent) (row : Row) : Type 0 where
   pub summed : isSummed (cellsIn (lent .cells) (windowAt (lent .windows) (namedIn row))) (windowAt (lent .windows) (namedIn row) .window) ≡ true
 
 module _ (lent : Lent) (row : Row) where
-  abbrev named : WindowRow
+  abbrev pub named : WindowRow
   named = windowAt (lent .windows) (namedIn row)
 
-  abbrev own : List ℕ
+  abbrev pub own : List ℕ
   own = cellsIn (lent .cells) named
 
-  abbrev w : Window
+  abbrev pub w : Window
   w = named .window
 
-  abbrev check : ℕ
+  abbrev pub check : ℕ
   check = ownRefusal (lent .records) own w
 
   -- by the check of the words
-  answered : isWhole row ≡ true → namedIn row < lent .count → isThere (lent .windows) (lent .cells) (namedIn row) ≡ true
+  pub answered : isWhole row ≡ true → namedIn row < lent .count → isThere (lent .windows) (lent .cells) (namedIn row) ≡ true
       → answerOf lent row ≡ choose (eqb check 0) (checkedStep (lent .records) (lent .shapes) (lent .cells) named row) (wrongStep check (lent .records) (lent .shapes) (lent .cells) named row)
   unfolding answerBy refusalAt choose
   answered whole window there = rw (whole, lt-ltb (namedIn row) (lent .count) window, there)
 
-  abbrev entry : List ℕ → FallingAnswer
+  abbrev pub entry : List ℕ → FallingAnswer
   entry cells = fallingEntry (lent .records) (lent .shapes) cells w (rulesIn row) (bodyIn row) (givenIn row) (ageIn row) (fallIn row)
 
   module _ (sound : tableRefusal (lent .records) (lent .shapes) ≡ 0) where
-    passes : (cells : List ℕ) → windowRefusal cells w ≡ 0 → lentRefusal (lent .records) (lent .shapes) cells w ≡ 0
+    pub passes : (cells : List ℕ) → windowRefusal cells w ≡ 0 → lentRefusal (lent .records) (lent .shapes) cells w ≡ 0
     unfolding lentRefusal choose
     passes cells e = rw (sound, e)
 
     -- the check of a window is 0 or 2
-    two : (cells : List ℕ) → (windowRefusal cells w ≡ 0 → ⊥) → refusedBody 2 row ≡ entry cells
+    pub two : (cells : List ℕ) → (windowRefusal cells w ≡ 0 → ⊥) → refusedBody 2 row ≡ entry cells
     unfolding windowRefusal fallingEntry lentRefusal withFall choose
-    two cells no = go (windowFits cells w) refl
+    two cells wrong = go (windowFits cells w) refl
       where
         go : (t : Bool) → windowFits cells w ≡ t → refusedBody 2 row ≡ entry cells
-        go true e = absurd (no (rw e))
+        go true e = absurd (wrong (rw e))
         go false e = rw (sound, e)
 
-    over : (cells : List ℕ) → windowRefusal cells w ≡ 0
+    pub over : (cells : List ℕ) → windowRefusal cells w ≡ 0
         → fallingChecked (lent .records) (lent .shapes) cells w (rulesIn row) (bodyIn row) (givenIn row) (ageIn row) (fallIn row) ≡ entry cells
     over cells e = checked-alike (lent .records) (lent .shapes) cells w (rulesIn row) (bodyIn row) (givenIn row) (ageIn row) (fallIn row) (passes cells e)
 
@@ -120,7 +121,7 @@ module _ (lent : Lent) (row : Row) where
         go : (t : Bool) → windowFits own w ≡ t
             → choose (eqb check 0) (checkedStep (lent .records) (lent .shapes) (lent .cells) named row) (wrongStep check (lent .records) (lent .shapes) (lent .cells) named row) ≡ entry own
         go true e = rw (k .alone, e) (over own (rw e))
-        go false e = rw (k .alone, e) (two own (λ z. absurd (two-is e z)))
+        go false e = rw (k .alone, e) (two own (λ z. two-is e z))
           where
             two-is : windowFits own w ≡ false → windowRefusal own w ≡ 0 → ⊥
             two-is e z = let q : _≡_ {A = ℕ} 2 0 = rw e at z in omega arith
@@ -138,7 +139,7 @@ module _ (lent : Lent) (row : Row) where
   -- a window whose row or words are not there: 2, whatever is wrong with the body
   pub not-there : isWhole row ≡ true → namedIn row < lent .count → isThere (lent .windows) (lent .cells) (namedIn row) ≡ false
       → answerOf lent row ≡ refusedBody 2 row
-  unfolding answerBy refusalAt choose
+  unfolding answerBy refusalAt wrongStep choose
   not-there whole named short = rw (whole, lt-ltb (namedIn row) (lent .count) named, short)
 
 -- ---- a refused body's motion and fall record are those given, its liquid none, and no sample told
@@ -162,7 +163,10 @@ step-back row (found t) h = absurd (omega arith)
 -- the step over any words
 any-step-back : (row : Row) (records : List ℕ) (shapes : List Float) (cells : List ℕ) (w : WindowRow) → HandsBack row (checkedStep records shapes cells w row)
 unfolding checkedStep fallingChecked
-any-step-back row records shapes cells w = step-back row _
+any-step-back row records shapes cells w =
+    step-back row
+    (unless (not (fallFits (fallIn row))) 3
+    (pastAsked records shapes (stepWords (cellsIn cells w) (w .window) (rulesIn row .air)) (w .window) (rulesIn row) (bodyIn row) (givenIn row) (ageIn row)))
 
 late-back : (row : Row) (records : List ℕ) → HandsBack row (lateBody records row)
 unfolding lateBody

@@ -34,6 +34,18 @@ rest l k =
 pub none : {A : Type 0} (l : List A) (k : ℕ) → length l < k → [] ≡ drop k l
 none l k h = let less : length l ≤ k = omega arith in sym (drop-of-length-le l less)
 
+-- all but the last, and the last
+
+pub front-none : {A : Type 0} (l : List A) → length l ≡ 0 → [] ≡ take (length l - 1) l
+front-none l e = rw e
+
+pub front-some : {A : Type 0} (l : List A) → take (length l - 1 - 0) (drop 0 l) ≡ take (length l - 1) l
+front-some l = let q : length l - 1 - 0 ≡ length l - 1 = omega arith in ap (λ (k : ℕ). take k l) q
+
+pub last-none : (l : List ℕ) → length l ≡ 0 → 0 ≡ getD l (length l - 1) 0
+last-none [] e = refl
+last-none (x ∷ xs) e = absurd (omega arith)
+
 -- ---- stored
 
 pub stored-length : {A : Type 0} (l : List A) (i : ℕ) (xs : List A) → length (stored l i xs) ≡ length l

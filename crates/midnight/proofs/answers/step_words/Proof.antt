@@ -1,52 +1,44 @@
+-- `midnight::answers::step_words` meets its contract. Assumes nothing.
+use borrow.Author.Tests.{eq-eqb, ne-eqb}
+use Rattle.base.specs.Choose.{choose}
+use Rattle.midnight.specs.Answers.{stepWords}
+use Rattle.midnight.proofs.Parts.{rest}
 use borrow.Author.Needs.{needs}
 use Rattle.midnight.proofs.answers.step_words.Statement.{statement}
 use Rattle.midnight.proofs.answers.step_words.Tie as tie
-use Rattle.midnight.proofs.answers.step_words.Reads as reads
-use Rattle.midnight.proofs.answers.step_words.Lts as lts
-use Rattle.midnight.proofs.windows.front.Reads as front-reads
-use Rattle.midnight.proofs.windows.is_summed.Reads as is-summed-reads
-use Rattle.midnight.proofs.windows.last_in.Reads as last-in-reads
-use Rattle.summary.proofs.plain_words.Reads as plain-words-reads
 
--- src/answers.rt:73:8
 is-summed-requires : tie.Need-is-summed-requires
 is-summed-requires c κs = search needs
 
--- src/answers.rt:74:12
 last-in-requires : tie.Need-last-in-requires
 last-in-requires c κs = search needs
 
--- src/answers.rt:75:13
 front-requires : tie.Need-front-requires
 front-requires c κs = search needs
 
--- src/answers.rt:75:13
 returns : tie.Need-returns
-returns c = ?
+unfolding stepWords choose
+returns c = rw (← c .before .before .before .before .is-summed .ensures, c .before .before .before .if1 .taken, ← c .before .before .last-in .ensures, eq-eqb _ _ (c .before .if2 .taken)) (c .front .ensures)
 
--- src/answers.rt:77:9
 plain-words-requires : tie.Need-plain-words-requires
 plain-words-requires c κs = search needs
 
--- src/answers.rt:77:9
 returns-2 : tie.Need-returns-2
-returns-2 c = ?
+unfolding stepWords choose
+returns-2 c = rw (← c .before .before .before .before .is-summed .ensures, c .before .before .before .if1 .taken, ← c .before .before .last-in .ensures, ne-eqb _ _ (c .before .if2 .left)) (c .plain-words .ensures)
 
--- src/answers.rt:79:5
 sub-result : tie.Need-sub-result
 sub-result c = search needs
 
--- src/answers.rt:79:5
 part-result-start : tie.Need-part-result-start
 part-result-start c = search needs
 
--- src/answers.rt:79:5
 part-result-end : tie.Need-part-result-end
 part-result-end c = search needs
 
--- src/answers.rt:70:1
 returns-3 : tie.Need-returns-3
-returns-3 c = ?
+unfolding stepWords choose
+returns-3 c = rw (← c .before .before .is-summed .ensures, c .before .if1 .left) (rest _ 0)
 
 pub step-words-spec : {M : Type 1} → statement M
 step-words-spec =

@@ -1,59 +1,51 @@
+-- `midnight::windows::own_refusal` meets its contract. Assumes nothing.
+use borrow.Author.Tests.{eq-eqb, ne-eqb}
+use Rattle.base.specs.Choose.{choose}
+use Rattle.midnight.specs.Answers.{ownRefusal}
 use borrow.Author.Needs.{needs}
 use Rattle.midnight.proofs.windows.own_refusal.Statement.{statement}
 use Rattle.midnight.proofs.windows.own_refusal.Tie as tie
-use Rattle.midnight.proofs.windows.own_refusal.Reads as reads
-use Rattle.midnight.proofs.windows.own_refusal.Lts as lts
-use Rattle.groups.proofs.check_summary.Reads as check-summary-reads
-use Rattle.midnight.proofs.windows.front.Reads as front-reads
-use Rattle.midnight.proofs.windows.is_summed.Reads as is-summed-reads
-use Rattle.midnight.proofs.windows.last_in.Reads as last-in-reads
-use Rattle.summary.proofs.plain_words.Reads as plain-words-reads
-use Rattle.window.proofs.check_window.Reads as check-window-reads
-use Rattle.window.proofs.with_air.Reads as with-air-reads
 
--- src/windows.rt:80:8
 is-summed-requires : tie.Need-is-summed-requires
 is-summed-requires c κs = search needs
 
--- src/windows.rt:81:33
 plain-words-requires : tie.Need-plain-words-requires
 plain-words-requires c κs = search needs
 
--- src/windows.rt:81:12
 check-window-requires : tie.Need-check-window-requires
 check-window-requires c κs = search needs
 
--- src/windows.rt:82:17
 last-in-requires : tie.Need-last-in-requires
 last-in-requires c κs = search needs
 
--- src/windows.rt:83:51
 front-requires : tie.Need-front-requires
 front-requires c κs = search needs
 
--- src/windows.rt:83:63
 with-air-requires : tie.Need-with-air-requires
 with-air-requires c κs = search needs
 
--- src/windows.rt:83:13
 check-summary-requires : tie.Need-check-summary-requires
 check-summary-requires c κs = search needs
 
--- src/windows.rt:83:13
 returns : tie.Need-returns
-returns c = ?
+unfolding ownRefusal choose
+returns c = 
+    let window = rw (c .before .before .before .before .before .before .plain-words .ensures) at (c .before .before .before .before .before .check-window .ensures) in
+    let summary = rw (c .before .before .front .ensures, c .before .with-air .ensures, c .before .before .before .last-in .ensures) at (c .check-summary .ensures) in
+    rw (← c .before .before .before .before .before .before .before .before .is-summed .ensures, c .before .before .before .before .before .before .before .if1 .taken, ← window, eq-eqb _ _ (c .before .before .before .before .if2 .taken), ← summary)
 
--- src/windows.rt:85:9
 returns-2 : tie.Need-returns-2
-returns-2 c = ?
+unfolding ownRefusal choose
+returns-2 c = 
+    let window = rw (c .before .before .plain-words .ensures) at (c .before .check-window .ensures) in
+    rw (← c .before .before .before .before .is-summed .ensures, c .before .before .before .if1 .taken, ← window, ne-eqb _ _ (c .if2 .left))
 
--- src/windows.rt:87:5
 check-window-requires-2 : tie.Need-check-window-requires-2
 check-window-requires-2 c κs = search needs
 
--- src/windows.rt:77:1
 returns-3 : tie.Need-returns-3
-returns-3 c = ?
+unfolding ownRefusal choose
+returns-3 c = rw (← c .before .before .is-summed .ensures, c .before .if1 .left) (c .check-window2 .ensures)
 
 pub own-refusal-spec : {M : Type 1} → statement M
 own-refusal-spec =
