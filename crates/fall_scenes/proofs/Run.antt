@@ -41,8 +41,7 @@ use Rattle.samples.specs.Samples as SA
 use Rattle.ticks.specs.Step as TS
 use Rattle.step.specs.declared.StepAnswer.{StepAnswer}
 use Rattle.step.specs.Answers as SE
-use Rattle.step.specs.Answers.{stepEntry, checkedEntry}
-use Rattle.step.proofs.Laws.{checked-alike}
+use Rattle.step.specs.Answers.{stepAnswer, checkedAsked, stepEntry}
 use Rattle.small_scenes.specs.Moves.{whole}
 use Rattle.small_scenes.specs.Palette as P
 use Rattle.small_scenes.specs.Palette.{records, shapes}
@@ -63,10 +62,11 @@ passes = rw tables-pass
 
 -- so each step is the step without their check
 abbrev answer : MotionNumbers → StepAnswer
-answer m = checkedEntry records shapes cells world rules body m 0
+answer m = stepAnswer m (checkedAsked records shapes cells world rules body m 0)
 
 answered : (m : MotionNumbers) → stepOf (callOf m) ≡ answer m
-answered m = sym (checked-alike records shapes cells world rules body m 0 passes)
+unfolding stepEntry C.choose
+answered m = rw passes
 
 abbrev moveBy : MotionNumbers → StepAnswer → Move
 moveBy m a = record { old = m .feet .y; new = a .motion .feet .y; ground = isYes (a .motion .ground); liquid = a .liquid }
@@ -102,7 +102,7 @@ record Computed : Type 0 where
   fourth : Goes (between bareColumn 565 545) record { old = hundredths 565; new = low; ground = false; liquid = None }
 
 computed : Computed
-unfolding C.choose V.isCap V.capOf LO.listed A.asking A.turning N.sizeOf H.floorSize H.floorInt H.cellOf M.clipAll M.clipSequence M.steppedUp M.moveOver G.spanOf G.onFrom GC.cellHolding D.line D.layer D.walk B.isRegistered B.blocksMotion B.frictionAt B.kindOf B.liquidOf B.liquidAt B.boxesAt W.isVoid W.indexOf W.columnIndexOf K.lookAt J.connectKind J.connectedState SH.connectedShape SH.shapeOf SH.cellShape CO.offerAll CO.visit CO.collectBlockBoxes MA.moveAabb Q.liquidHeld U.surfaceAt Y.shrunk Y.cellsOf Y.surfaceOf Y.wetIn Y.livingTurn Y.livingLiquid BB.modelOf BB.stageOf BB.frictionOf BB.isYes BB.yesNumber BB.flapOf BB.bodyOf BB.motionOf BL.isExtent BL.isSmall BL.measuresFit BL.casesFit BL.rulesFit BL.numbersFit BL.isPosition BL.isVelocity BL.motionFits BL.numberRefusal BL.isFiniteMotion DR.sunk DR.flapped DR.damped DR.floated DR.restsNow DR.pulled DR.unlessStopped SA.sampleOfState SA.told SA.sampled SA.livingSample SA.livingSupport SA.supportAfter TS.tickAfter TS.afterMove TS.moveOn TS.tickBegins TS.senses TS.stepBodySensed SE.finiteTick SE.checkedEntry P.off P.on P.fence P.wall P.rows P.records P.shapes I.toBits I.ofBits I.ofInt I.round I.add I.sub I.mul I.div I.neg I.lt I.le I.eq I.ne
+unfolding C.choose V.isCap V.capOf LO.listed A.asking A.turning N.sizeOf H.floorSize H.floorInt H.cellOf M.clipAll M.clipSequence M.steppedUp M.moveOver G.spanOf G.onFrom GC.cellHolding D.line D.layer D.walk B.isRegistered B.blocksMotion B.frictionAt B.kindOf B.liquidOf B.liquidAt B.boxesAt W.isVoid W.indexOf W.columnIndexOf K.lookAt J.connectKind J.connectedState SH.connectedShape SH.shapeOf SH.cellShape CO.offerAll CO.visit CO.collectBlockBoxes MA.moveAabb Q.liquidHeld U.surfaceAt Y.shrunk Y.cellsOf Y.surfaceOf Y.wetIn Y.livingTurn Y.livingLiquid BB.modelOf BB.stageOf BB.frictionOf BB.isYes BB.yesNumber BB.flapOf BB.bodyOf BB.motionOf BL.isExtent BL.isSmall BL.measuresFit BL.casesFit BL.rulesFit BL.numbersFit BL.isPosition BL.isVelocity BL.motionFits BL.numberRefusal BL.isFiniteMotion DR.sunk DR.flapped DR.damped DR.floated DR.restsNow DR.pulled DR.unlessStopped SA.sampleOfState SA.told SA.sampled SA.livingSample SA.livingSupport SA.supportAfter TS.tickAfter TS.afterMove TS.moveOnBy TS.tickBegins TS.senses TS.stepBodyBy TS.stepBodySensed SE.finiteTick P.off P.on P.fence P.wall P.rows P.records P.shapes I.toBits I.ofBits I.ofInt I.round I.add I.sub I.mul I.div I.neg I.lt I.le I.eq I.ne
 computed =
     record {
       first = record { accepted = refl; moved = refl };

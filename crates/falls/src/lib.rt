@@ -125,8 +125,8 @@ pub fn step_falling_summed(
     }
     let cells = summary::plain_words(words, w);
     let refusal = check_lent(records, shapes, cells, w);
-    if refusal != 0 {
-        return refused_falling(refusal, given, fall);
+    if refusal == 0 {
+        return refused_falling(3, given, fall);
     }
-    refused_falling(3, given, fall)
+    refused_falling(refusal, given, fall)
 }

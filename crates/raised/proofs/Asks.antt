@@ -1,10 +1,12 @@
 -- Two asks side by side: the first refuses 6, or both are the same. Assumes nothing.
 use mathlib.Core.Path.{_≡_, refl, ap, _∙_}
-use mathlib.Core.Bool.{Bool, true, false}
+use mathlib.Core.Bool.{Bool, true, false, not}
 use mathlib.Core.Logic.{_⊎_, inl, inr}
 use Prim.Native.Nat.{ℕ}
+use lib.Dec.{eqb}
 use Rattle.base.specs.Choose.{choose}
 use Rattle.base.specs.Ask.{Ask, refused, found, _>>=_}
+use Rattle.lent.specs.Lent.{unless}
 
 abbrev pub Beside : {A : Type 0} → Ask A → Ask A → Type 0
 Beside m n = (m ≡ refused 6) ⊎ (m ≡ n)
@@ -33,3 +35,7 @@ pub chosen : {A : Type 0} (t : Bool) (x m n : Ask A) → Beside m n → Beside (
 unfolding choose
 chosen true x m n h = inr refl
 chosen false x m n h = h
+
+-- a refusal that is the same in both, where there is one
+pub refused-alike : {A : Type 0} (n m : ℕ) (x y : Ask A) → n ≡ m → Beside x y → Beside (unless (not (eqb n 0)) n x) (unless (not (eqb m 0)) m y)
+refused-alike n m x y e h = rw e (chosen (not (eqb m 0)) (refused m) x y h)

@@ -21,11 +21,13 @@ use Rattle.sweeps.specs.Entry.{answerOf, moveOverList}
 use Rattle.window.specs.declared.Window.{Window}
 use Rattle.window.specs.Look.{lookAt}
 use Rattle.lent.specs.Lent.{directRefusal}
+use Rattle.groups.specs.Summary.{summaryRefusal}
+use Rattle.summary.specs.Calls.{plain}
 use Rattle.collection.specs.Collect.{sweptArea, collectBlockBoxes}
 use Rattle.collection.specs.Answers.{heldAsked}
 use Rattle.collection.proofs.Caps.{raised}
 use Rattle.through.specs.Through.{moveAabb}
-use Rattle.moves.specs.Answers.{collectEntry, moveAnswer, moveEntry}
+use Rattle.moves.specs.Answers.{collectEntry, moveAnswer, moveEntry, moveSummed}
 use Rattle.raised.specs.Raised.{Raised, Alters6}
 use Rattle.raised.proofs.Asks.{Beside, before, told, chosen}
 
@@ -56,6 +58,19 @@ module _ (records : List ℕ) (shapes : List Float) (cells : List ℕ) (w : Wind
         (chosen (not (isStep step)) (refused 3) _ _
         (chosen (not (isBox aabb && isDelta delta)) (refused 4) _ _
         (move-raised (capOf cap) (capOf higher) (raise .above) aabb delta step ground)))))
+
+-- over a summary
+pub moved-summed : (records : List ℕ) (shapes : List Float) (words : List ℕ) (w : Window) (cap higher : ℕ) → Raised cap higher → (aabb : Aabb) (delta : Vec3) (step : Float) (ground : Bool)
+    → Alters6 (moveSummed cap records shapes words w aabb delta step ground .refusal) (moveSummed cap records shapes words w aabb delta step ground) (moveSummed higher records shapes words w aabb delta step ground)
+unfolding moveSummed choose
+moved-summed records shapes words w cap higher raise aabb delta step ground =
+    rw (raise .first, raise .second)
+    (told (moveAnswer aabb) (λ (a : MoveAnswer). a .refusal) refl _ _
+    (chosen _ (refused (directRefusal records shapes (plain words w) w)) _ _
+    (chosen (not (isStep step)) (refused 3) _ _
+    (chosen (not (isBox aabb && isDelta delta)) (refused 4) _ _
+    (chosen _ (refused (summaryRefusal records words w)) _ _
+    (move-raised records shapes (plain words w) w (capOf cap) (capOf higher) (raise .above) aabb delta step ground))))))
 
 module _ (cap higher : ℕ) (raise : Raised cap higher) (list : BoxList) (aabb : Aabb) (delta : Vec3) (step : Float) (ground : Bool) where
   abbrev after : Bool → Bool → Bool → ℕ

@@ -19,6 +19,8 @@ use Rattle.window.specs.declared.Window.{Window}
 use Rattle.window.specs.Look.{Block, lookAt}
 use Rattle.window.specs.Numbers.{withAir}
 use Rattle.lent.specs.Lent.{lentRefusal}
+use Rattle.groups.specs.Summary.{summaryRefusal}
+use Rattle.summary.specs.Calls.{plain}
 use Rattle.bodies.specs.declared.Body.{Body}
 use Rattle.bodies.specs.declared.BodyNumbers.{BodyNumbers}
 use Rattle.bodies.specs.declared.Ground.{Ground}
@@ -33,15 +35,15 @@ use Rattle.drags.specs.Drags.{applyLivingDrag, keptAfter, pulled}
 use Rattle.samples.specs.Samples.{supportingFriction, livingSample, livingSupport, groundSupport, supportAfter}
 use Rattle.through.specs.Through.{moveAabb}
 use Rattle.ticks.specs.declared.Tick.{Tick}
-use Rattle.ticks.specs.Step.{tickAfter, afterMove, moveOn, tickBegins, senses, stepBodySensed}
+use Rattle.ticks.specs.Step.{tickAfter, afterMove, moveOnBy, tickBegins, senses, stepBodyBy, stepBodySensed}
 use Rattle.step.specs.declared.StepAnswer.{StepAnswer}
-use Rattle.step.specs.Answers.{finiteTick, stepAnswer, fitting, checkedAsked, stepEntry}
+use Rattle.step.specs.Answers.{finiteTick, stepAnswer, fitting, checkedAsked, stepEntry, summedAsked, stepSummed}
 use Rattle.falls.specs.declared.Fall.{Fall}
 use Rattle.falls.specs.declared.FallingAnswer.{FallingAnswer}
 use Rattle.falls.specs.Rule.{fallFits}
-use Rattle.falls.specs.Answers.{withFall, fallingEntry}
+use Rattle.falls.specs.Answers.{withFall, fallingEntry, fallingSummed}
 use Rattle.raised.specs.Raised.{Raised, Alters6}
-use Rattle.raised.proofs.Asks.{Beside, alike, before, after, told, chosen}
+use Rattle.raised.proofs.Asks.{Beside, alike, before, after, told, chosen, refused-alike}
 use Rattle.raised.proofs.Lists.{move-raised}
 
 module _ (rules : Rules) (c d : ℕ) where
@@ -87,15 +89,15 @@ module _ (rules : Rules) (c d : ℕ) where
     -- ---- a tick whose moves are side by side
     module _ (shapes : List Float) (both : (aabb : Aabb) (delta : Vec3) (step : Float) (ground : Bool) → Beside (moveAabb (capOf c) look records shapes aabb delta step ground) (moveAabb (capOf d) look records shapes aabb delta step ground)) where
       moves-on : (body : Body) (aabb : Aabb) (onGround : Bool) (flotation liquid : LiquidKind) (v : Vec3)
-          → Beside (moveOn look records shapes lower body aabb onGround flotation liquid v) (moveOn look records shapes upper body aabb onGround flotation liquid v)
-      unfolding moveOn
+          → Beside (moveOnBy (moveAabb (capOf c) look records shapes) look records lower body aabb onGround flotation liquid v) (moveOnBy (moveAabb (capOf d) look records shapes) look records upper body aabb onGround flotation liquid v)
+      unfolding moveOnBy
       moves-on body aabb onGround flotation liquid v =
           let velocity : Vec3 = pulled body flotation v in
           before _ _ _ _ (both aabb velocity (body .step) onGround)
           (λ m. same-after body liquid (feetOf (m .aabb)) (m .ground) (keptAfter (m .moved) velocity))
 
       ticks : (body : Body) (motion : Motion) (age : ℕ) → Beside (stepBodySensed look records shapes lower body motion age) (stepBodySensed look records shapes upper body motion age)
-      unfolding stepBodySensed
+      unfolding stepBodySensed stepBodyBy
       ticks body motion age =
           let aabb : Aabb = fromFeet (motion .feet) (body .width) (body .height) in
           after (tickBegins look records body aabb motion age) _ _ (λ begun.
@@ -128,3 +130,21 @@ module _ (rules : Rules) (c d : ℕ) (raise : Raised c d) (records : List ℕ) (
   fallen fall =
       told (λ (m : Ask Tick). withFall fall given (stepAnswer given m)) (λ (a : FallingAnswer). a .step .refusal) refl _ _
       (chosen _ (refused (lentRefusal records shapes cells w)) _ _ (chosen (not (fallFits fall)) (refused 3) _ _ checked))
+
+-- ---- and over a summary
+module _ (rules : Rules) (c d : ℕ) (raise : Raised c d) (records : List ℕ) (shapes : List Float) (words : List ℕ) (w : Window) (body : BodyNumbers) (given : MotionNumbers) (age : ℕ) where
+  by-summary : Beside (summedAsked records shapes words w (withCap rules c) body given age) (summedAsked records shapes words w (withCap rules d) body given age)
+  by-summary =
+      refused-alike (numberRefusal records (withCap rules c) body given) (numberRefusal records (withCap rules d) body given) _ _ (same-refusal rules c d raise records shapes (plain words w) w body given age)
+      (chosen _ (refused (summaryRefusal records words (withAir w (rules .air)))) _ _
+      (checked rules c d raise records shapes (plain words w) w body given age))
+
+  pub stepped-summed : Alters6 (stepSummed records shapes words w (withCap rules c) body given age .refusal) (stepSummed records shapes words w (withCap rules c) body given age) (stepSummed records shapes words w (withCap rules d) body given age)
+  unfolding stepSummed
+  stepped-summed = told (stepAnswer given) (λ (a : StepAnswer). a .refusal) refl _ _ (chosen _ (refused (lentRefusal records shapes (plain words w) w)) _ _ by-summary)
+
+  pub fallen-summed : (fall : Fall) → Alters6 (fallingSummed records shapes words w (withCap rules c) body given age fall .step .refusal) (fallingSummed records shapes words w (withCap rules c) body given age fall) (fallingSummed records shapes words w (withCap rules d) body given age fall)
+  unfolding fallingSummed withFall
+  fallen-summed fall =
+      told (λ (m : Ask Tick). withFall fall given (stepAnswer given m)) (λ (a : FallingAnswer). a .step .refusal) refl _ _
+      (chosen _ (refused (lentRefusal records shapes (plain words w) w)) _ _ (chosen (not (fallFits fall)) (refused 3) _ _ by-summary))

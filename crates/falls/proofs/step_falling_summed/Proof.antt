@@ -33,9 +33,9 @@ returns-2 : tie.Need-returns-2
 unfolding fallingSummed withFall choose
 returns-2 c =
     let at-check-lent = c .before .before in
+    let at-if1 = at-check-lent .before .before in
     let checked = rw (at-check-lent .before .plain-words .ensures) at (at-check-lent .check-lent .ensures) in
-    let refuses = ne-eqb _ _ (c .before .if2 .taken) in
-    rw (← checked, refuses, refuses, ← c .refused-falling .ensures)
+    rw (← checked, eq-eqb _ _ (c .before .if2 .taken), ← at-if1 .before .fall-fits .ensures, at-if1 .if1 .left, ← c .refused-falling .ensures)
 
 refused-falling-requires-2 : tie.Need-refused-falling-requires-2
 refused-falling-requires-2 c κs = search needs
@@ -44,9 +44,9 @@ returns-3 : tie.Need-returns-3
 unfolding fallingSummed withFall choose
 returns-3 c =
     let at-check-lent = c .before .before in
-    let at-if1 = at-check-lent .before .before in
     let checked = rw (at-check-lent .before .plain-words .ensures) at (at-check-lent .check-lent .ensures) in
-    rw (← checked, eq-eqb _ _ (c .before .if2 .left), ← at-if1 .before .fall-fits .ensures, at-if1 .if1 .left, ← c .refused-falling2 .ensures)
+    let refuses = ne-eqb _ _ (c .before .if2 .left) in
+    rw (← checked, refuses, refuses, ← c .refused-falling2 .ensures)
 
 pub step-falling-summed-spec : {M : Type 1} → statement M
 step-falling-summed-spec =

@@ -104,7 +104,7 @@ returns c =
     let cell = c .before .before .before .before .place .ensures in
     let shape = sym (c .before .before .before .quick-part .ensures) ∙ ap shapeAsked (c .before .n .given .1) in
     let stop = cell-refused (push _) _ _ _ _ _ _ _ _ (cells-turn (push _) _ _ _ _ _ _ _ _ _ _ (c .before .before .before .before .before .loop3-test .taken) _ cell) (c .before .n .given .0 .0) shape in
-    not-moved _ _ _ _ _ _ _ _ _ (sym stop ∙ i .1)
+    not-moved _ _ _ _ _ _ _ _ _ _ (sym stop ∙ i .1)
 
 enum-known-s : tie.Need-enum-known-s Inv-loop4 μ-loop4 Inv-loop3 μ-loop3 Inv-loop2 μ-loop2 Inv-loop μ-loop Inv-loop6 μ-loop6 Inv-loop5 μ-loop5
 enum-known-s c = search needs
@@ -257,7 +257,7 @@ returns-3 c =
     let at-loop5 = at-loop5-test .before in
     let at-loop-test = at-loop5 .before .before in
     let at-loop = at-loop-test .before in
-    moved _ _ _ _ _ _ _ _ _ (sym (layers-end (push _) _ _ _ _ _ _ _ _ (at-loop-test .loop-test .left)) ∙ at-loop .loop .inv .1) _ (pass-over _ _ (at-loop5 .loop5 .pass) (at-loop5 .loop5 .s) (at-next .next .result) _ (made (at-loop .loop .list .boxes) (at-loop .loop .list .count) few (at-loop .loop .inv .0 .whole) _ _ (fully few _ _ (at-loop .loop .inv .0)) _ (at-loop5 .loop5 .pass) (at-loop5 .loop5 .s) _ _ _ _ (at-loop6 .loop6 .d) (at-axis-of .axis-of .ensures) (at-wanted .wanted .ensures) (at-loop6-test .loop6-test .left) (at-loop6 .loop6 .inv) (at-gone .gone .ensures) (at-next .next .ensures)) (at-loop5-test .loop5-test .taken) (c .before .if3 .taken) (at-loop5 .loop5 .inv)) _ (c .ended .ensures)
+    moved _ _ _ _ _ _ _ _ _ _ (sym (layers-end (push _) _ _ _ _ _ _ _ _ (at-loop-test .loop-test .left)) ∙ at-loop .loop .inv .1) _ (pass-over _ _ (at-loop5 .loop5 .pass) (at-loop5 .loop5 .s) (at-next .next .result) _ (made (at-loop .loop .list .boxes) (at-loop .loop .list .count) few (at-loop .loop .inv .0 .whole) _ _ (fully few _ _ (at-loop .loop .inv .0)) _ (at-loop5 .loop5 .pass) (at-loop5 .loop5 .s) _ _ _ _ (at-loop6 .loop6 .d) (at-axis-of .axis-of .ensures) (at-wanted .wanted .ensures) (at-loop6-test .loop6-test .left) (at-loop6 .loop6 .inv) (at-gone .gone .ensures) (at-next .next .ensures)) (at-loop5-test .loop5-test .taken) (c .before .if3 .taken) (at-loop5 .loop5 .inv)) _ (c .ended .ensures)
 
 add-pass : tie.Need-add-pass Inv-loop4 μ-loop4 Inv-loop3 μ-loop3 Inv-loop2 μ-loop2 Inv-loop μ-loop Inv-loop6 μ-loop6 Inv-loop5 μ-loop5
 add-pass c = omega arith
@@ -286,7 +286,7 @@ returns-4 c =
     let at-loop5 = c .before .before in
     let at-loop-test = at-loop5 .before .before in
     let at-loop = at-loop-test .before in
-    moved _ _ _ _ _ _ _ _ _ (sym (layers-end (push _) _ _ _ _ _ _ _ _ (at-loop-test .loop-test .left)) ∙ at-loop .loop .inv .1) _ (passes-end _ _ (at-loop5 .loop5 .pass) (at-loop5 .loop5 .s) _ (c .before .loop5-test .left) (at-loop5 .loop5 .inv)) _ (c .ended2 .ensures)
+    moved _ _ _ _ _ _ _ _ _ _ (sym (layers-end (push _) _ _ _ _ _ _ _ _ (at-loop-test .loop-test .left)) ∙ at-loop .loop .inv .1) _ (passes-end _ _ (at-loop5 .loop5 .pass) (at-loop5 .loop5 .s) _ (c .before .loop5-test .left) (at-loop5 .loop5 .inv)) _ (c .ended2 .ensures)
 
 pub swept-through-spec : {M : Type 1} → statement M
 swept-through-spec =

@@ -7,8 +7,8 @@ use Rattle.midnight.proofs.answers.checked_step.Tie as tie
 scene-words-requires : tie.Need-scene-words-requires
 scene-words-requires c κs = search needs
 
-rules-from-requires : tie.Need-rules-from-requires
-rules-from-requires c κs = search needs
+rules-in-requires : tie.Need-rules-in-requires
+rules-in-requires c κs = search needs
 
 cells-in-requires : tie.Need-cells-in-requires
 cells-in-requires c κs = search needs
@@ -33,15 +33,16 @@ step-falling-checked-requires c κs = search needs
 
 returns : tie.Need-returns
 unfolding checkedStep
-returns c = rw (← c .before .before .before .before .before .before .before .before .scene-words .ensures, ← c .before .before .before .before .before .before .before .rules-from .ensures, ← c .before .before .before .before .before .before .cells-in .ensures, ← c .before .before .before .before .before .step-words .ensures, ← c .before .before .before .before .body-from .ensures, ← c .before .before .before .motion-from .ensures, ← c .before .before .age-in .ensures, ← c .before .fall-in .ensures) (c .step-falling-checked .ensures)
+returns c =
+    let own = rw (c .before .before .before .before .before .before .cells-in .ensures, c .before .before .before .before .before .before .before .rules-in .ensures) at (c .before .before .before .before .before .step-words .ensures) in
+    rw (← own, ← c .before .before .before .before .before .before .before .before .scene-words .ensures, ← c .before .before .before .before .before .before .before .rules-in .ensures, ← c .before .before .before .before .body-from .ensures, ← c .before .before .before .motion-from .ensures, ← c .before .before .age-in .ensures, ← c .before .fall-in .ensures) (c .step-falling-checked .ensures)
 
 pub checked-step-spec : {M : Type 1} → statement M
 checked-step-spec =
     tie.close
     (tie.spec
     scene-words-requires
-    cap-in-requires
-    rules-from-requires
+    rules-in-requires
     cells-in-requires
     step-words-requires
     body-from-requires
