@@ -14,7 +14,7 @@ part-result-end : tie.Need-part-result-end
 part-result-end c = search needs
 
 returns : tie.Need-returns
-returns c = front-none _ (c .if1 .taken)
+returns c = front-none (c .before .before .args .own .now) (c .before .if1 .taken)
 
 sub-result-2 : tie.Need-sub-result-2
 sub-result-2 c = search needs
@@ -29,7 +29,7 @@ part-result-end-2 : tie.Need-part-result-end-2
 part-result-end-2 c = search needs
 
 returns-2 : tie.Need-returns-2
-returns-2 c = front-some _
+returns-2 c = front-some (c .before .before .args .own .now)
 
 pub front-spec : {M : Type 1} → statement M
 front-spec =

@@ -5,7 +5,7 @@ use Rattle.midnight.proofs.windows.last_in.Statement.{statement}
 use Rattle.midnight.proofs.windows.last_in.Tie as tie
 
 returns : tie.Need-returns
-returns c = last-none _ (c .if1 .taken)
+returns c = last-none (c .before .args .own .now) (c .if1 .taken)
 
 sub-result : tie.Need-sub-result
 sub-result c = search needs
