@@ -31,7 +31,7 @@ use Rattle.bodies.specs.declared.Rules.{Rules}
 use Rattle.bodies.specs.Body.{bodyOf, motionOf, isLiving, isFallingBlock, withCap}
 use Rattle.bodies.specs.Limits.{rulesFit, numbersFit, numberRefusal}
 use Rattle.drags.specs.declared.Support.{Support}
-use Rattle.drags.specs.Drags.{applyLivingDrag, keptAfter, pulled}
+use Rattle.drags.specs.Drags.{sunk, applyLivingDrag, keptAfter, pulled}
 use Rattle.samples.specs.Samples.{supportingFriction, livingSample, livingSupport, groundSupport, supportAfter}
 use Rattle.through.specs.Through.{moveAabb}
 use Rattle.ticks.specs.declared.Tick.{Tick}
@@ -71,7 +71,7 @@ module _ (rules : Rules) (c d : ℕ) where
     same-support body liquid feet onGround = rw (same-living feet onGround liquid, same-ground feet (body .friction))
 
     same-drag : (body : Body) (liquid : LiquidKind) (support : Support) (v : Vec3) → applyLivingDrag lower body liquid support v ≡ applyLivingDrag upper body liquid support v
-    unfolding applyLivingDrag
+    unfolding sunk
     same-drag body Water support v = refl
     same-drag body Lava support v = refl
     same-drag body None support v = refl
