@@ -5,7 +5,7 @@ use mathlib.Core.Logic.{_⊎_, inl, inr}
 use mathlib.Core.List.{List}
 use Prim.Native.Nat.{ℕ, _≤_}
 use native.Mathlib.Omega.{arith}
-use lib.Dec.{ltb}
+use lib.Dec.{eqb, ltb}
 use lib.Ieee.{Float}
 use borrow.Author.Tests.{ltb-true, ltb-false}
 use Rattle.base.specs.Choose.{choose}
@@ -44,7 +44,7 @@ module _ (records : List ℕ) (shapes : List Float) (cells : List ℕ) (w : Wind
     collected area =
         rw (raise .first, raise .second)
         (told heldAsked (λ (h : Held). h .refusal) refl _ _
-        (chosen _ (refused (directRefusal records shapes cells w)) _ _
+        (chosen (not (eqb (directRefusal records shapes cells w) 0)) (refused (directRefusal records shapes cells w)) _ _
         (chosen (not (isBox area)) (refused 4) _ _
         (raised cells w records shapes area (capOf cap) (capOf higher) (raise .above)))))
 
@@ -54,7 +54,7 @@ module _ (records : List ℕ) (shapes : List Float) (cells : List ℕ) (w : Wind
     moved aabb delta step ground =
         rw (raise .first, raise .second)
         (told (moveAnswer aabb) (λ (a : MoveAnswer). a .refusal) refl _ _
-        (chosen _ (refused (directRefusal records shapes cells w)) _ _
+        (chosen (not (eqb (directRefusal records shapes cells w) 0)) (refused (directRefusal records shapes cells w)) _ _
         (chosen (not (isStep step)) (refused 3) _ _
         (chosen (not (isBox aabb && isDelta delta)) (refused 4) _ _
         (move-raised (capOf cap) (capOf higher) (raise .above) aabb delta step ground)))))
@@ -66,10 +66,10 @@ unfolding moveSummed choose
 moved-summed records shapes words w cap higher raise aabb delta step ground =
     rw (raise .first, raise .second)
     (told (moveAnswer aabb) (λ (a : MoveAnswer). a .refusal) refl _ _
-    (chosen _ (refused (directRefusal records shapes (plain words w) w)) _ _
+    (chosen (not (eqb (directRefusal records shapes (plain words w) w) 0)) (refused (directRefusal records shapes (plain words w) w)) _ _
     (chosen (not (isStep step)) (refused 3) _ _
     (chosen (not (isBox aabb && isDelta delta)) (refused 4) _ _
-    (chosen _ (refused (summaryRefusal records words w)) _ _
+    (chosen (not (eqb (summaryRefusal records words w) 0)) (refused (summaryRefusal records words w)) _ _
     (move-raised records shapes (plain words w) w (capOf cap) (capOf higher) (raise .above) aabb delta step ground))))))
 
 module _ (cap higher : ℕ) (raise : Raised cap higher) (list : BoxList) (aabb : Aabb) (delta : Vec3) (step : Float) (ground : Bool) where
