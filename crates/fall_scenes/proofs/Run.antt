@@ -65,7 +65,7 @@ abbrev answer : MotionNumbers → StepAnswer
 answer m = stepAnswer m (checkedAsked records shapes cells world rules body m 0)
 
 answered : (m : MotionNumbers) → stepOf (callOf m) ≡ answer m
-unfolding stepEntry C.choose
+unfolding stepEntry choose
 answered m = rw passes
 
 abbrev moveBy : MotionNumbers → StepAnswer → Move

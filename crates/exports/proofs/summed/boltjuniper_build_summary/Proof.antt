@@ -16,7 +16,7 @@ same-length c = search needs
 
 returns : tie.Need-returns
 returns c =
-    let at-window = c .before .before .before in
+    let at-window = c .before .before .before .before in
     let s = at-window .before .before .before .before in
     let a = s .args in
     rw (at-window .window-of .ensures, toZ-ofZ w32 (a .ox) (s .fits .ox), toZ-ofZ w32 (a .oy) (s .fits .oy), toZ-ofZ w32 (a .oz) (s .fits .oz), toZ-ofZ w32 (a .lowest) (s .fits .lowest), toZ-ofZ w32 (a .highest) (s .fits .highest)) at (c .before .before .build-summary .ensures)

@@ -16,7 +16,7 @@ same-length c = search needs
 
 returns : tie.Need-returns
 returns c =
-    let at-window = c .before .before .before in
+    let at-window = c .before .before .before .before in
     let s = at-window .before .before .before .before in
     let a = s .args in
     rw (at-window .window-of .ensures, toZ-ofZ w32 (a .ox) (s .fits .ox), toZ-ofZ w32 (a .oy) (s .fits .oy), toZ-ofZ w32 (a .oz) (s .fits .oz), toZ-ofZ w32 (a .lowest) (s .fits .lowest), toZ-ofZ w32 (a .highest) (s .fits .highest), toZ-ofZ w32 (a .x) (s .fits .x), toZ-ofZ w32 (a .y) (s .fits .y), toZ-ofZ w32 (a .z) (s .fits .z)) at (c .before .before .set-block .ensures)
