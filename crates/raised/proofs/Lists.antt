@@ -5,7 +5,7 @@ use mathlib.Core.Logic.{_⊎_, inl, inr}
 use mathlib.Core.List.{List}
 use Prim.Native.Nat.{ℕ, _≤_}
 use native.Mathlib.Omega.{arith}
-use lib.Dec.{ltb}
+use lib.Dec.{eqb, ltb}
 use lib.Ieee.{Float}
 use borrow.Author.Tests.{ltb-true, ltb-false}
 use Rattle.base.specs.Choose.{choose}
@@ -42,7 +42,7 @@ module _ (records : List ℕ) (shapes : List Float) (cells : List ℕ) (w : Wind
     collected area =
         rw (raise .first, raise .second)
         (told heldAsked (λ (h : Held). h .refusal) refl _ _
-        (chosen _ (refused (directRefusal records shapes cells w)) _ _
+        (chosen (not (eqb (directRefusal records shapes cells w) 0)) (refused (directRefusal records shapes cells w)) _ _
         (chosen (not (isBox area)) (refused 4) _ _
         (raised cells w records shapes area (capOf cap) (capOf higher) (raise .above)))))
 
@@ -52,7 +52,7 @@ module _ (records : List ℕ) (shapes : List Float) (cells : List ℕ) (w : Wind
     moved aabb delta step ground =
         rw (raise .first, raise .second)
         (told (moveAnswer aabb) (λ (a : MoveAnswer). a .refusal) refl _ _
-        (chosen _ (refused (directRefusal records shapes cells w)) _ _
+        (chosen (not (eqb (directRefusal records shapes cells w) 0)) (refused (directRefusal records shapes cells w)) _ _
         (chosen (not (isStep step)) (refused 3) _ _
         (chosen (not (isBox aabb && isDelta delta)) (refused 4) _ _
         (move-raised (capOf cap) (capOf higher) (raise .above) aabb delta step ground)))))
