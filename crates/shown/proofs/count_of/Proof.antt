@@ -19,7 +19,7 @@ cast-result : tie.Need-cast-result
 cast-result c = let e = c .counted .ensures in omega arith
 
 returns : tie.Need-returns
-returns c = let s = c .before .before in as-many (s .args .list .boxes) (s .args .list .count) room (whole s) _ (c .before .counted .ensures)
+returns c = let s = c .before in as-many (s .args .list .boxes) (s .args .list .count) room (whole s) _ (c .counted .ensures)
 
 pub count-of-spec : {M : Type 1} → statement M
 count-of-spec = tie.close (tie.spec counted-requires cast-result returns)
