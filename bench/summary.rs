@@ -37,9 +37,10 @@ struct Scene {
     delta: [f64; 3],
 }
 
-fn scene(records: &[u32], sizes: [u32; 3], is_full: impl Fn(u32) -> bool, mover: [f64; 6], delta: [f64; 3]) -> Scene {
+fn scene(records: &[u32], sizes: [u32; 3], is_full: impl Fn(u32, u32, u32) -> bool, mover: [f64; 6], delta: [f64; 3]) -> Scene {
     let [sx, sy, sz] = sizes;
-    let mut plain: Vec<u32> = (0..sy).flat_map(|y| std::iter::repeat_n(is_full(y) as u32, (sx * sz) as usize)).collect();
+    let cells = (0..sy).flat_map(|y| (0..sz).flat_map(move |z| (0..sx).map(move |x| (x, y, z))));
+    let mut plain: Vec<u32> = cells.map(|(x, y, z)| is_full(x, y, z) as u32).collect();
     plain.extend(std::iter::repeat_n(1, (sx * sz) as usize));
     let mut summed = plain.clone();
     let groups: u32 = sizes.iter().map(|s| s.div_ceil(4)).product();
@@ -67,20 +68,26 @@ fn way(records: &[u32], s: &Scene, words: &[u32], k: u32) -> f64 {
 fn main() {
     let records = records();
     let body = |y: f64| [3.2, y, 3.2, 3.8, y + 1.8, 3.8];
+    let fall = [0.3, -36.0, 0.2];
     let all = [
-        // a fall through 40 layers onto the ground, 5 of them full: 7 in 8 are empty
-        ("a fall through 40 layers, 35 empty", scene(&records, [8, 44, 8], |y| y < 5, body(40.0), [0.3, -40.0, 0.2])),
-        // the same where each eighth layer is full, so that every second group is marked 1
-        ("a fall past floors, 1 layer in 8 full", scene(&records, [8, 44, 8], |y| y % 8 == 0, body(40.0), [0.3, -40.0, 0.2])),
+        // through layers 2 to 41 onto the ground, 5 of the 40 full: 7 in 8 are empty
+        ("a fall through 40 layers, 35 empty", scene(&records, [8, 44, 8], |_, y, _| y < 7, body(39.5), fall)),
+        // the same down a shaft, so that no box is collected: the time is that of collection alone
+        ("the same down a shaft", scene(&records, [8, 44, 8], |x, y, z| y < 7 && !((3..5).contains(&x) && (3..5).contains(&z)), body(39.5), fall)),
+        ("the same of a body 2 wide", scene(&records, [8, 44, 8], |_, y, _| y < 7, [3.2, 39.5, 3.2, 5.2, 41.3, 5.2], fall)),
+        // the same where each eighth layer is full, so that every second group is marked 1; and where no layer is empty
+        ("a fall past floors, 1 layer in 8 full", scene(&records, [8, 44, 8], |_, y, _| y % 8 == 0, body(39.5), fall)),
+        ("a fall through 40 full layers", scene(&records, [8, 44, 8], |_, _, _| true, body(39.5), fall)),
         // steps: where no group is empty, where the ground's are full, and where the body is in empty ones
-        ("a step of a body over a full window", scene(&records, [8, 8, 8], |_| true, body(6.0), [0.2, -0.08, 0.1])),
-        ("a step of a body on the ground", scene(&records, [8, 8, 8], |y| y < 4, body(4.0), [0.2, -0.08, 0.1])),
-        ("a step of a body in the air", scene(&records, [8, 12, 8], |y| y < 4, body(6.5), [0.2, -0.3, 0.1])),
+        ("a step of a body over a full window", scene(&records, [8, 8, 8], |_, _, _| true, body(5.0), [0.2, -0.08, 0.1])),
+        ("a step of a body on the ground", scene(&records, [8, 8, 8], |_, y, _| y < 4, body(4.0), [0.2, -0.08, 0.1])),
+        ("a step of a body in the air", scene(&records, [8, 12, 8], |_, y, _| y < 4, body(6.5), [0.2, -0.3, 0.1])),
     ];
     for (what, s) in &all {
         for k in 0..3 {
             assert_eq!(way(&records, s, &s.plain, k).to_bits(), way(&records, s, &s.summed, k).to_bits(), "{what}");
         }
+        assert!(way(&records, s, &s.plain, 0) != 0.0, "refused: {what}");
         let mut best = [f64::MAX; 2];
         for _ in 0..400 {
             for (k, words) in [&s.plain, &s.summed].into_iter().enumerate() {
