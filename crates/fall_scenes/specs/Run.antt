@@ -39,7 +39,7 @@ rules = record { friction = ratio 3 5; depth = ratio 1 2; gravity = ratio 1 2; w
 
 -- three columns, of a world two cells high: a cube at y 5, water at y 6, nothing; above and below them is sky and void
 abbrev pub world : Window
-world = record { origin = record { x = pos 0; y = pos 5; z = pos 0 }; sizes = record { x = 3; y = 2; z = 1 }; lowest = pos 5; highest = pos 6; air = air; cap = 0 }
+world = record { origin = record { x = pos 0; y = pos 5; z = pos 0 }; sizes = record { x = 3; y = 2; z = 1 }; lowest = pos 5; highest = pos 6; air = air }
 
 abbrev pub cells : List ℕ
 cells =
