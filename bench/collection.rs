@@ -266,7 +266,7 @@ fn main() {
             cells[(((n / 16 + 4) * SIZE + (n / 4 % 4 + 2)) * SIZE + (n % 4 + 2)) as usize] = 4;
         }
         cells.resize((SIZE * SIZE * (SIZE + 1)) as usize, 1);
-        let s = Scene { cells, mover: [-1.75, 0.25, -1.75, 1.5, 1.75, 1.5], delta: [0.25, -0.125, 0.25] };
+        let s = Scene { cells, mover: [-1.75, 0.03, -1.75, 1.5, 1.97, 1.5], delta: [0.25, -0.01, 0.25] };
         for k in 0..3 {
             assert_eq!(ours(&records, &shapes, &s, k).to_bits(), rusts(&registry, &s, k).to_bits());
         }
