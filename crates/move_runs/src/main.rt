@@ -132,8 +132,15 @@ fn caps() {
     let more = layers(2);
     collect(2, &more, w, a); // 129 boxes
     hits(1, &more, w, a); // a hit meets no 6
+}
+
+fn other_caps() {
+    let w = window_of(Pos { x: 0, y: -1, z: 0 }, 4, 2, 2);
+    let a = area(3.97, 0.9, 1.9);
+    let more = layers(2);
     collect_under(0, 30, &more, w, a); // 129 boxes under a cap of 0, which is 512
     collect_under(129, 31, &more, w, a); // and under one of 129
+    let full = layers(0);
     collect_under(127, 32, &full, w, a); // 128 boxes under one of 127
     collect_under(512, 33, &full, w, a);
     collect_under(513, 34, &full, w, a); // no cap
@@ -335,6 +342,7 @@ fn skies() {
 
 fn main() {
     caps();
+    other_caps();
     rims();
     fences();
     fences_beside_unloaded();
