@@ -205,12 +205,13 @@ fn time(n: usize, mut ours: impl FnMut(usize) -> f64, mut rusts: impl FnMut(usiz
 }
 
 fn main() {
-    // States: 0 air, 1 a cube, 2 a slab, 3 a stair of two boxes.
+    // States: 0 air, 1 a cube, 2 a slab, 3 a stair of two boxes, 4 a pile of 16.
     let boxes: Vec<Vec<[f32; 6]>> = vec![
         vec![],
         vec![[0.0, 0.0, 0.0, 1.0, 1.0, 1.0]],
         vec![[0.0, 0.0, 0.0, 1.0, 0.5, 1.0]],
         vec![[0.0, 0.0, 0.0, 1.0, 0.5, 1.0], [0.5, 0.5, 0.0, 1.0, 1.0, 1.0]],
+        (0..16u8).map(|k| [0.0, f32::from(k) / 16.0, 0.0, 1.0, f32::from(k + 1) / 16.0, 1.0]).collect(),
     ];
     let mut records = Vec::new();
     let mut shapes: Vec<f32> = Vec::new();
@@ -223,7 +224,7 @@ fn main() {
         shapes.extend(b.iter().flatten());
     }
     SHAPES.set(boxes).unwrap();
-    let registry = plain_registry(4);
+    let registry = plain_registry(5);
     let mut seed = 0x9e37_79b9_7f4a_7c15u64;
     let mut next = move || {
         seed ^= seed << 13;
@@ -257,4 +258,21 @@ fn main() {
         let (a, b) = time(n, |i| ours(&records, &shapes, &scenes[i], 0), |i| rusts(&registry, &scenes[i], 0));
         println!("{what} ({:.1}): ours {a:7.1} ns   Rust {b:7.1} ns   ratio {:.2}", boxes as f64 / n as f64, a / b);
     }
+    // 4 by 4 columns and, with the layer below, 4 layers: 64 cells, of which 8 or 32 hold a pile of 16 boxes each.
+    let mut whole = Vec::new();
+    for piles in [8, 32] {
+        let mut cells = vec![0u32; (SIZE * SIZE * SIZE) as usize];
+        for n in 0..piles {
+            cells[(((n / 16 + 4) * SIZE + (n / 4 % 4 + 2)) * SIZE + (n % 4 + 2)) as usize] = 4;
+        }
+        cells.resize((SIZE * SIZE * (SIZE + 1)) as usize, 1);
+        let s = Scene { cells, mover: [-1.75, 0.03, -1.75, 1.5, 1.97, 1.5], delta: [0.25, -0.01, 0.25] };
+        for k in 0..3 {
+            assert_eq!(ours(&records, &shapes, &s, k).to_bits(), rusts(&registry, &s, k).to_bits());
+        }
+        let (a, b) = time(20, |_| ours(&records, &shapes, &s, 0), |_| rusts(&registry, &s, 0));
+        println!("64 cells, {} boxes: ours {a:7.1} ns   Rust {b:7.1} ns   ratio {:.2}", count(&registry, &s), a / b);
+        whole.push(a);
+    }
+    println!("512 boxes, of what 128 cost: {:.2}", whole[1] / whole[0]);
 }

@@ -26,7 +26,7 @@ fn ours(records: &[u32], shapes: &[f32], w: &World, c: &Call, out: &mut [f64; 10
     unsafe {
         boltjuniper_step(
             records.as_ptr(), records.len(), shapes.as_ptr(), shapes.len(), c.cells.as_ptr(), c.cells.len(), o.x, o.y, o.z, s.x as u32, s.y as u32,
-            s.z as u32, w.ends.0, w.ends.1, c.numbers.as_ptr(), 19, c.words.as_ptr(), 6, c.age, out.as_mut_ptr(), out.len(),
+            s.z as u32, w.ends.0, w.ends.1, c.numbers.as_ptr(), 19, c.words.as_ptr(), 7, c.age, out.as_mut_ptr(), out.len(),
         )
     }
 }

@@ -14,7 +14,7 @@ use standins::{entity, world};
 use yards::{KINDS, LOW, SIZE, Told, WORLD, after, bits, first, numbers, ours, rusts, window};
 
 unsafe extern "C" {
-    fn boltjuniper_midnight(
+    fn boltjuniper_midnight_capped(
         records: *const u32, records_len: usize, shapes: *const f32, shapes_len: usize, windows: *const u32, windows_len: usize, windows_count: u32,
         cells: *const u32, cells_len: usize, numbers: *const f64, numbers_len: usize, words: *const u32, words_len: usize, bodies_count: u32,
         out: *mut f64, out_len: usize,
@@ -35,10 +35,10 @@ struct Lent {
 }
 
 #[inline(never)]
-fn night(t: &Lent, numbers: &[[f64; 21]], words: &[[u32; 9]], out: &mut [[f64; 13]]) -> u32 {
+fn night(t: &Lent, numbers: &[[f64; 21]], words: &[[u32; 10]], out: &mut [[f64; 13]]) -> u32 {
     let (n, w, o) = (numbers.as_flattened(), words.as_flattened(), out.as_flattened_mut());
     unsafe {
-        boltjuniper_midnight(
+        boltjuniper_midnight_capped(
             t.records.as_ptr(), t.records.len(), t.shapes.as_ptr(), t.shapes.len(), t.windows.as_ptr(), t.windows.len(), WINDOWS as u32,
             t.cells.as_ptr(), t.cells.len(), n.as_ptr(), n.len(), w.as_ptr(), w.len(), numbers.len() as u32, o.as_mut_ptr(), o.len(),
         )
@@ -78,11 +78,11 @@ fn main() {
     };
     let lent = Lent { records, shapes, windows: (0..WINDOWS).flat_map(row).collect(), cells: windows.concat() };
     let numbers: Vec<[f64; 21]> = calls.iter().map(|(_, c)| std::array::from_fn(|k| if k < 19 { c.numbers[k] } else { 0.0 })).collect();
-    let words: Vec<[u32; 9]> = calls
+    let words: Vec<[u32; 10]> = calls
         .iter()
         .map(|(j, c)| {
-            let [a, b, d, e, f, g] = c.words;
-            [*j as u32, c.age as u32, (c.age >> 32) as u32, a, b, d, e, f, g]
+            let [a, b, d, e, f, g, cap] = c.words;
+            [*j as u32, c.age as u32, (c.age >> 32) as u32, a, b, d, e, f, g, cap]
         })
         .collect();
     let mut out = vec![[9.0; 13]; BODIES + 1];

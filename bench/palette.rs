@@ -103,7 +103,7 @@ pub struct Call<'a> {
     pub ground: bool,
     pub age: u64,
     pub numbers: [f64; 19],
-    pub words: [u32; 6],
+    pub words: [u32; 7],
 }
 
 impl<'a> Call<'a> {
@@ -125,7 +125,7 @@ impl<'a> Call<'a> {
             GravityStage::AfterDrag => 2,
         };
         let friction = u32::from(b.ground_friction == GroundFriction::Block);
-        let words = [u32::from(ground), model, stage, friction, u32::from(b.wing_flap_drag.is_some()), 0];
+        let words = [u32::from(ground), model, stage, friction, u32::from(b.wing_flap_drag.is_some()), 0, 0];
         Self { cells, body, feet, velocity, ground, age, numbers, words }
     }
 }

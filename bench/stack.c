@@ -16,9 +16,9 @@
 
 /* ---- the input at hand */
 
-enum { STATES = 4096, BOXES = 16384, CELLS = 64 * 64 * 65, FILE_BYTES = 128 * 512, LIST = 128 };
+enum { STATES = 4096, BOXES = 16384, CELLS = 64 * 64 * 65, FILE_BYTES = 128 * 512, LIST = 512 };
 
-static uint32_t records[20 * STATES], states, cells[CELLS], words[6], air;
+static uint32_t records[20 * STATES], states, cells[CELLS], words[7], air;
 static float shapes[6 * BOXES];
 static uint32_t boxes, sizes[3];
 static int32_t origin[3], lowest, highest;
@@ -26,7 +26,7 @@ static double numbers[19], mover[9], list[6 * (LIST + 1)];
 static size_t listed, file_bytes;
 static uint64_t age;
 static uint32_t file[FILE_BYTES / 4 + 128];
-static uint32_t night_window[BOLTJUNIPER_WINDOW_WORDS], night_words[BOLTJUNIPER_BODY_WORDS];
+static uint32_t night_window[BOLTJUNIPER_WINDOW_WORDS], night_words[BOLTJUNIPER_CAPPED_WORDS];
 static double night_numbers[BOLTJUNIPER_BODY_NUMBERS], out[16];
 static uint8_t recorded[FILE_BYTES];
 
@@ -46,20 +46,22 @@ static uint32_t answer;
     }
 
 CALL(check_tables, boltjuniper_check_tables(TABLES))
-CALL(step, boltjuniper_step(TABLES, WINDOW, numbers, 19, words, 6, age, out, 10))
-CALL(step_checked, boltjuniper_step_checked(TABLES, WINDOW, numbers, 19, words, 6, age, out, 10))
-CALL(step_falling, boltjuniper_step_falling(TABLES, WINDOW, numbers, 19, words, 6, age, 0, 0, out, 12))
+CALL(step, boltjuniper_step(TABLES, WINDOW, numbers, 19, words, 7, age, out, 10))
+CALL(step_checked, boltjuniper_step_checked(TABLES, WINDOW, numbers, 19, words, 7, age, out, 10))
+CALL(step_falling, boltjuniper_step_falling(TABLES, WINDOW, numbers, 19, words, 7, age, 0, 0, out, 12))
 CALL(midnight, boltjuniper_midnight(TABLES, night_window, BOLTJUNIPER_WINDOW_WORDS, 1, cells, cells_len(), night_numbers, BOLTJUNIPER_BODY_NUMBERS,
                                     night_words, BOLTJUNIPER_BODY_WORDS, 1, out, BOLTJUNIPER_ANSWER_NUMBERS))
+CALL(midnight_capped, boltjuniper_midnight_capped(TABLES, night_window, BOLTJUNIPER_WINDOW_WORDS, 1, cells, cells_len(), night_numbers,
+                                                  BOLTJUNIPER_BODY_NUMBERS, night_words, BOLTJUNIPER_CAPPED_WORDS, 1, out, BOLTJUNIPER_ANSWER_NUMBERS))
 CALL(tick, boltjuniper_tick((const uint8_t *)file, file_bytes, out, 10))
-CALL(move, boltjuniper_move(TABLES, WINDOW, air, mover, 9, numbers[13], words[0], out, 10))
-CALL(move_over_list, boltjuniper_move_over_list(list, 6 * listed, mover, 9, numbers[13], words[0], out, 10))
-CALL(collected, boltjuniper_collected(TABLES, WINDOW, air, mover, 9, numbers[13], 0, out, 7))
+CALL(move, boltjuniper_move(TABLES, WINDOW, air, mover, 9, numbers[13], words[0], words[6], out, 10))
+CALL(move_over_list, boltjuniper_move_over_list(list, 6 * listed, mover, 9, numbers[13], words[0], words[6], out, 10))
+CALL(collected, boltjuniper_collected(TABLES, WINDOW, air, mover, 9, numbers[13], words[6], 0, out, 7))
 
 /* A recorder's call answers how many bytes it wrote, 512 to a block, or a refusal. */
 static inline uint32_t refused(uint64_t n) { return n < 512 ? (uint32_t)n : 0; }
-CALL(write_scene, refused(boltjuniper_write_scene(TABLES, WINDOW, numbers, 19, words, 6, age, recorded, sizeof recorded)))
-CALL(write_checked, refused(boltjuniper_write_checked(TABLES, WINDOW, numbers, 19, words, 6, age, recorded, sizeof recorded)))
+CALL(write_scene, refused(boltjuniper_write_scene(TABLES, WINDOW, numbers, 19, words, 7, age, recorded, sizeof recorded)))
+CALL(write_checked, refused(boltjuniper_write_checked(TABLES, WINDOW, numbers, 19, words, 7, age, recorded, sizeof recorded)))
 
 /* The classroom palette, which takes nothing of the input at hand. */
 static uint32_t palette_words[BOLTJUNIPER_PALETTE_WORDS];
@@ -75,7 +77,7 @@ static __attribute__((noipa)) uint32_t nothing_with(const uint32_t *a, size_t b,
     (void)q, (void)r, (void)s, (void)t, (void)u;
     return 0;
 }
-CALL(nothing, nothing_with(TABLES, WINDOW, numbers, 19, words, 6, age, out, 10))
+CALL(nothing, nothing_with(TABLES, WINDOW, numbers, 19, words, 7, age, out, 10))
 
 enum { A_FILE = 1, PARTS = 2, A_LIST = 4 };
 struct row { const char *name; void (*make)(void); int of; size_t calls, answered, stored, random, dearest; };
@@ -85,6 +87,7 @@ static struct row rows[] = {
     {"boltjuniper_step_checked", step_checked, PARTS, 0, 0, 0, 0, 0},
     {"boltjuniper_step_falling", step_falling, PARTS, 0, 0, 0, 0, 0},
     {"boltjuniper_midnight", midnight, PARTS, 0, 0, 0, 0, 0},
+    {"boltjuniper_midnight_capped", midnight_capped, PARTS, 0, 0, 0, 0, 0},
     {"boltjuniper_move", move, PARTS, 0, 0, 0, 0, 0},
     {"boltjuniper_move_over_list", move_over_list, A_LIST, 0, 0, 0, 0, 0},
     {"boltjuniper_collected", collected, PARTS, 0, 0, 0, 0, 0},
@@ -172,9 +175,9 @@ static void stored_scene(const char *name) {
     fclose(f);
     all(A_FILE, in_stored);
     if (answer == 8) return;
-    uint32_t body[48], window[8];
+    uint32_t body[49], window[8];
     block = 0;
-    part(48, 48, body);
+    part(49, 49, body);
     states = body[46], boxes = body[47];
     part(120, 20 * (size_t)states, records);
     part(120, 6 * (size_t)boxes, shapes);
@@ -182,7 +185,8 @@ static void stored_scene(const char *name) {
     memcpy(origin, window, sizeof origin), memcpy(sizes, window + 3, sizeof sizes);
     lowest = (int32_t)window[6], highest = (int32_t)window[7];
     part(123, cells_len(), cells);
-    memcpy(numbers, body, sizeof numbers), memcpy(words, body + 40, sizeof words), memcpy(&age, body + 38, sizeof age);
+    memcpy(numbers, body, sizeof numbers), memcpy(words, body + 40, 6 * sizeof *words), memcpy(&age, body + 38, sizeof age);
+    words[6] = body[48];
     body_is_set();
     all(PARTS, in_stored);
 }
@@ -199,7 +203,7 @@ static void stored_list(char *call) {
     uint64_t ground;
     memcpy(&ground, all_of_it + 10, 8);
     memcpy(mover, all_of_it, sizeof mover);
-    numbers[13] = all_of_it[9], words[0] = (uint32_t)ground;
+    numbers[13] = all_of_it[9], words[0] = (uint32_t)ground, words[6] = BOLTJUNIPER_OLDER_CAP;
     listed = (n - 12) / 6 > LIST ? LIST : (n - 12) / 6;
     memcpy(list, all_of_it + 12, listed * 48);
     all(A_LIST, in_stored);
@@ -304,7 +308,7 @@ static void body_at_random(void) {
     numbers[6] = shape[model][0], numbers[7] = shape[model][1], numbers[8] = 0, numbers[9] = 0.08, numbers[10] = numbers[11] = 0.98;
     numbers[12] = 0, numbers[13] = chance(2) ? 0.5625 : 0;
     numbers[14] = 0.6, numbers[15] = 0.1, numbers[16] = 0.02, numbers[17] = 0.8, numbers[18] = 0.5;
-    words[0] = chance(2), words[1] = model, words[2] = chance(3), words[3] = chance(2), words[4] = words[5] = 0;
+    words[0] = chance(2), words[1] = model, words[2] = chance(3), words[3] = chance(2), words[4] = words[5] = words[6] = 0;
     age = chance(100);
     body_is_set();
 }
@@ -327,13 +331,13 @@ static void put(uint32_t kind, size_t per, size_t n, const void *from) {
     }
 }
 static void write_file(void) {
-    uint32_t body[48], window[8];
-    memcpy(body, numbers, sizeof numbers), memcpy(body + 38, &age, sizeof age), memcpy(body + 40, words, sizeof words);
-    body[46] = states, body[47] = boxes;
+    uint32_t body[49], window[8];
+    memcpy(body, numbers, sizeof numbers), memcpy(body + 38, &age, sizeof age), memcpy(body + 40, words, 6 * sizeof *words);
+    body[46] = states, body[47] = boxes, body[48] = words[6];
     memcpy(window, origin, sizeof origin), memcpy(window + 3, sizes, sizeof sizes);
     window[6] = (uint32_t)lowest, window[7] = (uint32_t)highest;
     block = 0;
-    put(1, 48, 48, body);
+    put(1, 49, 49, body);
     put(2, 120, 20 * (size_t)states, records);
     put(3, 120, 6 * (size_t)boxes, shapes);
     put(4, 8, 8, window);
@@ -352,23 +356,25 @@ static void at_random(int bodies) {
     }
 }
 
-/* ---- the dearest: 4,096 states of which most have 16 boxes that cover all faces together, the largest window, 128 boxes in a move */
+/* ---- the dearest: 4,096 states of which most have 16 boxes that cover all faces together, the largest window, 128 and 512 boxes in a move */
 
 static void must(uint32_t theirs, void (*make)(void)) {
     make();
     if (answer != theirs) printf("stack: an input that should be answered %u is answered %u\n", theirs, answer), exit(1);
 }
 
-/* A body of 1.5 on a side that walks among 128 boxes and tries a step: eight cells of 16 slabs. With one cell more it is refused 6. */
-static void many_boxes(int more) {
+/* A body that walks among 128 boxes, or 512, and tries a step: two layers of `side` by `side` cells of 16 slabs each, under a cap of as many boxes. With
+   one cell more it is refused 6. */
+static void many_boxes(int side, int more) {
     memset(cells, 0, (size_t)sizes[0] * sizes[1] * sizes[2] * 4);
     for (size_t k = cells_len() - (size_t)sizes[0] * sizes[2]; k < cells_len(); k++) cells[k] = 1;
     body_at_random();
     for (int k = 0; k < 6; k++) numbers[k] = 0;
-    numbers[1] = 1, numbers[3] = 0.5, numbers[6] = 1.5, numbers[7] = 1.5, numbers[9] = 0.25, numbers[13] = 1;
-    words[0] = 1, words[1] = 1, words[2] = 0, words[3] = 1;
-    for (int n = 0; n < 8 + more; n++) {
-        int x = n % 2, z = n / 2 % 2 - 1, y = n < 8 ? 1 + n / 4 : 0;
+    numbers[1] = 1, numbers[3] = 0.5, numbers[6] = side - 0.5, numbers[7] = 1.5, numbers[9] = 0.25, numbers[13] = 1;
+    int full = 2 * side * side;
+    words[0] = 1, words[1] = 1, words[2] = 0, words[3] = 1, words[6] = (uint32_t)(16 * full % 512); /* 0 stands for 512 */
+    for (int n = 0; n < full + more; n++) {
+        int x = n % side - side / 2, z = n / side % side - side / 2, y = n < full ? 1 + n / side / side : 0;
         cells[((size_t)(y - origin[1]) * sizes[2] + (size_t)(z - origin[2])) * sizes[0] + (size_t)(x - origin[0])] = SLABS;
     }
     body_is_set();
@@ -383,18 +389,18 @@ static void dearest(void) {
         list_at_random();
         all(PARTS | A_LIST, in_dearest);
     }
-    for (int more = 0; more < 2; more++) {
-        many_boxes(more);
-        must(more ? 6 : 0, collected);
-        if (!more && out[0] != 128) printf("stack: %g boxes, and not 128\n", out[0]), exit(1);
+    for (int n = 0; n < 4; n++) {
+        many_boxes(n < 2 ? 2 : 4, n % 2);
+        must(n % 2 ? 6 : 0, collected);
+        if (n % 2 == 0 && out[0] != (n ? 512 : 128)) printf("stack: %g boxes, and not as many as the cap\n", out[0]), exit(1);
         all(PARTS, in_dearest);
     }
     tables(KINDS);
     world(23, 22, 23);
-    for (int more = 0; more < 2; more++) {
-        many_boxes(more);
+    for (int n = 0; n < 4; n++) {
+        many_boxes(n < 2 ? 2 : 4, n % 2);
         write_file();
-        must(more ? 6 : 0, tick);
+        must(n % 2 ? 6 : 0, tick);
         must(0, write_scene);
         all(A_FILE | PARTS, in_dearest);
     }

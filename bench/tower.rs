@@ -28,7 +28,7 @@ fn ours(f: Step, records: &[u32], shapes: &[f32], (low, layers): (i32, i32), c: 
     unsafe {
         f(
             records.as_ptr(), records.len(), shapes.as_ptr(), shapes.len(), c.cells.as_ptr(), c.cells.len(), LOW, low, LOW, n, layers as u32, n,
-            WORLD.0, WORLD.1, c.numbers.as_ptr(), 19, c.words.as_ptr(), 6, c.age, out.as_mut_ptr(), out.len(),
+            WORLD.0, WORLD.1, c.numbers.as_ptr(), 19, c.words.as_ptr(), 7, c.age, out.as_mut_ptr(), out.len(),
         )
     }
 }

@@ -24,7 +24,7 @@ struct Scene {
 }
 
 const NUMBERS: [f64; 19] = [0.5, 1.25, 0.5, 0.25, 0.0, 0.0, 1.0, 1.0, 0.0, 0.5, 0.5, 0.5, 0.0, 0.0, 0.6, 0.1, 0.02, 0.8, 0.5];
-const WORDS: [u32; 6] = [0, 3, 0, 0, 0, 0];
+const WORDS: [u32; 7] = [0, 3, 0, 0, 0, 0, 0];
 
 /// States of so many boxes each, one behind the other: slabs that together are a cube.
 fn scene(states: u32, boxes: u32, sizes: [u32; 3]) -> Scene {
@@ -42,7 +42,7 @@ fn write(s: &Scene, checked: bool, out: &mut [u8]) -> u64 {
     unsafe {
         f(
             s.records.as_ptr(), s.records.len(), s.shapes.as_ptr(), s.shapes.len(), s.cells.as_ptr(), s.cells.len(), 0, 0, 0, x, y, z, -64, 319,
-            NUMBERS.as_ptr(), 19, WORDS.as_ptr(), 6, 7, out.as_mut_ptr(), out.len(),
+            NUMBERS.as_ptr(), 19, WORDS.as_ptr(), 7, 7, out.as_mut_ptr(), out.len(),
         )
     }
 }

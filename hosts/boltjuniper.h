@@ -41,14 +41,17 @@ extern "C" {
       9         gravity                    17   rules: water drag
      10         vertical drag              18   rules: lava drag
      11         horizontal drag
-   `words`, 6 of them:
+   `words`, 7 of them:
       0   ground, 0 or 1
       1   model: 0 item, 1 living, 2 falling block, 3 other
       2   stage of gravity: 0 before the move, 1 after the move, 2 after the drag
       3   ground friction: 0 none, 1 of the block
       4   flap present, 0 or 1
       5   air state
-   Other than 19 numbers or 6 words, or an air state without a registered record, are refused with 3. */
+      6   cap: how many boxes a move may collect, 1 to 512; 0 stands for 512. One box more is refused with 6
+   Other than 19 numbers or 7 words, an air state without a registered record, or a cap above 512 are refused with 3. Who relies on 6 at the 129th box
+   hands over BOLTJUNIPER_OLDER_CAP. */
+#define BOLTJUNIPER_OLDER_CAP 128
 
 /* Takes tables; writes nothing. Returns 0 where they keep every rule, and else 1. */
 uint32_t boltjuniper_check_tables(const uint32_t *records, size_t records_len, const float *shapes, size_t shapes_len);
@@ -115,7 +118,8 @@ uint32_t boltjuniper_check_summary(const uint32_t *records, size_t records_len, 
    its words: 11 and 13 come after 4, 13 at the cost of a look at every cell. */
 uint32_t boltjuniper_move_summed(const uint32_t *records, size_t records_len, const float *shapes, size_t shapes_len, const uint32_t *cells,
                                  size_t cells_len, int32_t ox, int32_t oy, int32_t oz, uint32_t sx, uint32_t sy, uint32_t sz, int32_t lowest, int32_t highest,
-                                 uint32_t air, const double *mover, size_t mover_len, double step, uint32_t ground, double *out, size_t out_len);
+                                 uint32_t air, const double *mover, size_t mover_len, double step, uint32_t ground, uint32_t cap, double *out,
+                                 size_t out_len);
 uint32_t boltjuniper_step_summed(const uint32_t *records, size_t records_len, const float *shapes, size_t shapes_len, const uint32_t *cells,
                                  size_t cells_len, int32_t ox, int32_t oy, int32_t oz, uint32_t sx, uint32_t sy, uint32_t sz, int32_t lowest, int32_t highest,
                                  const double *numbers, size_t numbers_len, const uint32_t *words, size_t words_len, uint64_t age, double *out, size_t out_len);
@@ -131,7 +135,9 @@ uint32_t boltjuniper_step_falling_summed(const uint32_t *records, size_t records
       0  1  2   origin x y z, as int32_t            6   lowest, as int32_t          8   where its words begin in `cells`
       3  4  5   sizes x y z                         7   highest, as int32_t         9   how many they are
    A body has 21 numbers: the 19 of boltjuniper_step, then its fall record, the sum (19) and the landed number (20). And nine words:
-      0   the number of its window, from 0          1  2   its age, the low word first          3 to 8   the six words of boltjuniper_step
+      0   the number of its window, from 0          1  2   its age, the low word first          3 to 8   the first six words of boltjuniper_step
+   Its cap is 128: these are the rows of callers who rely on 6 at the 129th box. boltjuniper_midnight_capped takes a tenth word for each body:
+      9   cap
    A window may lend a summary: its own words are then cells, columns, groups, and behind them one word, the air state that the summary is of; their
    number (9) says so. It is checked once. Bodies of that air state go by it, and are refused by 13, after 4, where a group's word disagrees with its
    cells; a body that names another is stepped over cells and columns.
@@ -151,10 +157,15 @@ uint32_t boltjuniper_step_falling_summed(const uint32_t *records, size_t records
 #define BOLTJUNIPER_WINDOW_WORDS 10
 #define BOLTJUNIPER_BODY_NUMBERS 21
 #define BOLTJUNIPER_BODY_WORDS 9
+#define BOLTJUNIPER_CAPPED_WORDS 10
 #define BOLTJUNIPER_ANSWER_NUMBERS 13
 uint32_t boltjuniper_midnight(const uint32_t *records, size_t records_len, const float *shapes, size_t shapes_len, const uint32_t *windows,
                               size_t windows_len, uint32_t windows_count, const uint32_t *cells, size_t cells_len, const double *numbers,
                               size_t numbers_len, const uint32_t *words, size_t words_len, uint32_t bodies_count, double *out, size_t out_len);
+uint32_t boltjuniper_midnight_capped(const uint32_t *records, size_t records_len, const float *shapes, size_t shapes_len, const uint32_t *windows,
+                                     size_t windows_len, uint32_t windows_count, const uint32_t *cells, size_t cells_len, const double *numbers,
+                                     size_t numbers_len, const uint32_t *words, size_t words_len, uint32_t bodies_count, double *out,
+                                     size_t out_len);
 
 /* One tick of the scene in `file` (blocks of 512 bytes of either mark, as onetick reads them; no alignment is asked for). Writes the ten numbers of
    boltjuniper_step to `out`. Returns 0; or 8 where the file is no scene, 1, 2, 3, 4, 11, then 5, 6 or 7 at the first such event, then 9. It keeps
@@ -162,28 +173,28 @@ uint32_t boltjuniper_midnight(const uint32_t *records, size_t records_len, const
 uint32_t boltjuniper_tick(const uint8_t *file, size_t file_len, double *out, size_t out_len);
 
 /* The move of a box through a window: takes tables, a window, the air state, `mover` (the box x0 y0 z0 x1 y1 z1, then its delta x y z: nine
-   numbers), the step height, and whether the body was on the ground (0 or 1). Writes ten numbers to `out`: the box after the move, the way that
-   it went x y z, and 1 where it came to stand on the ground, else 0. Returns 0; or 1, 2, 3 (an air state without a registered record, the step
-   height, or a ground above 1), 4 (the box or the delta, or other than nine numbers), 11, then 5 or 6 at the first such event. */
+   numbers), the step height, whether the body was on the ground (0 or 1), and the cap, as in a body's words. Writes ten numbers to `out`: the box
+   after the move, the way that it went x y z, and 1 where it came to stand on the ground, else 0. Returns 0; or 1, 2, 3 (an air state without a
+   registered record, the step height, a ground above 1, or a cap above 512), 4 (the box or the delta, or other than nine numbers), 11, then 5 or 6 at the first such event. */
 uint32_t boltjuniper_move(const uint32_t *records, size_t records_len, const float *shapes, size_t shapes_len, const uint32_t *cells,
                           size_t cells_len, int32_t ox, int32_t oy, int32_t oz, uint32_t sx, uint32_t sy, uint32_t sz, int32_t lowest,
-                          int32_t highest, uint32_t air, const double *mover, size_t mover_len, double step, uint32_t ground, double *out,
-                          size_t out_len);
+                          int32_t highest, uint32_t air, const double *mover, size_t mover_len, double step, uint32_t ground,
+                          uint32_t cap, double *out, size_t out_len);
 
-/* The move of a box over boxes of the host's own: takes `boxes`, six numbers to a box, and mover, step height and ground as boltjuniper_move does,
-   and writes the same ten numbers. Returns 0; or 3 (the step height or the ground), 4 (the mover, any of the boxes, or numbers left over), 11, then
-   6 (more than 128 boxes). */
+/* The move of a box over boxes of the host's own: takes `boxes`, six numbers to a box, and mover, step height, ground and cap as boltjuniper_move
+   does, and writes the same ten numbers. Returns 0; or 3 (the step height, the ground or the cap), 4 (the mover, any of the boxes, or numbers left
+   over), 11, then 6 (more boxes than the cap). */
 uint32_t boltjuniper_move_over_list(const double *boxes, size_t boxes_len, const double *mover, size_t mover_len, double step, uint32_t ground,
-                                    double *out, size_t out_len);
+                                    uint32_t cap, double *out, size_t out_len);
 
 /* For pictures: the boxes that the move of a box through a window collects, one at a call. It takes what boltjuniper_move does, without the
-   ground, and k, which box is asked for. Writes seven numbers to `out`: how many boxes there are, at most 128, and box k, zeros where k is not
-   below that. Returns 0; or 1, 2, 3 (the air state or the step height), 4 (the box or the delta, or other than nine numbers), 11, then 5 or 6 at
+   ground, and k, which box is asked for. Writes seven numbers to `out`: how many boxes there are, at most 512, and box k, zeros where k is not
+   below that. Returns 0; or 1, 2, 3 (the air state, the step height or the cap), 4 (the box or the delta, or other than nine numbers), 11, then 5 or 6 at
    the first such event. */
 uint32_t boltjuniper_collected(const uint32_t *records, size_t records_len, const float *shapes, size_t shapes_len, const uint32_t *cells,
                                size_t cells_len, int32_t ox, int32_t oy, int32_t oz, uint32_t sx, uint32_t sy, uint32_t sz, int32_t lowest,
-                               int32_t highest, uint32_t air, const double *mover, size_t mover_len, double step, uint32_t k, double *out,
-                               size_t out_len);
+                               int32_t highest, uint32_t air, const double *mover, size_t mover_len, double step, uint32_t cap, uint32_t k,
+                               double *out, size_t out_len);
 
 /* For recorders: a scene file of what boltjuniper_step takes, of the mark 53 43 4E 32 with its two checks, for onetick and boltjuniper_tick to read. It
    is written to `out` from its first byte on, and bytes past it keep their values; 65,536 bytes hold every scene. Returns how many bytes it wrote, 512

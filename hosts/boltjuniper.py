@@ -6,7 +6,7 @@
     b.step(tables, window, b.Body(numbers, words, age))         # Tick(feet=.., ground=True, liquid='none', support='air', ..), or raises Refused
     b.step_falling(tables, window, body, b.Fall())              # the Tick, and the fall record after it
     b.steps(tables, window, bodies)                             # a list: for each body its Tick, or its Refused as a value
-    b.midnight(tables, *b.window_rows(windows), *b.body_rows(bodies, named, falls))     # thousands of bodies over up to 16 windows, in one call
+    b.midnight_capped(tables, *b.window_rows(windows), *b.body_rows(bodies, named, falls))     # thousands of bodies over up to 16 windows, in one call
 
 An array of the type that is asked for (numpy's uint32, float32 and float64; array.array's I, f and d) is lent as it is, without a copy, and is only
 read; it must not be changed by another thread while the call runs. A list or a tuple of numbers is copied. Another type of array is a TypeError and
@@ -23,13 +23,13 @@ SENTENCES = {
     1: "The tables of blocks break a rule: a count, a limit, a state that leads to another family, a face mask that does not fit its shape.",
     2: "The window or the world's heights break a limit, the lowest cell is over the highest, a column's word is above 1, or cells and columns are not "
        "as many as the sizes say.",
-    3: "A number of the body or of the rules is not finite or beyond its limit, an enum number is unknown, a yes or no is above 1, or the air state "
-       "has no registered record. In a direct call also: not 19 numbers and 6 words, or a number of a fall record that is negative, not finite or "
+    3: "A number of the body or of the rules is not finite or beyond its limit, an enum number is unknown, a yes or no is above 1, the air state has "
+       "no registered record, or the cap is above 512. In a direct call also: not 19 numbers and 7 words, or a number of a fall record that is negative, not finite or "
        "above 2^30; in the midnight run, a row that is not there whole.",
     4: "A position or velocity (in direct calls also a box or a delta) is not finite or beyond its limit. In a direct call also: not nine "
        "numbers to a mover, or boxes that are not six numbers each.",
     5: "The rules ask for a cell that the window does not hold.",
-    6: "More than 128 boxes lie in the way.",
+    6: "More boxes than the cap lie in the way.",
     7: "The flow test meets a state that is not registered. The original program would have ended there.",
     8: "The file is no scene: a mark, number, check, kind, count or unused word is wrong, both marks are in it, or blocks are missing or left over.",
     9: "The computed motion is not finite.",
@@ -74,18 +74,21 @@ class Window(NamedTuple):
 
 
 class Body(NamedTuple):
-    """A body in the order of a scene file's first block, as hosts/boltjuniper.h has it: 19 numbers, 6 words, and its age in ticks."""
+    """A body in the order of a scene file's first block, as hosts/boltjuniper.h has it: 19 numbers, 7 words, and its age in ticks. The last
+    word is the cap: who relies on 6 at the 129th box names OLDER_CAP."""
     numbers: object
     words: object
     age: int = 0
 
 
 class Mover(NamedTuple):
-    """A box, least x y z and greatest x y z, with its delta, the step height, and whether the body was on the ground."""
+    """A box, least x y z and greatest x y z, with its delta, the step height, whether the body was on the ground, and how many boxes it may meet:
+    1 to 512, and 0 stands for 512."""
     aabb: tuple
     delta: tuple
     step: float = 0.0
     ground: bool = False
+    cap: int = 0
 
 
 CASES = ("not asked", "sampled", "air", "unloaded", "unregistered")
@@ -119,7 +122,7 @@ class Moved(NamedTuple):
 
 SLICE = [ctypes.c_void_p, ctypes.c_size_t]
 TABLES, WINDOW, AIR = SLICE * 2, SLICE + [ctypes.c_int32] * 3 + [ctypes.c_uint32] * 3 + [ctypes.c_int32] * 2, [ctypes.c_uint32]
-BODY, STEP = SLICE * 2 + [ctypes.c_uint64], [ctypes.c_double, ctypes.c_uint32]
+BODY, STEP = SLICE * 2 + [ctypes.c_uint64], [ctypes.c_double, ctypes.c_uint32, ctypes.c_uint32]
 DECLARED = {
     "check_tables": TABLES,
     "step": TABLES + WINDOW + BODY + SLICE,
@@ -132,6 +135,7 @@ DECLARED = {
     "step_summed": TABLES + WINDOW + BODY + SLICE,
     "step_falling_summed": TABLES + WINDOW + BODY + [ctypes.c_double] * 2 + SLICE,
     "midnight": TABLES + SLICE + [ctypes.c_uint32] + SLICE * 3 + [ctypes.c_uint32] + SLICE,
+    "midnight_capped": TABLES + SLICE + [ctypes.c_uint32] + SLICE * 3 + [ctypes.c_uint32] + SLICE,
     "move": TABLES + WINDOW + AIR + SLICE + STEP + SLICE,
     "move_over_list": SLICE * 2 + STEP + SLICE,
     "collected": TABLES + WINDOW + AIR + SLICE + STEP + SLICE,
@@ -243,7 +247,7 @@ class _Lent:
 
     def mover(self, mover):
         self.swept(mover)
-        self.arguments += _whole([mover.ground], 0, 2**32)
+        self.arguments += _whole([mover.ground, mover.cap], 0, 2**32)
         return self
 
     def answer(self, name, numbers, *last):
@@ -356,6 +360,7 @@ def move(tables, window, air, mover):
 def collected(tables, window, air, mover):
     """The boxes that a move through a window collects, each least x y z and greatest x y z, in their order."""
     lent = _Lent().tables(tables).window(window).air(air).swept(mover)
+    lent.arguments += _whole([mover.cap], 0, 2**32)
 
     def count_and_box(k):
         return _judged(lent.answer("collected", 7, k))
@@ -412,7 +417,8 @@ def ticks(files):
 
 # ---- the midnight run: rows in, rows out
 
-WINDOW_WORDS, BODY_NUMBERS, BODY_WORDS = 10, 21, 9
+WINDOW_WORDS, BODY_NUMBERS, CAPPED_WORDS, BODY_WORDS = 10, 21, 10, 9
+OLDER_CAP = 128  # of a row of nine words
 # an answer: the names of its numbers, and how many there are of each
 ANSWER = (("refusal", 1), ("feet", 3), ("velocity", 3), ("ground", 1), ("liquid", 1), ("sum", 1), ("landed", 1), ("case", 1),
           ("friction", 1))
@@ -440,18 +446,27 @@ def body_rows(bodies, named, falls=None):
     return numbers, words
 
 
-def midnight(tables, windows, cells, numbers, words, out=None):
-    """One tick of each body, over rows as hosts/boltjuniper.h has them: ten words to a window over `cells`, 21 numbers and nine words to a body; as many
+def midnight_capped(tables, windows, cells, numbers, words, out=None):
+    """One tick of each body, over rows as hosts/boltjuniper.h has them: ten words to a window over `cells`, 21 numbers and ten words to a body; as many
     windows and bodies as there are words for. With numpy the answer is one structured array with the fields of ANSWER, a row for each body; without it,
     a list of rows. `answered` has a row as a Tick or a Refused. Refused by 1, 14 or 11 is raised. `out`, an array of float64 with room for
     13 numbers a body, is written to where it is given, and what lies beyond the last row stays.
 
     From several threads: the call lets other threads run meanwhile. Lend each the same tables, windows and cells, and its own part of numbers, words and
     out, as numbers[a * 21:b * 21]."""
+    return _run("midnight_capped", CAPPED_WORDS, tables, windows, cells, numbers, words, out)
+
+
+def midnight(tables, windows, cells, numbers, words, out=None):
+    """The same for older callers, whose rows have nine words to a body: the cap is 128."""
+    return _run("midnight", BODY_WORDS, tables, windows, cells, numbers, words, out)
+
+
+def _run(name, width, tables, windows, cells, numbers, words, out):
     lent = _Lent().tables(tables).slice("windows", windows, "I")
     lent.arguments.append(lent.arguments[-1] // WINDOW_WORDS)
     lent.slice("cells", cells, "I").slice("numbers", numbers, "d").slice("words", words, "I")
-    bodies = lent.arguments[-1] // BODY_WORDS
+    bodies = lent.arguments[-1] // width
     lent.arguments.append(bodies)
     mine = out if out is not None else array.array("d", bytes(8 * ANSWER_NUMBERS * bodies))
     if memoryview(mine).readonly:
@@ -459,7 +474,7 @@ def midnight(tables, windows, cells, numbers, words, out=None):
     lent.slice("out", mine, "d")
     if lent.arguments[-1] and lent.arguments[-2] != _address(memoryview(mine)):
         raise ValueError("out: the array is not aligned")
-    refusal = _function("midnight")(*lent.arguments)
+    refusal = _function(name)(*lent.arguments)
     if refusal:
         raise Refused(refusal)
     numbers = memoryview(mine).cast("B").cast("d")[:ANSWER_NUMBERS * bodies]

@@ -36,7 +36,7 @@ mod linked {
         pub fn boltjuniper_move_summed(
             records: *const u32, records_len: usize, shapes: *const f32, shapes_len: usize, cells: *const u32, cells_len: usize, ox: i32, oy: i32,
             oz: i32, sx: u32, sy: u32, sz: u32, lowest: i32, highest: i32, air: u32, mover: *const f64, mover_len: usize, step: f64, ground: u32,
-            out: *mut f64, out_len: usize,
+            cap: u32, out: *mut f64, out_len: usize,
         ) -> u32;
         pub fn boltjuniper_step_summed(
             records: *const u32, records_len: usize, shapes: *const f32, shapes_len: usize, cells: *const u32, cells_len: usize, ox: i32, oy: i32,
@@ -53,11 +53,16 @@ mod linked {
             windows_count: u32, cells: *const u32, cells_len: usize, numbers: *const f64, numbers_len: usize, words: *const u32, words_len: usize,
             bodies_count: u32, out: *mut f64, out_len: usize,
         ) -> u32;
+        pub fn boltjuniper_midnight_capped(
+            records: *const u32, records_len: usize, shapes: *const f32, shapes_len: usize, windows: *const u32, windows_len: usize,
+            windows_count: u32, cells: *const u32, cells_len: usize, numbers: *const f64, numbers_len: usize, words: *const u32, words_len: usize,
+            bodies_count: u32, out: *mut f64, out_len: usize,
+        ) -> u32;
         pub fn boltjuniper_tick(file: *const u8, file_len: usize, out: *mut f64, out_len: usize) -> u32;
         pub fn boltjuniper_move(
             records: *const u32, records_len: usize, shapes: *const f32, shapes_len: usize, cells: *const u32, cells_len: usize, ox: i32, oy: i32,
             oz: i32, sx: u32, sy: u32, sz: u32, lowest: i32, highest: i32, air: u32, mover: *const f64, mover_len: usize, step: f64, ground: u32,
-            out: *mut f64, out_len: usize,
+            cap: u32, out: *mut f64, out_len: usize,
         ) -> u32;
         pub fn boltjuniper_write_scene(
             records: *const u32, records_len: usize, shapes: *const f32, shapes_len: usize, cells: *const u32, cells_len: usize, ox: i32, oy: i32,
@@ -70,7 +75,8 @@ mod linked {
             words_len: usize, age: u64, out: *mut u8, out_len: usize,
         ) -> u64;
         pub fn boltjuniper_move_over_list(
-            boxes: *const f64, boxes_len: usize, mover: *const f64, mover_len: usize, step: f64, ground: u32, out: *mut f64, out_len: usize,
+            boxes: *const f64, boxes_len: usize, mover: *const f64, mover_len: usize, step: f64, ground: u32, cap: u32, out: *mut f64,
+            out_len: usize,
         ) -> u32;
         pub fn boltjuniper_palette_records(out: *mut u32, out_len: usize) -> u32;
         pub fn boltjuniper_palette_boxes(out: *mut f32, out_len: usize) -> u32;
@@ -98,11 +104,12 @@ pub struct Window<'a> {
     pub highest: i32,
 }
 
-/// A body in the order of a scene file's first block, as hosts/boltjuniper.h has it.
+/// A body in the order of a scene file's first block, as hosts/boltjuniper.h has it. The last word is the cap: who relies on 6 at the 129th box
+/// names `OLDER_CAP`.
 #[derive(Clone, Copy)]
 pub struct Body {
     pub numbers: [f64; 19],
-    pub words: [u32; 6],
+    pub words: [u32; 7],
     pub age: u64,
 }
 
@@ -151,20 +158,27 @@ pub struct WindowRow {
     pub count: u32,
 }
 
-/// A body of the midnight run: 21 numbers and nine words, as hosts/boltjuniper.h has them. Both are lent row by row.
+/// A body of the midnight run: 21 numbers and ten words, as hosts/boltjuniper.h has them, or nine words of an older caller, whose cap is 128. Both are
+/// lent row by row.
 pub type BodyNumbers = [f64; 21];
+pub type CappedWords = [u32; 10];
 pub type BodyWords = [u32; 9];
+
+/// The cap that older callers rely on.
+pub const OLDER_CAP: u32 = 128;
 
 /// What is written for a body: its refusal, then its tick with its fall record, as hosts/boltjuniper.h has them.
 pub type AnswerNumbers = [f64; 13];
 
-/// A box, min x y z and max x y z, with its delta, the step height, and whether the body was on the ground.
+/// A box, min x y z and max x y z, with its delta, the step height, whether the body was on the ground, and how many boxes it may meet: 1 to 512, and 0
+/// stands for 512.
 #[derive(Clone, Copy)]
 pub struct Mover {
     pub aabb: [f64; 6],
     pub delta: [f64; 3],
     pub step: f64,
     pub ground: bool,
+    pub cap: u32,
 }
 
 /// The box after a move, the way that it went, and whether it came to stand on the ground.
@@ -256,10 +270,10 @@ pub fn step_falling(t: Tables, w: Window, b: &Body, fall: Fall) -> Result<(Tick,
 
 impl Body {
     /// The rows of a body with its fall record in window number `window`.
-    pub fn row(&self, fall: Fall, window: u32) -> (BodyNumbers, BodyWords) {
+    pub fn row(&self, fall: Fall, window: u32) -> (BodyNumbers, CappedWords) {
         let numbers = std::array::from_fn(|k| if k < 19 { self.numbers[k] } else { [fall.sum, fall.landed][k - 19] });
-        let [a, b, c, d, e, f] = self.words;
-        (numbers, [window, self.age as u32, (self.age >> 32) as u32, a, b, c, d, e, f])
+        let [a, b, c, d, e, f, cap] = self.words;
+        (numbers, [window, self.age as u32, (self.age >> 32) as u32, a, b, c, d, e, f, cap])
     }
 }
 
@@ -271,6 +285,21 @@ pub fn answered(row: &AnswerNumbers) -> (Result<Tick, Refusal>, Fall) {
 /// The midnight run: one tick of each body, its answer in the row of its own number; rows of `out` beyond the bodies stay. `numbers` has a row for
 /// each body, and so has `words`: a body without its words is refused with 3 in its own answer. Err is 1, 14 or 11, and nothing is written.
 /// Several threads may share tables, windows and cells, each with its own part of the bodies and of `out`.
+pub fn midnight_capped(
+    t: Tables, windows: &[WindowRow], cells: &[u32], numbers: &[BodyNumbers], words: &[CappedWords], out: &mut [AnswerNumbers],
+) -> Result<(), Refusal> {
+    let count = |n: usize| u32::try_from(n).unwrap_or(u32::MAX);
+    let (n, w, o) = (numbers.as_flattened(), words.as_flattened(), out.as_flattened_mut());
+    let refusal = unsafe {
+        linked::boltjuniper_midnight_capped(
+            t.records.as_ptr(), t.records.len(), t.shapes.as_ptr(), t.shapes.len(), windows.as_ptr().cast(), windows.len() * 10, count(windows.len()),
+            cells.as_ptr(), cells.len(), n.as_ptr(), n.len(), w.as_ptr(), w.len(), count(numbers.len()), o.as_mut_ptr(), o.len(),
+        )
+    };
+    judged(refusal)
+}
+
+/// The same for older callers, whose rows have no cap: it is 128.
 pub fn midnight(
     t: Tables, windows: &[WindowRow], cells: &[u32], numbers: &[BodyNumbers], words: &[BodyWords], out: &mut [AnswerNumbers],
 ) -> Result<(), Refusal> {
@@ -329,7 +358,7 @@ pub fn move_summed(t: Tables, w: Window, air: u32, m: Mover) -> Result<Moved, Re
     let refusal = unsafe {
         linked::boltjuniper_move_summed(
             t.records.as_ptr(), t.records.len(), t.shapes.as_ptr(), t.shapes.len(), w.cells.as_ptr(), w.cells.len(), ox, oy, oz, sx, sy, sz,
-            w.lowest, w.highest, air, mover.as_ptr(), mover.len(), m.step, m.ground as u32, out.as_mut_ptr(), out.len(),
+            w.lowest, w.highest, air, mover.as_ptr(), mover.len(), m.step, m.ground as u32, m.cap, out.as_mut_ptr(), out.len(),
         )
     };
     moved(refusal, out)
@@ -374,7 +403,7 @@ pub fn move_through(t: Tables, w: Window, air: u32, m: Mover) -> Result<Moved, R
     let refusal = unsafe {
         linked::boltjuniper_move(
             t.records.as_ptr(), t.records.len(), t.shapes.as_ptr(), t.shapes.len(), w.cells.as_ptr(), w.cells.len(), ox, oy, oz, sx, sy, sz,
-            w.lowest, w.highest, air, mover.as_ptr(), mover.len(), m.step, m.ground as u32, out.as_mut_ptr(), out.len(),
+            w.lowest, w.highest, air, mover.as_ptr(), mover.len(), m.step, m.ground as u32, m.cap, out.as_mut_ptr(), out.len(),
         )
     };
     moved(refusal, out)
@@ -385,7 +414,7 @@ pub fn move_over_list(boxes: &[[f64; 6]], m: Mover) -> Result<Moved, Refusal> {
     let (boxes, mover, mut out) = (boxes.as_flattened(), m.numbers(), [0.0; 10]);
     let refusal = unsafe {
         linked::boltjuniper_move_over_list(
-            boxes.as_ptr(), boxes.len(), mover.as_ptr(), mover.len(), m.step, m.ground as u32, out.as_mut_ptr(), out.len(),
+            boxes.as_ptr(), boxes.len(), mover.as_ptr(), mover.len(), m.step, m.ground as u32, m.cap, out.as_mut_ptr(), out.len(),
         )
     };
     moved(refusal, out)

@@ -18,9 +18,10 @@ static void fill_window(void) {
     for (int k = 0; k < 4; k++) cells[16 + k] = 1;
 }
 
-/* The body: at 0.5, 1.25, 0.5, on its way to the east, one by one, with gravity and drags of 0.5. It is no model of its own, in the air, without a flap. */
+/* The body: at 0.5, 1.25, 0.5, on its way to the east, one by one, with gravity and drags of 0.5. It is no model of its own, in the air, without a flap, and
+   its move may collect as many boxes as there is room for. */
 static const double numbers[19] = {0.5, 1.25, 0.5, 0.25, 0, 0, 1, 1, 0, 0.5, 0.5, 0.5};
-static const uint32_t words[6] = {0, 3, 0, 0, 0, 0};
+static const uint32_t words[7] = {0, 3, 0, 0, 0, 0, 0};
 static const uint64_t age = 0;
 
 /* 128 blocks: every scene has room in it. */
@@ -29,7 +30,7 @@ static uint8_t scene[65536];
 int main(int argc, char **argv) {
     if (argc != 2) return fprintf(stderr, "recorder FILE: writes the scene of case A to FILE\n"), 2;
     fill_window();
-    uint64_t n = boltjuniper_write_scene(records, 40, shapes, 6, cells, 20, 0, -1, 0, 2, 4, 2, -64, 319, numbers, 19, words, 6, age, scene, sizeof scene);
+    uint64_t n = boltjuniper_write_scene(records, 40, shapes, 6, cells, 20, 0, -1, 0, 2, 4, 2, -64, 319, numbers, 19, words, 7, age, scene, sizeof scene);
     if (n < 512) return fprintf(stderr, "refused %d\n", (int)n), 1; /* docs/REFUSALS.md says what it means */
     FILE *f = fopen(argv[1], "wb");
     if (!f || fwrite(scene, 1, n, f) != n || fclose(f)) return perror(argv[1]), 1;

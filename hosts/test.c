@@ -8,7 +8,7 @@
 
 enum { WORDS = 128 * 128, ROOM = 1 << 16 };
 
-static uint32_t file[2 * WORDS], body[48], records[WORDS], window[8], cells[WORDS];
+static uint32_t file[2 * WORDS], body[49], late[7], records[WORDS], window[8], cells[WORDS];
 static float shapes[WORDS];
 static char line[ROOM];
 static size_t block;
@@ -46,7 +46,8 @@ static size_t cells_len(void) { return (size_t)window[3] * window[4] * window[5]
 
 static void parts(void) {
     block = 0;
-    part(48, 48, body);
+    part(49, 49, body);
+    memcpy(late, body + 40, 6 * sizeof *late), late[6] = body[48]; /* a body's words, of which the cap stands behind the two counts */
     part(120, 20 * (size_t)body[46], records);
     part(120, 6 * (size_t)body[47], shapes);
     part(8, 8, window);
@@ -114,7 +115,7 @@ static void step(struct count *c, step_function *f, const char *theirs) {
     memcpy(numbers, body, sizeof numbers);
     memcpy(&age, body + 38, 8);
     for (int k = 0; k < 10; k++) out[k] = -1;
-    uint32_t refusal = f(records, 20 * (size_t)body[46], shapes, 6 * (size_t)body[47], WINDOW, numbers, 19, body + 40, 6, age, out, 10);
+    uint32_t refusal = f(records, 20 * (size_t)body[46], shapes, 6 * (size_t)body[47], WINDOW, numbers, 19, late, 7, age, out, 10);
     tick_text(ours, refusal, out, out + 8);
     add(c, ours, theirs);
 }
@@ -142,7 +143,7 @@ static void writes_as(struct count *c, write_function *f, size_t bytes, size_t r
     memcpy(numbers, body, sizeof numbers);
     memcpy(&age, body + 38, 8);
     memset(out, 170, sizeof out);
-    uint64_t n = f(records, 20 * (size_t)body[46], shapes, 6 * (size_t)body[47], WINDOW, numbers, 19, body + 40, 6, age, out, room);
+    uint64_t n = f(records, 20 * (size_t)body[46], shapes, 6 * (size_t)body[47], WINDOW, numbers, 19, late, 7, age, out, room);
     size_t kept = n < 512 ? 0 : (size_t)n;
     if (n < 512) sprintf(ours, "refused %" PRIu64, n);
     else sprintf(ours, "%s", n == bytes && !memcmp(out, file, bytes) ? "same" : "another file");
@@ -158,7 +159,7 @@ static void step_with_fall(struct count *c, int record, const char *theirs) {
     char ours[512];
     memcpy(numbers, body, sizeof numbers);
     memcpy(&age, body + 38, 8);
-    uint32_t refusal = boltjuniper_step_falling(records, 20 * (size_t)body[46], shapes, 6 * (size_t)body[47], WINDOW, numbers, 19, body + 40, 6, age,
+    uint32_t refusal = boltjuniper_step_falling(records, 20 * (size_t)body[46], shapes, 6 * (size_t)body[47], WINDOW, numbers, 19, late, 7, age,
                                                 0, 0, out, 12);
     if (record) put(ours, "fall", out + 8, 2);
     else tick_text(ours, refusal, out, out + 10);
@@ -166,7 +167,7 @@ static void step_with_fall(struct count *c, int record, const char *theirs) {
 }
 
 /* The scene's body three times, the second time in a window that is not there: the others' answers are as alone, and a refusal hands back. */
-enum { N = BOLTJUNIPER_BODY_NUMBERS, W = BOLTJUNIPER_BODY_WORDS, A = BOLTJUNIPER_ANSWER_NUMBERS };
+enum { N = BOLTJUNIPER_BODY_NUMBERS, W = BOLTJUNIPER_CAPPED_WORDS, A = BOLTJUNIPER_ANSWER_NUMBERS };
 
 static void midnight(const char *theirs) {
     double numbers[3 * N] = {0}, out[3 * A + 1];
@@ -177,11 +178,11 @@ static void midnight(const char *theirs) {
     for (int k = 0; k < 3; k++) {
         memcpy(numbers + k * N, body, 19 * sizeof *numbers);
         words[k * W] = k == 1;
-        memcpy(words + k * W + 1, body + 38, 8 * sizeof *words);
+        memcpy(words + k * W + 1, body + 38, 8 * sizeof *words), words[k * W + 9] = body[48];
     }
     for (int k = 0; k <= 3 * A; k++) out[k] = -1;
-    uint32_t refusal = boltjuniper_midnight(records, 20 * (size_t)body[46], shapes, 6 * (size_t)body[47], row, 10, 1, cells, cells_len(), numbers, 3 * N,
-                                            words, 3 * W, 3, out, 3 * A);
+    uint32_t refusal = boltjuniper_midnight_capped(records, 20 * (size_t)body[46], shapes, 6 * (size_t)body[47], row, 10, 1, cells, cells_len(), numbers,
+                                                   3 * N, words, 3 * W, 3, out, 3 * A);
     if (refusal) {
         tick_text(ours, refusal, out, out + 10);
         add(&nights, ours, theirs);
@@ -201,6 +202,19 @@ static void midnight(const char *theirs) {
         add(&nights, ours, k == 1 ? "refused 10" : theirs);
     }
     add(&nights, out[3 * A] == -1 ? "kept" : "written", "kept");
+    /* an older caller's row, without the cap: as alone under 128 */
+    double alone[12] = {0}, *older = out;
+    uint64_t age;
+    memcpy(&age, body + 38, 8), late[6] = BOLTJUNIPER_OLDER_CAP;
+    refusal = boltjuniper_step_falling(records, 20 * (size_t)body[46], shapes, 6 * (size_t)body[47], WINDOW, numbers, 19, late, 7, age, 0, 0, alone, 12);
+    boltjuniper_midnight(records, 20 * (size_t)body[46], shapes, 6 * (size_t)body[47], row, 10, 1, cells, cells_len(), numbers, N, words,
+                         BOLTJUNIPER_BODY_WORDS, 1, older, A);
+    late[6] = body[48];
+    sprintf(ours, "refused %d", (int)older[0]);
+    char theirs_alone[64];
+    sprintf(theirs_alone, "refused %" PRIu32, refusal);
+    add(&nights, ours, theirs_alone);
+    if (refusal == 0) add(&nights, memcmp(older + 1, alone, sizeof alone) ? "another answer" : "as alone", "as alone");
 }
 
 static void tick(size_t bytes, size_t room, struct count *c, const char *theirs) {
@@ -238,7 +252,7 @@ static void one_scene(char *theirs) {
     if (!first) writes_as(&rewrites, boltjuniper_write_checked, bytes, 0, "refused 11");
     /* A move through the window meets 1 and 2 as the step does; its step height is then 3. */
     double mover[9] = {0}, out[10];
-    sprintf(ours, "refused %" PRIu32, boltjuniper_move(records, n, shapes, m, WINDOW, body[45], mover, 9, 5, 0, out, 10));
+    sprintf(ours, "refused %" PRIu32, boltjuniper_move(records, n, shapes, m, WINDOW, body[45], mover, 9, 5, 0, body[48] % 513, out, 10));
     add(&moves, ours, early ? theirs : "refused 3");
 }
 
@@ -267,7 +281,7 @@ static void one_list(char *call) {
     /* A refused move returns its box, moved zero, ground false: that is what stands there before. */
     double out[10] = {0};
     memcpy(out, numbers, 6 * sizeof *out);
-    uint32_t refusal = boltjuniper_move_over_list(numbers + 12, n - 12, numbers, 9, numbers[9], (uint32_t)ground, out, 10);
+    uint32_t refusal = boltjuniper_move_over_list(numbers + 12, n - 12, numbers, 9, numbers[9], (uint32_t)ground, BOLTJUNIPER_OLDER_CAP, out, 10);
     move_text(ours, refusal, out);
     add(&lists, ours, theirs);
 }
@@ -283,7 +297,7 @@ static void case_a(void) {
     static const double theirs[10] = {0.25, 1, 0, 1.25, 2, 1, 0.25, -0.25, 0, 1};
     double out[10];
     char a[512], b[512];
-    move_text(a, boltjuniper_move(states, 40, cube, 6, CASE_A, 0, mover, 9, 0, 0, out, 10), out);
+    move_text(a, boltjuniper_move(states, 40, cube, 6, CASE_A, 0, mover, 9, 0, 0, 0, out, 10), out);
     move_text(b, 0, theirs);
     add(&moves, a, b);
 }
@@ -294,7 +308,7 @@ static void collected(void) {
     for (uint32_t k = 0; k < 3; k++) {
         double out[7];
         char a[512], b[512];
-        uint32_t refusal = boltjuniper_collected(states, 40, cube, 6, CASE_A, 0, mover, 9, 0, k, out, 7);
+        uint32_t refusal = boltjuniper_collected(states, 40, cube, 6, CASE_A, 0, mover, 9, 0, 0, k, out, 7);
         if (refusal) sprintf(a, "refused %" PRIu32, refusal);
         else put(a, "boxes", out, 7);
         put(b, "boxes", theirs[k], 7);
@@ -315,7 +329,7 @@ static void refuses(struct count *c, uint32_t ours, uint32_t theirs, double *out
 
 static void a_step(uint32_t theirs, size_t state_words, size_t numbers_len, size_t words_len, double gravity, size_t room) {
     double numbers[20] = {0.5, 1.25, 0.5, 0.25, 0, 0, 1, 1, 0, gravity, 0.5, 0.5}, out[10] = {-1, -1, -1, -1, -1, -1, -1, -1, -1, -1};
-    static const uint32_t words[7] = {0, 3};
+    static const uint32_t words[8] = {0, 3};
     refuses(&lengths, boltjuniper_step(states, state_words, cube, 6, CASE_A, numbers, numbers_len, words, words_len, 0, out, room), theirs, out);
     if (state_words == 40)
         refuses(&lengths, boltjuniper_step_checked(states, 40, cube, 6, CASE_A, numbers, numbers_len, words, words_len, 0, out, room), theirs, out);
@@ -323,33 +337,46 @@ static void a_step(uint32_t theirs, size_t state_words, size_t numbers_len, size
 
 static void a_move(uint32_t theirs, size_t state_words, size_t mover_len, double step_height, uint32_t on_ground, size_t room) {
     double out[10] = {-1, -1, -1, -1, -1, -1, -1, -1, -1, -1};
-    uint32_t ours = boltjuniper_move(states, state_words, cube, 6, CASE_A, 0, mover, mover_len, step_height, on_ground, out, room);
+    uint32_t ours = boltjuniper_move(states, state_words, cube, 6, CASE_A, 0, mover, mover_len, step_height, on_ground, 0, out, room);
     refuses(&lengths, ours, theirs, out);
 }
 
 static void a_collection(uint32_t theirs, size_t state_words, size_t mover_len, double step_height, size_t room) {
     double out[10] = {-1, -1, -1, -1, -1, -1, -1, -1, -1, -1};
-    uint32_t ours = boltjuniper_collected(states, state_words, cube, 6, CASE_A, 0, mover, mover_len, step_height, 0, out, room);
+    uint32_t ours = boltjuniper_collected(states, state_words, cube, 6, CASE_A, 0, mover, mover_len, step_height, 0, 0, out, room);
     refuses(&lengths, ours, theirs, out);
 }
 
-static void a_list(uint32_t theirs, size_t boxes_len, double last, size_t mover_len, uint32_t on_ground, size_t room) {
-    static double many[6 * 130];
+static void a_list(uint32_t theirs, uint32_t cap, size_t boxes_len, double last, size_t mover_len, uint32_t on_ground, size_t room) {
+    static double many[6 * 513];
     double out[10] = {-1, -1, -1, -1, -1, -1, -1, -1, -1, -1};
     if (boxes_len) many[boxes_len - 1] = last;
-    refuses(&lengths, boltjuniper_move_over_list(many, boxes_len, mover, mover_len, 0, on_ground, out, room), theirs, out);
+    refuses(&lengths, boltjuniper_move_over_list(many, boxes_len, mover, mover_len, 0, on_ground, cap, out, room), theirs, out);
     if (boxes_len) many[boxes_len - 1] = 0;
 }
 
+/* Case A's step, move and collection, which meet two boxes, under a cap. */
+static void a_cap(uint32_t theirs, uint32_t cap) {
+    double numbers[19] = {0.5, 1.25, 0.5, 0.25, 0, 0, 1, 1, 0, 0.5, 0.5, 0.5}, out[10] = {-1, -1, -1, -1, -1, -1, -1, -1, -1, -1};
+    uint32_t words[7] = {0, 3, 0, 0, 0, 0, cap};
+    refuses(&lengths, boltjuniper_step(states, 40, cube, 6, CASE_A, numbers, 19, words, 7, 0, out, 10), theirs, out);
+    refuses(&lengths, boltjuniper_move(states, 40, cube, 6, CASE_A, 0, mover, 9, 0, 0, cap, out, 10), theirs, out);
+    refuses(&lengths, boltjuniper_collected(states, 40, cube, 6, CASE_A, 0, mover, 9, 0, cap, 0, out, 10), theirs, out);
+}
+
 static void all_lengths(void) {
-    a_step(0, 40, 19, 6, 0.5, 10), a_step(3, 40, 18, 6, 0.5, 10), a_step(3, 40, 20, 6, 0.5, 10), a_step(3, 40, 19, 5, 0.5, 10);
-    a_step(3, 40, 19, 7, 0.5, 10), a_step(11, 40, 19, 6, 0.5, 9), a_step(3, 40, 19, 6, 17, 0), a_step(1, 39, 18, 6, 0.5, 0);
+    a_step(0, 40, 19, 7, 0.5, 10), a_step(3, 40, 18, 7, 0.5, 10), a_step(3, 40, 20, 7, 0.5, 10), a_step(3, 40, 19, 6, 0.5, 10);
+    a_step(3, 40, 19, 8, 0.5, 10), a_step(11, 40, 19, 7, 0.5, 9), a_step(3, 40, 19, 7, 17, 0), a_step(1, 39, 18, 7, 0.5, 0);
     a_move(0, 40, 9, 0, 0, 10), a_move(4, 40, 8, 0, 0, 10), a_move(3, 40, 9, 0, 2, 10), a_move(3, 40, 8, 5, 0, 0);
     a_move(11, 40, 9, 0, 1, 9), a_move(4, 40, 8, 0, 1, 0), a_move(1, 39, 8, 5, 2, 0);
     a_collection(0, 40, 9, 0, 7), a_collection(4, 40, 8, 0, 7), a_collection(3, 40, 8, 5, 0), a_collection(11, 40, 9, 0, 6);
     a_collection(1, 39, 8, 5, 0);
-    a_list(0, 6, 0, 9, 1, 10), a_list(4, 7, 0, 9, 0, 10), a_list(3, 6, 0, 9, 2, 10), a_list(4, 6, 0, 8, 0, 10), a_list(11, 6, 0, 9, 0, 9);
-    a_list(4, 6 * 130, -1, 9, 0, 0), a_list(11, 6 * 130, 0, 9, 0, 0), a_list(6, 6 * 130, 0, 9, 0, 10), a_list(0, 6 * 128, 0, 9, 0, 10);
+    a_list(0, 0, 6, 0, 9, 1, 10), a_list(4, 0, 7, 0, 9, 0, 10), a_list(3, 0, 6, 0, 9, 2, 10), a_list(4, 0, 6, 0, 8, 0, 10), a_list(11, 0, 6, 0, 9, 0, 9);
+    a_list(4, 128, 6 * 130, -1, 9, 0, 0), a_list(11, 128, 6 * 130, 0, 9, 0, 0), a_list(6, 128, 6 * 129, 0, 9, 0, 10), a_list(0, 128, 6 * 128, 0, 9, 0, 10);
+    /* caps: the one more, 0 for 512, and 513 */
+    a_list(6, 1, 6 * 2, 0, 9, 0, 10), a_list(0, 1, 6, 0, 9, 0, 10), a_list(0, 0, 6 * 512, 0, 9, 0, 10), a_list(6, 0, 6 * 513, 0, 9, 0, 10);
+    a_list(0, 512, 6 * 512, 0, 9, 0, 10), a_list(6, 511, 6 * 512, 0, 9, 0, 10), a_list(3, 513, 6, 0, 9, 0, 10), a_list(3, 513, 6 * 513, -1, 8, 0, 0);
+    a_cap(0, 0), a_cap(0, 2), a_cap(6, 1), a_cap(0, 512), a_cap(3, 513), a_cap(3, UINT32_MAX);
 }
 
 /* Case A's window lent with another first cell, last word, length, size, heights or air, to its body at this height: what is refused by the step, the
@@ -358,16 +385,16 @@ struct lent { uint32_t first, last; size_t len; uint32_t sx; int32_t oy, lowest,
 static const struct lent as_it_is = {1, 1, 20, 2, -1, -64, 319, 0, 1.25, 9, 10};
 
 static void a_window(uint32_t theirs, struct lent l) {
-    uint32_t w[21], body_words[6] = {0, 3, 0, 0, 0, l.air};
+    uint32_t w[21], body_words[7] = {0, 3, 0, 0, 0, l.air};
     double numbers[19] = {0.5, l.y, 0.5, 0.25, 0, 0, 1, 1, 0, 0.5, 0.5, 0.5}, out[10] = {-1, -1, -1, -1, -1, -1, -1, -1, -1, -1};
     double swept[9] = {0, l.y, 0, 1, l.y + 1, 1, 0.25, -0.5, 0};
     memcpy(w, ground, sizeof ground);
     w[0] = l.first, w[20] = 1, w[l.len - 1] = l.last;
 #define LENT states, 40, cube, 6, w, l.len, 0, l.oy, 0, l.sx, 4, 2, l.lowest, l.highest
-    refuses(&windows, boltjuniper_step(LENT, numbers, 19, body_words, 6, 0, out, l.room), theirs, out);
-    if (theirs != 2) refuses(&windows, boltjuniper_step_checked(LENT, numbers, 19, body_words, 6, 0, out, l.room), theirs, out);
-    refuses(&windows, boltjuniper_move(LENT, l.air, swept, l.mover_len, 0, 0, out, l.room), theirs, out);
-    refuses(&windows, boltjuniper_collected(LENT, l.air, swept, l.mover_len, 0, 0, out, l.room), theirs, out);
+    refuses(&windows, boltjuniper_step(LENT, numbers, 19, body_words, 7, 0, out, l.room), theirs, out);
+    if (theirs != 2) refuses(&windows, boltjuniper_step_checked(LENT, numbers, 19, body_words, 7, 0, out, l.room), theirs, out);
+    refuses(&windows, boltjuniper_move(LENT, l.air, swept, l.mover_len, 0, 0, 0, out, l.room), theirs, out);
+    refuses(&windows, boltjuniper_collected(LENT, l.air, swept, l.mover_len, 0, 0, 0, out, l.room), theirs, out);
 }
 
 static void all_windows(void) {
@@ -393,33 +420,33 @@ static void all_windows(void) {
 /* Case A's body above and below the world: it falls as through a window that holds air there. Where the columns to the east are not loaded, it is
    stopped by them at every height. */
 static void beyond(double y) {
-    static const uint32_t air[20] = {[16] = 1, 1, 1, 1}, half[20] = {[16] = 1, 0, 1, 0}, body_words[6] = {0, 3};
+    static const uint32_t air[20] = {[16] = 1, 1, 1, 1}, half[20] = {[16] = 1, 0, 1, 0}, body_words[7] = {0, 3};
     double numbers[19] = {0.5, y, 0.5, 0.25, 0, 0, 1, 1, 0, 0.5, 0.5, 0.5}, out[10];
     double falls[10] = {0.75, y - 0.5, 0.5, 0.125, -0.25}, stopped[10] = {0.5, y - 0.5, 0.5, 0, -0.25};
     char ours[512], theirs[512], halted[512];
     cases = 1;
     tick_text(theirs, 0, falls, falls + 8), tick_text(halted, 0, stopped, stopped + 8);
-    tick_text(ours, boltjuniper_step(states, 40, cube, 6, CASE_A, numbers, 19, body_words, 6, 0, out, 10), out, out + 8), add(&windows, ours, theirs);
+    tick_text(ours, boltjuniper_step(states, 40, cube, 6, CASE_A, numbers, 19, body_words, 7, 0, out, 10), out, out + 8), add(&windows, ours, theirs);
     int32_t oy = (int32_t)floor(y) - 2;
-    tick_text(ours, boltjuniper_step(states, 40, cube, 6, air, 20, 0, oy, 0, 2, 4, 2, -999, 999, numbers, 19, body_words, 6, 0, out, 10), out, out + 8);
+    tick_text(ours, boltjuniper_step(states, 40, cube, 6, air, 20, 0, oy, 0, 2, 4, 2, -999, 999, numbers, 19, body_words, 7, 0, out, 10), out, out + 8);
     add(&windows, ours, theirs);
-    tick_text(ours, boltjuniper_step(states, 40, cube, 6, half, 20, 0, -1, 0, 2, 4, 2, -64, 319, numbers, 19, body_words, 6, 0, out, 10), out, out + 8);
+    tick_text(ours, boltjuniper_step(states, 40, cube, 6, half, 20, 0, -1, 0, 2, 4, 2, -64, 319, numbers, 19, body_words, 7, 0, out, 10), out, out + 8);
     add(&windows, ours, halted);
 }
 
 /* Case A's step with a record: what is refused, and what the record is after a landing and after a fall through the sky. */
 static void a_record(uint32_t theirs, double sum, double landed, double gravity, size_t numbers_len, size_t state_words, size_t room) {
     double numbers[19] = {0.5, 1.25, 0.5, 0.25, 0, 0, 1, 1, 0, gravity, 0.5, 0.5}, out[12] = {-1, -1, -1, -1, -1, -1, -1, -1, -1, -1, -1, -1};
-    static const uint32_t words[6] = {0, 3};
-    refuses(&falling, boltjuniper_step_falling(states, state_words, cube, 6, CASE_A, numbers, numbers_len, words, 6, 0, sum, landed, out, room), theirs,
+    static const uint32_t words[7] = {0, 3};
+    refuses(&falling, boltjuniper_step_falling(states, state_words, cube, 6, CASE_A, numbers, numbers_len, words, 7, 0, sum, landed, out, room), theirs,
             out);
 }
 
 static void a_fall(double y, double sum, double landed, double sum_after, double landed_after) {
     double numbers[19] = {0.5, y, 0.5, 0.25, 0, 0, 1, 1, 0, 0.5, 0.5, 0.5}, out[12], theirs[2] = {sum_after, landed_after};
-    static const uint32_t words[6] = {0, 3};
+    static const uint32_t words[7] = {0, 3};
     char a[64], b[64];
-    if (boltjuniper_step_falling(states, 40, cube, 6, CASE_A, numbers, 19, words, 6, 0, sum, landed, out, 12)) out[8] = out[9] = -1;
+    if (boltjuniper_step_falling(states, 40, cube, 6, CASE_A, numbers, 19, words, 7, 0, sum, landed, out, 12)) out[8] = out[9] = -1;
     put(a, "fall", out + 8, 2), put(b, "fall", theirs, 2);
     add(&records_kept, a, b);
 }
@@ -445,8 +472,8 @@ static void a_night(uint32_t theirs, size_t state_words, uint32_t windows_count,
     for (size_t k = 0; k < 17; k++) memcpy(rows + k * BOLTJUNIPER_WINDOW_WORDS, row, sizeof row);
     for (size_t k = 0; k < 4097; k++) memcpy(numbers + k * N, one, sizeof one), words[k * W] = k % 16, words[k * W + 4] = 3;
     for (size_t k = 0; k < 4097 * A; k++) out[k] = -1;
-    uint32_t ours = boltjuniper_midnight(states, state_words, cube, 6, rows, 17 * BOLTJUNIPER_WINDOW_WORDS, windows_count, ground, 20, numbers, 4097 * N,
-                                         words, 4097 * W, bodies_count, out, room);
+    uint32_t ours = boltjuniper_midnight_capped(states, state_words, cube, 6, rows, 17 * BOLTJUNIPER_WINDOW_WORDS, windows_count, ground, 20, numbers,
+                                                4097 * N, words, 4097 * W, bodies_count, out, room);
     for (size_t k = 0; k < 4097 * A; k++) kept &= out[k] == -1;
     sprintf(a, "refused %" PRIu32 ", kept %d", ours, kept), sprintf(b, "refused %" PRIu32 ", kept %d", theirs, theirs != 0 || bodies_count == 0);
     add(&nights, a, b);

@@ -85,8 +85,8 @@ def renewed(data):
 COUNTS = {name: Count(name) for name in ("tick", "ticks", "step", "step_checked", "steps", "check_tables", "move", "move_over_list", "collected",
                                          "write_scene", "write_scene beside tools/scene",
                                          "move over what it collects", "step of numpy's arrays", "heights, columns and air", "two ticks at a door",
-                                         "arrays as they are", "step_falling", "fall records", "midnight", "midnight's refusals",
-                                         "classroom palette", "summaries")}
+                                         "arrays as they are", "step_falling", "fall records", "midnight", "midnight of older rows", "midnight's refusals",
+                                         "classroom palette", "caps", "summaries")}
 
 
 def one_scene(name, theirs):
@@ -102,6 +102,7 @@ def one_scene(name, theirs):
     fallen = asked(b.step_falling, tables, window, body)
     COUNTS["step_falling"].add(name, tick_text(fallen if isinstance(fallen, b.Refused) else fallen[0], theirs), theirs)
     one_midnight(name, tables, window, body, theirs)
+    one_older(name, tables, window, body)
     summaries(name, tables, window, body)
     COUNTS["steps"].add(name, [tick_text(t, theirs) for t in b.steps(tables, window, [body] * 3)], [theirs] * 3)
     COUNTS["check_tables"].add(name, asked(b.check_tables, tables), b.Refused(1) if theirs == "refused 1" else None)
@@ -123,7 +124,7 @@ def one_scene(name, theirs):
 
 def one_midnight(name, tables, window, body, theirs):
     """The scene's body three times, the second time in a window that is not there: the others' answers are as alone, and a refusal hands back."""
-    rows = asked(b.midnight, tables, *b.window_rows([window]), *b.body_rows([body] * 3, [0, 1, 0]))
+    rows = asked(b.midnight_capped, tables, *b.window_rows([window]), *b.body_rows([body] * 3, [0, 1, 0]))
     if theirs == "refused 1":
         COUNTS["midnight"].add(name, rows, b.Refused(1))
         return
@@ -135,6 +136,14 @@ def one_midnight(name, tables, window, body, theirs):
             COUNTS["midnight"].add(name, bits(numbers_in(row)[1:]), given)
 
 
+def one_older(name, tables, window, body):
+    """An older caller's row, without the cap: its answer is that of the step under 128."""
+    numbers, words = b.body_rows([body], [0])
+    rows = asked(b.midnight, tables, *b.window_rows([window]), numbers, words[:9])
+    alone = asked(b.step, tables, window, body._replace(words=[*body.words[:6], b.OLDER_CAP]))
+    COUNTS["midnight of older rows"].add(name, rows if isinstance(rows, b.Refused) else b.answered(rows[0])[0], alone)
+
+
 def numbers_in(row):
     return [float(n) for part in row for n in (part if hasattr(part, "__len__") else (part,))]
 
@@ -143,7 +152,7 @@ def over_collected(name, tables, window, body):
     """A move through a window is the move over the boxes that it collects: here the body's own box, by its velocity. Only a block beyond the limit on
     boxes can be met in a window and not handed in."""
     (x, y, z), delta, (width, height), step = body.numbers[:3], body.numbers[3:6], body.numbers[6:8], body.numbers[13]
-    mover = b.Mover((x - width / 2, y, z - width / 2, x + width / 2, y + height, z + width / 2), tuple(delta), step, body.words[0])
+    mover = b.Mover((x - width / 2, y, z - width / 2, x + width / 2, y + height, z + width / 2), tuple(delta), step, body.words[0], body.words[6])
     air = body.words[5]
     boxes = asked(b.collected, tables, window, air, mover)
     over = boxes if isinstance(boxes, b.Refused) else asked(b.move_over_list, [number for box in boxes for number in box], mover)
@@ -157,7 +166,7 @@ def one_list(call, theirs):
     """movelist box6 delta3 step ground n box6*n"""
     words = call.split()[1:]
     numbers = [number(w) for w in words[:10] + words[12:]]
-    mover = b.Mover(tuple(numbers[:6]), tuple(numbers[6:9]), numbers[9], int(words[10]))
+    mover = b.Mover(tuple(numbers[:6]), tuple(numbers[6:9]), numbers[9], int(words[10]), b.OLDER_CAP)
     COUNTS["move_over_list"].add(call, move_text(mover, asked(b.move_over_list, numbers[10:], mover)), theirs)
 
 
@@ -195,7 +204,7 @@ def recorder():
     tables, window, body = parts(example("case-a"))
     plain, flap = asked(b.write_scene, tables, window, body), [*body.numbers[:12], 0.25, *body.numbers[13:]]
     COUNTS["write_scene"].add("a flap that is not present", asked(b.write_scene, tables, window, body._replace(numbers=flap)) == plain, True)
-    present = body._replace(numbers=flap, words=[*body.words[:4], 1, body.words[5]])
+    present = body._replace(numbers=flap, words=[*body.words[:4], 1, *body.words[5:]])
     COUNTS["write_scene"].add("a flap that is present", scenefile.value(scenefile.unpacked(asked(b.write_scene, tables, window, present)).body,
                                                                         scenefile.BODY["flap"]), 0.25)
     wide = b.Window([0] * (64 * 64 * 65), (0, 0, 0), (64, 64, 64), 0, 63)
@@ -209,7 +218,7 @@ def windows():
     words, mover = list(window.cells), b.Mover((0.0, 1.25, 0.0, 1.0, 2.25, 1.0), (0.25, -0.5, 0.0))
 
     def refused(what, theirs, air=0, **lent):
-        lent, airy = window._replace(**lent), body._replace(words=[*body.words[:5], air])
+        lent, airy = window._replace(**lent), body._replace(words=[*body.words[:5], air, 0])
         for call in ((b.step, tables, lent, airy), (b.move, tables, lent, air, mover), (b.collected, tables, lent, air, mover)):
             ours = asked(*call)
             count.add(what, ours.number if isinstance(ours, b.Refused) else 0, theirs)
@@ -275,7 +284,7 @@ def midnight():
 
     def called(windows, bodies, room, records=tables.records):
         out = array.array("d", [7.0]) * room
-        told = asked(b.midnight, b.Tables(records, tables.shapes), rows[:windows * 10], cells, numbers[:bodies * 21], words[:bodies * 9], out)
+        told = asked(b.midnight_capped, b.Tables(records, tables.shapes), rows[:windows * 10], cells, numbers[:bodies * 21], words[:bodies * 10], out)
         return (told.number if isinstance(told, b.Refused) else 0), out
 
     def refused(what, theirs, *call):
@@ -292,26 +301,42 @@ def midnight():
     told, out = called(16, 4096, 4096 * 13 + 5)
     alone = bits([0.0, 0.75, 1.0, 0.5, 0.125, 0.0, 0.0, 1.0, 0.0, 0.0, 0.25, 0.0, 0.0])
     count.add("4,096 bodies", (told, {bits(out[k:k + 13]) for k in range(0, 4096 * 13, 13)}, list(out[4096 * 13:])), (0, {alone}, [7.0] * 5))
-    short = asked(b.midnight, tables, rows[:10], cells, numbers[:41], words[:18])
+    short = asked(b.midnight_capped, tables, rows[:10], cells, numbers[:41], words[:20])
     count.add("a row cut short", [b.answered(row)[0] for row in short], [b.step(tables, window, body), b.Refused(3)])
     halves, both = memoryview(array.array("d", [7.0]) * (4096 * 13)), []
     for first, last in (0, 2048), (2048, 4096):
-        part = (rows[:160], cells, numbers[first * 21:last * 21], words[first * 9:last * 9], halves[first * 13:last * 13])
-        both.append(threading.Thread(target=b.midnight, args=(tables, *part)))
+        part = (rows[:160], cells, numbers[first * 21:last * 21], words[first * 10:last * 10], halves[first * 13:last * 13])
+        both.append(threading.Thread(target=b.midnight_capped, args=(tables, *part)))
     for thread in both:
         thread.start()
     for thread in both:
         thread.join()
     count.add("two threads", bits(halves), bits(out[:4096 * 13]))
     if numpy:
-        lent = [as_numpy(a) for a in (rows[:160], cells, numbers[:4096 * 21], words[:4096 * 9])]
-        told = b.midnight(tables, lent[0].reshape(16, 10), lent[1], lent[2].reshape(4096, 21), lent[3].reshape(4096, 9))
+        lent = [as_numpy(a) for a in (rows[:160], cells, numbers[:4096 * 21], words[:4096 * 10])]
+        told = b.midnight_capped(tables, lent[0].reshape(16, 10), lent[1], lent[2].reshape(4096, 21), lent[3].reshape(4096, 10))
         count.add("numpy's arrays", (told["feet"][4095].tolist(), set(told["landed"]), told["refusal"].sum()), ([0.75, 1.0, 0.5], {0.25}, 0))
     try:
-        b.midnight(tables, rows[:10], cells, numbers[:21], words[:9], memoryview(bytes(104)).cast("d"))
+        b.midnight_capped(tables, rows[:10], cells, numbers[:21], words[:10], memoryview(bytes(104)).cast("d"))
         count.add("a buffer that may only be read", "taken", "ValueError")
     except ValueError:
         count.add("a buffer that may only be read", "ValueError", "ValueError")
+
+
+def caps():
+    """Case A's step, move and collection, which meet two boxes, and a list of them, under a cap."""
+    tables, window, body = parts(example("case-a"))
+    mover = b.Mover((0.0, 1.25, 0.0, 1.0, 2.25, 1.0), (0.25, -0.5, 0.0))
+    boxes = [number for box in b.collected(tables, window, 0, mover) for number in box]
+    for cap, theirs in (0, 0), (1, 6), (2, 0), (512, 0), (513, 3), (2**32 - 1, 3):
+        capped = mover._replace(cap=cap)
+        for call in ((b.step, tables, window, body._replace(words=[*body.words[:6], cap])), (b.move, tables, window, 0, capped),
+                     (b.collected, tables, window, 0, capped), (b.move_over_list, boxes, capped)):
+            ours = asked(*call)
+            COUNTS["caps"].add("%s under %d" % (call[0].__name__, cap), ours.number if isinstance(ours, b.Refused) else 0, theirs)
+    for cap, count, theirs in (0, 512, 0), (0, 513, 6), (128, 128, 0), (128, 129, 6), (511, 512, 6):
+        ours = asked(b.move_over_list, [0.0] * (6 * count), mover._replace(cap=cap))
+        COUNTS["caps"].add("%d boxes under %d" % (count, cap), ours.number if isinstance(ours, b.Refused) else 0, theirs)
 
 
 def palette():
@@ -413,6 +438,7 @@ def main():
     windows()
     records()
     midnight()
+    caps()
     palette()
     doors()
     arrays()

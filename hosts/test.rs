@@ -23,14 +23,14 @@ fn scene(file: &[u8]) -> Scene {
         out.truncate(words as usize);
         out
     };
-    let b = part(48, 48);
+    let b = part(49, 49);
     let records = part(120, 20 * b[46]);
     let shapes = part(120, 6 * b[47]).into_iter().map(f32::from_bits).collect();
     let w = part(8, 8);
     let sizes = [w[3], w[4], w[5]];
     let cells = part(123, w[3] * w[4] * w[5] + w[3] * w[5]);
     let wide = |k: usize| b[2 * k] as u64 | (b[2 * k + 1] as u64) << 32;
-    let body = Body { numbers: std::array::from_fn(|k| f64::from_bits(wide(k))), words: b[40..46].try_into().unwrap(), age: wide(19) };
+    let body = Body { numbers: std::array::from_fn(|k| f64::from_bits(wide(k))), words: std::array::from_fn(|k| if k < 6 { b[40 + k] } else { b[48] }), age: wide(19) };
     let origin = [w[0] as i32, w[1] as i32, w[2] as i32];
     Scene { body, records, shapes, cells, origin, sizes, lowest: w[6] as i32, highest: w[7] as i32 }
 }
@@ -112,7 +112,7 @@ fn fall_records(falls: &mut Count) {
     let mut after = |y: f64, gravity: f64, sum: f64, landed: f64, theirs: Result<(f64, f64), Refusal>| {
         let mut numbers = [0.0; 19];
         numbers[..12].copy_from_slice(&[0.5, y, 0.5, 0.25, 0.0, 0.0, 1.0, 1.0, 0.0, gravity, 0.5, 0.5]);
-        let body = Body { numbers, words: [0, 3, 0, 0, 0, 0], age: 0 };
+        let body = Body { numbers, words: [0, 3, 0, 0, 0, 0, 0], age: 0 };
         let theirs = theirs.map_or_else(|n| format!("refused {n}"), |(s, l)| format!("fall{}", bits(&[s, l])));
         falls.add("fall record", &fall_text(step_falling(t, w, &body, Fall { sum, landed })), &theirs);
     };
@@ -142,7 +142,7 @@ fn nights(count: &mut Count, name: &str, t: Tables, w: Window, body: &Body, thei
     let fall = Fall { sum: 1.5, landed: 2.5 };
     let (numbers, words): (Vec<_>, Vec<_>) = [0, 1, 0].iter().map(|&k| body.row(fall, k)).unzip();
     let mut out = [[7.0; 13]; 4];
-    let told = midnight(t, &[row], w.cells, &numbers, &words, &mut out);
+    let told = midnight_capped(t, &[row], w.cells, &numbers, &words, &mut out);
     if theirs == "refused 1" {
         count.add(name, &format!("{told:?} {}", out == [[7.0; 13]; 4]), "Err(1) true");
         return;
@@ -161,6 +161,18 @@ fn nights(count: &mut Count, name: &str, t: Tables, w: Window, body: &Body, thei
     }
 }
 
+// An older caller's row, without the cap: its answer is that of the step under 128.
+fn older_night(count: &mut Count, name: &str, t: Tables, w: Window, body: &Body) {
+    let row = WindowRow { origin: w.origin, sizes: w.sizes, lowest: w.lowest, highest: w.highest, first: 0, count: w.cells.len() as u32 };
+    let (numbers, words) = body.row(Fall::default(), 0);
+    let older: BodyWords = words[..9].try_into().unwrap();
+    let mut named = *body;
+    named.words[6] = OLDER_CAP;
+    let mut out = [[7.0; 13]];
+    let told = midnight(t, &[row], w.cells, &[numbers], &[older], &mut out).and_then(|()| answered(&out[0]).0);
+    count.add(name, &format!("{told:?}"), &format!("{:?}", step(t, w, &named)));
+}
+
 // Calls that are refused whole: nothing is written.
 fn whole_nights(count: &mut Count) {
     let mut records = [0; 40];
@@ -172,11 +184,11 @@ fn whole_nights(count: &mut Count) {
     let row = WindowRow { origin: [0, -1, 0], sizes: [2, 4, 2], lowest: -64, highest: 319, first: 0, count: 20 };
     let mut numbers = [0.0; 19];
     numbers[..12].copy_from_slice(&[0.5, 1.25, 0.5, 0.25, 0.0, 0.0, 1.0, 1.0, 0.0, 0.5, 0.5, 0.5]);
-    let (numbers, words) = Body { numbers, words: [0, 3, 0, 0, 0, 0], age: 0 }.row(Fall::default(), 0);
+    let (numbers, words) = Body { numbers, words: [0, 3, 0, 0, 0, 0, 0], age: 0 }.row(Fall::default(), 0);
     let mut refused = |what: &str, records: &[u32], windows: usize, bodies: usize, room: usize, theirs: Result<(), Refusal>| {
         let mut out = vec![[7.0; 13]; room];
         let t = Tables { records, shapes: &shapes };
-        let told = midnight(t, &vec![row; windows], &cells, &vec![numbers; bodies], &vec![words; bodies], &mut out);
+        let told = midnight_capped(t, &vec![row; windows], &cells, &vec![numbers; bodies], &vec![words; bodies], &mut out);
         let kept = out.iter().all(|r| *r == [7.0; 13]);
         count.add(what, &format!("{told:?} {kept}"), &format!("{theirs:?} {}", theirs.is_err() || bodies == 0));
     };
@@ -209,7 +221,7 @@ fn summaries(c: &mut Count, name: &str, t: Tables, w: Window, body: &Body, rando
     let mut words = w.cells.to_vec();
     words.extend(std::iter::repeat_n(7, summary_words(w.sizes)));
     let before = words.clone();
-    let none = Mover { aabb: [0.0; 6], delta: [0.0; 3], step: 5.0, ground: false };
+    let none = Mover { aabb: [0.0; 6], delta: [0.0; 3], step: 5.0, ground: false, cap: 0 };
     let first = move_through(t, w, air, none).err().filter(|n| *n < 3).or_else(|| move_through(t, w, air, Mover { step: 0.0, ..none }).err().filter(|n| *n == 3));
     let built = build_summary(t, &mut words, w, air);
     if let Some(n) = first {
@@ -218,7 +230,7 @@ fn summaries(c: &mut Count, name: &str, t: Tables, w: Window, body: &Body, rando
     }
     c.add(name, &format!("{built:?}"), "Ok(())");
     let feet = [body.numbers[0], body.numbers[1], body.numbers[2]];
-    let m = Mover { aabb: [feet[0] - 0.4, feet[1], feet[2] - 0.4, feet[0] + 0.4, feet[1] + 1.5, feet[2] + 0.4], delta: [0.5, -0.75, 0.25], step: 0.5, ground: true };
+    let m = Mover { aabb: [feet[0] - 0.4, feet[1], feet[2] - 0.4, feet[0] + 0.4, feet[1] + 1.5, feet[2] + 0.4], delta: [0.5, -0.75, 0.25], step: 0.5, ground: true, cap: body.words[6] };
     let count = (w.sizes[0] * w.sizes[1] * w.sizes[2]) as usize;
     let plain = w.cells.len();
     for turn in 0..6 {
@@ -233,10 +245,11 @@ fn summaries(c: &mut Count, name: &str, t: Tables, w: Window, body: &Body, rando
         row.push(air);
         let rows = [WindowRow { origin: w.origin, sizes: w.sizes, lowest: w.lowest, highest: w.highest, first: 0, count: row.len() as u32 }];
         for other in [air, air ^ 1] {
-            let b = Body { words: [body.words[0], body.words[1], body.words[2], body.words[3], body.words[4], other], ..*body };
+            let mut b = *body;
+            b.words[5] = other;
             let (numbers, own) = b.row(Fall::default(), 0);
             let mut out = [[0.0; 13]];
-            let run = midnight(t, &rows, &row, &[numbers], &[own], &mut out);
+            let run = midnight_capped(t, &rows, &row, &[numbers], &[own], &mut out);
             let theirs = step_falling(t, without, &b, Fall::default());
             let ours = answered(&out[0]);
             same(format!("{run:?} {:?}", ours.0.map(|tick| (tick, ours.1))), format!("Ok(()) {theirs:?}"), c);
@@ -257,7 +270,7 @@ fn summaries(c: &mut Count, name: &str, t: Tables, w: Window, body: &Body, rando
         row.push(air);
         let (numbers, own) = body.row(Fall::default(), 0);
         let mut out = [[0.0; 13]];
-        midnight(t, &rows, &row, &[numbers], &[own], &mut out).unwrap();
+        midnight_capped(t, &rows, &row, &[numbers], &[own], &mut out).unwrap();
         same(format!("{:?}", answered(&out[0]).0.err()), format!("{:?}", early.or(Some(13))), c);
         let kept = wrong.clone();
         let told = set_block(t, &mut wrong, w, air, w.origin, 0);
@@ -283,14 +296,14 @@ fn case_a(moves: &mut Count, windows: &mut Count) {
     // 16 cells and four columns, with one more word behind them
     let cells: [u32; 21] = std::array::from_fn(|k| !(8..16).contains(&k) as u32);
     let w = Window { cells: &cells[..20], origin: [0, -1, 0], sizes: [2, 4, 2], lowest: -64, highest: 319 };
-    let m = Mover { aabb: [0.0, 1.25, 0.0, 1.0, 2.25, 1.0], delta: [0.25, -0.5, 0.0], step: 0.0, ground: false };
+    let m = Mover { aabb: [0.0, 1.25, 0.0, 1.0, 2.25, 1.0], delta: [0.25, -0.5, 0.0], step: 0.0, ground: false, cap: 0 };
     let theirs = Moved { aabb: [0.25, 1.0, 0.0, 1.25, 2.0, 1.0], moved: [0.25, -0.25, 0.0], ground: true };
     moves.add("case A", &move_text(m, move_through(t, w, 0, m)), &move_text(m, Ok(theirs)));
 
     let body = |y: f64, air: u32| {
         let mut numbers = [0.0; 19];
         numbers[..12].copy_from_slice(&[0.5, y, 0.5, 0.25, 0.0, 0.0, 1.0, 1.0, 0.0, 0.5, 0.5, 0.5]);
-        Body { numbers, words: [0, 3, 0, 0, 0, air], age: 0 }
+        Body { numbers, words: [0, 3, 0, 0, 0, air, 0], age: 0 }
     };
     let changed = |at: usize, to: u32| -> Vec<u32> { cells[..20].iter().enumerate().map(|(k, &c)| if k == at { to } else { c }).collect() };
     let (two, strange) = (changed(19, 2), changed(0, u32::MAX));
@@ -379,6 +392,7 @@ fn main() {
             falls.add(name, &fall_text(fallen), record);
         }
         nights(&mut night, name, t, w, &s.body, theirs);
+        older_night(&mut night, name, t, w, &s.body);
         summaries(&mut summed, name, t, w, &s.body, &mut random);
         let early = theirs == "refused 1" || theirs == "refused 2";
         tables.add(name, &check_tables(t).err().unwrap_or(0).to_string(), if theirs == "refused 1" { "1" } else { "0" });
@@ -393,7 +407,7 @@ fn main() {
             writes.add(name, &written_text(write_checked(t, w, &s.body, &mut out), &out, &file), "same");
         }
         // A move through the window meets 1 and 2 as the step does; its step height is then 3.
-        let none = Mover { aabb: [0.0; 6], delta: [0.0; 3], step: 5.0, ground: false };
+        let none = Mover { aabb: [0.0; 6], delta: [0.0; 3], step: 5.0, ground: false, cap: 0 };
         let refused = format!("refused {}", move_through(t, w, s.body.words[5], none).err().unwrap_or(0));
         moves.add(name, &refused, if early { theirs } else { "refused 3" });
         if !early {
@@ -410,6 +424,7 @@ fn main() {
             delta: numbers[7..10].try_into().unwrap(),
             step: numbers[10],
             ground: words[11] == "1",
+            cap: OLDER_CAP,
         };
         lists.add(call, &move_text(m, move_over_list(&boxes, m)), theirs);
     }

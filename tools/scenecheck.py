@@ -9,7 +9,7 @@ AXES = "xyz"
 SMALL = ("offset", "gravity", "vertical_drag", "horizontal_drag", "flap", "default_friction", "sample_depth", "liquid_gravity", "water_drag",
          "lava_drag")
 MOST = {"flags": [3], "liquid": [2, 15], "connects": [4], "gate": [2], "post": [5]}  # of a state's words
-CASES = {"model": 3, "stage": 2, "ground_friction": 1, "flap_present": 1, "ground": 1}
+CASES = {"model": 3, "stage": 2, "ground_friction": 1, "flap_present": 1, "ground": 1, "cap": 512}
 FAMILIES = ("nothing", "a fence", "a nether brick fence", "thin", "a wall")
 
 

@@ -150,14 +150,14 @@ class Tick:
     def collect(self, scene, lent, before, has_liquid):
         """The boxes of the move, whose delta is the velocity, and gravity where it comes before the move. An item's is not known from outside where
         there may be a current, or where it may be at rest."""
-        number = {key: value(scene.body, BODY[key]) for key in ("model", "stage", "gravity", "step_height", "air")}
+        number = {key: value(scene.body, BODY[key]) for key in ("model", "stage", "gravity", "step_height", "air", "cap")}
         if number["model"] == 0 and (has_liquid or list(self.feet) == values(scene.body, BODY["position"])):
             self.unsaid = "an item's own way through a liquid, or at rest, is not told"
             return
         x, y, z = values(scene.body, BODY["velocity"])
         delta = (x, y - number["gravity"] if number["stage"] == 0 else y, z)
         try:
-            mover = boltjuniper.Mover(tuple(before), delta, number["step_height"])
+            mover = boltjuniper.Mover(tuple(before), delta, number["step_height"], cap=number["cap"])
             self.collected, self.unsaid = boltjuniper.collected(*lent, number["air"], mover), ""
         except boltjuniper.Refused as refused:  # a direct call's limits are narrower than a body's
             self.unsaid = "a move of its own is refused by %d here" % refused.number

@@ -162,7 +162,7 @@ BODY, BODY_WORDS = fields(
     ("vertical_drag", F64), ("horizontal_drag", F64), ("flap", F64), ("step_height", F64), ("default_friction", F64), ("sample_depth", F64),
     ("liquid_gravity", F64), ("water_drag", F64), ("lava_drag", F64), ("age", U64), ("ground", U32),
     ("model", named("item", "living", "falling_block", "other")), ("stage", named("before_move", "after_move", "after_drag")),
-    ("ground_friction", named("none", "block")), ("flap_present", U32), ("air", U32), ("states", U32), ("boxes", U32))
+    ("ground_friction", named("none", "block")), ("flap_present", U32), ("air", U32), ("states", U32), ("boxes", U32), ("cap", U32))
 STATE, STATE_WORDS = fields(
     ("flags", U32), ("friction", F32), ("liquid", named("none", "water", "lava"), U32),
     ("connects", named("nothing", "fence", "nether_brick_fence", "thin", "wall")), ("gate", named("none", "x", "z")),
@@ -241,7 +241,8 @@ def arrays(scene):
 
     age, counts = BODY["age"].at, BODY["states"].at
     window = (of("I", scene.cells), values(scene.window, WINDOW["origin"]), values(scene.window, WINDOW["sizes"]), *heights(scene))
-    body = (of("d", scene.body[:age]), of("I", scene.body[age + 2:counts]), value(scene.body, BODY["age"]))
+    words = scene.body[age + 2:counts] + scene.body[BODY["cap"].at:]  # the counts between them are not handed over
+    body = (of("d", scene.body[:age]), of("I", words), value(scene.body, BODY["age"]))
     return (of("I", scene.records), of("f", scene.boxes)), window, body
 
 

@@ -67,7 +67,7 @@ pub per-block : (kind : ℕ) → Per (perBlock kind)
 unfolding perBlock choose
 per-block kind = go (eqb kind 1) (eqb kind 2) (eqb kind 3) (eqb kind 4)
   where
-    go : (a b c d : Bool) → Per (choose a 48 (choose b 120 (choose c 120 (choose d 8 123))))
+    go : (a b c d : Bool) → Per (choose a 49 (choose b 120 (choose c 120 (choose d 8 123))))
     go true b c d = record { least = omega arith; most = omega arith }
     go false true c d = record { least = omega arith; most = omega arith }
     go false false true d = record { least = omega arith; most = omega arith }

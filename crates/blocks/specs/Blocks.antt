@@ -68,9 +68,9 @@ blockFits second block number kind used =
 
 -- ---- parts: the blocks of one kind, one after the other
 
--- the payload words in use in a full block: the body's 48, "six records each" of 20 words, "20 boxes each" of six, the window's eight, "123 cells each"
+-- the payload words in use in a full block: the body's 49, "six records each" of 20 words, "20 boxes each" of six, the window's eight, "123 cells each"
 unfoldable pub perBlock : ℕ → ℕ
-perBlock kind = choose (eqb kind 1) 48 (choose (eqb kind 2) 120 (choose (eqb kind 3) 120 (choose (eqb kind 4) 8 123)))
+perBlock kind = choose (eqb kind 1) 49 (choose (eqb kind 2) 120 (choose (eqb kind 3) 120 (choose (eqb kind 4) 8 123)))
 
 -- as many blocks as the words fill, and one more for what is left over
 unfoldable pub blocksOf : Part → ℕ
@@ -95,7 +95,7 @@ partWord file p i = choose (ltb i (p .words)) (fileWord (blockOf file (p .first 
 -- ---- "Kinds in order: one 1 (body), 2, 3, one 4, 5"
 
 abbrev pub bodyPart : Part
-bodyPart = record { first = 0; kind = 1; words = 48 }
+bodyPart = record { first = 0; kind = 1; words = 49 }
 
 abbrev pub recordPart : ℕ → Part
 recordPart states = record { first = endOf bodyPart; kind = 2; words = states * 20 }

@@ -157,7 +157,7 @@ pub fn per_block(kind: u32) -> u32
     ensures { λ r. ⌜ r ≡ perBlock kind ⌝ }
 {
     if kind == 1 {
-        return 48;
+        return 49;
     }
     if kind == 2 {
         return 120;
@@ -241,7 +241,7 @@ pub fn body_part() -> Part
     Part {
         first: 0,
         kind: 1,
-        words: 48,
+        words: 49,
     }
 }
 

@@ -16,6 +16,7 @@ use Rattle.bodies.specs.declared.Body.{Body}
 use Rattle.bodies.specs.declared.BodyNumbers.{BodyNumbers}
 use Rattle.bodies.specs.declared.Motion.{Motion}
 use Rattle.bodies.specs.declared.MotionNumbers.{MotionNumbers}
+use Rattle.bodies.specs.declared.Rules.{Rules}
 
 -- ---- the numbers of the cases; the entry refuses a number that is none of them
 
@@ -82,6 +83,19 @@ bodyOf b =
 
 unfoldable pub motionOf : MotionNumbers → Motion
 motionOf m = record { feet = m .feet; velocity = m .velocity; ground = isYes (m .ground) }
+
+-- the same rules with this cap
+abbrev pub withCap : Rules → ℕ → Rules
+withCap rules cap =
+    record {
+      friction = rules .friction;
+      depth = rules .depth;
+      gravity = rules .gravity;
+      water = rules .water;
+      lava = rules .lava;
+      air = rules .air;
+      cap = cap;
+    }
 
 -- ---- which model it is
 

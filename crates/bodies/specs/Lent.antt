@@ -1,4 +1,4 @@
--- A body in lent numbers: 19 numbers and 6 words, in the order of a scene file, and what is refused of them.
+-- A body in lent numbers: 19 numbers and 7 words, in the order of a scene file, and what is refused of them.
 use mathlib.Core.List.{List}
 use Prim.Native.Nat.{ℕ}
 use lib.Ieee.{Float}

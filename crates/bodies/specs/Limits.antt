@@ -8,13 +8,14 @@ use Rattle.base.specs.Choose.{choose}
 use Rattle.floats.specs.Numbers.{zero64, isFinite, isWithin}
 use Rattle.boxes.specs.declared.Vec3.{Vec3}
 use Rattle.boxes.specs.Limits.{twoTo, areWithin, isStep}
+use Rattle.sweeps.specs.Lists.{isCap}
 use Rattle.tables.specs.Tables.{isRegistered}
 use Rattle.bodies.specs.declared.BodyNumbers.{BodyNumbers}
 use Rattle.bodies.specs.declared.Rules.{Rules}
 use Rattle.bodies.specs.declared.MotionNumbers.{MotionNumbers}
 use Rattle.bodies.specs.declared.Motion.{Motion}
 
--- ---- 3: body and rules numbers, unknown enum numbers, a yes or no above 1, an air state without a registered record
+-- ---- 3: body and rules numbers, unknown enum numbers, a yes or no above 1, an air state without a registered record, a cap above 512
 
 -- width and height: over 0, at most 16
 unfoldable pub isExtent : Float → Bool
@@ -47,6 +48,7 @@ rulesFit records rules =
     && isSmall (rules .water)
     && isSmall (rules .lava)
     && isRegistered records (rules .air)
+    && isCap (rules .cap)
 
 -- all that 3 is given for
 unfoldable pub numbersFit : List ℕ → Rules → BodyNumbers → ℕ → Bool

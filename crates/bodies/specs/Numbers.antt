@@ -1,5 +1,5 @@
--- A motion, a body and rules of 19 numbers and 6 words, number k and word k being handed in. Document 01 has their order, that of a scene file,
--- and its words stand in quotes.
+-- A motion, a body and rules of 19 numbers and 7 words, number k and word k being handed in. Document 01 has their order, that of a scene file,
+-- and its words stand in quotes; the cap is document 02's.
 use mathlib.Core.Bool.{Bool, _&&_}
 use mathlib.Core.List.{List}
 use Prim.Native.Nat.{ℕ, _+_}
@@ -17,7 +17,7 @@ use Rattle.bodies.specs.declared.MotionNumbers.{MotionNumbers}
 
 -- as many as a body's
 unfoldable pub lengthsFit : List Float → List ℕ → Bool
-lengthsFit numbers words = eqb (length numbers) 19 && eqb (length words) 6
+lengthsFit numbers words = eqb (length numbers) 19 && eqb (length words) 7
 
 -- number k, +0 where there is none
 abbrev pub numberAt : List Float → ℕ → Float
@@ -52,7 +52,7 @@ bodyFrom number word =
       friction = word 3;
     }
 
--- "default friction, sample depth, liquid gravity, water drag, lava drag", and the word "air state"
+-- "default friction, sample depth, liquid gravity, water drag, lava drag", and the words "air state" and the cap
 abbrev pub rulesFrom : (ℕ → Float) → (ℕ → ℕ) → Rules
 rulesFrom number word =
     record {
@@ -62,4 +62,5 @@ rulesFrom number word =
       water = number 17;
       lava = number 18;
       air = word 5;
+      cap = word 6;
     }

@@ -2,7 +2,7 @@
 // out of lent numbers, and limits.rt has what is refused.
 use boxes::Vec3;
 ghost use mathlib.Core.Path.{_≡_};
-ghost use Rattle.bodies.specs.Body.{modelOf, stageOf, frictionOf, isYes, yesNumber, flapOf, bodyOf, motionOf, isItem, isLiving, isFallingBlock};
+ghost use Rattle.bodies.specs.Body.{modelOf, stageOf, frictionOf, isYes, yesNumber, flapOf, bodyOf, motionOf, withCap, isItem, isLiving, isFallingBlock};
 
 mod limits;
 mod numbers;
@@ -77,7 +77,8 @@ pub struct BodyNumbers {
     pub friction: u32,
 }
 
-// What holds for every body: a living body's default friction and sample depth, gravity and drags in liquids, and the air state.
+// What holds for every body: a living body's default friction and sample depth, gravity and drags in liquids, the air state, and
+// how many boxes a move may collect, 0 for as many as its list has room for.
 pub struct Rules {
     pub friction: f64,
     pub depth: f64,
@@ -85,6 +86,7 @@ pub struct Rules {
     pub water: f64,
     pub lava: f64,
     pub air: u32,
+    pub cap: u32,
 }
 
 pub struct Motion {
@@ -190,6 +192,21 @@ pub fn motion_of(m: MotionNumbers) -> Motion
         feet,
         velocity,
         ground,
+    }
+}
+
+// The same rules with this cap.
+pub fn with_cap(rules: Rules, cap: u32) -> Rules
+    ensures { λ r. ⌜ r ≡ withCap rules cap ⌝ }
+{
+    Rules {
+        friction: rules.friction,
+        depth: rules.depth,
+        gravity: rules.gravity,
+        water: rules.water,
+        lava: rules.lava,
+        air: rules.air,
+        cap,
     }
 }
 

@@ -49,6 +49,7 @@ pub fn rules_fit(records: &[u32], rules: Rules) -> bool
         & is_small(rules.water)
         & is_small(rules.lava)
         & tables::is_registered(records, rules.air)
+        & sweeps::is_cap(rules.cap)
 }
 
 // Whether nothing is a 3.

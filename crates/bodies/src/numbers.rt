@@ -12,7 +12,7 @@ ghost use Rattle.bodies.specs.Lent.{bodyRefusal};
 pub fn lengths_fit(numbers: &[f64], words: &[u32]) -> bool
     ensures { λ r. ⌜ r ≡ lengthsFit (now (numbers .entry)) (now (words .entry)) ⌝ }
 {
-    (numbers.len() == 19) & (words.len() == 6)
+    (numbers.len() == 19) & (words.len() == 7)
 }
 
 // Number i, +0 where there is none.
@@ -85,6 +85,7 @@ pub fn rules_from(numbers: &[f64], words: &[u32]) -> Rules
     let water = number_at(numbers, 17);
     let lava = number_at(numbers, 18);
     let air = tables::word(words, 0, 5);
+    let cap = tables::word(words, 0, 6);
     Rules {
         friction,
         depth,
@@ -92,6 +93,7 @@ pub fn rules_from(numbers: &[f64], words: &[u32]) -> Rules
         water,
         lava,
         air,
+        cap,
     }
 }
 

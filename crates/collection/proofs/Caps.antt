@@ -20,9 +20,9 @@ use Rattle.window.specs.declared.Window.{Window}
 use Rattle.window.specs.Look.{lookAt}
 use Rattle.ranges.specs.declared.Range.{Range}
 use Rattle.ranges.specs.Walk.{line, layer, walk}
-use Rattle.collection.specs.Collect.{CellShape, aabbsOf, cellShape, offer, offerAll, visit, push, pushed, hit, isHit, rangeOf, collectUpTo, collidesWithBlocks}
+use Rattle.collection.specs.Collect.{CellShape, aabbsOf, cellShape, offer, offerAll, visit, push, pushed, hit, isHit, rangeOf, collectBlockBoxes, collidesWithBlocks}
 use Rattle.collection.specs.Answers.{heldAsked}
-use Rattle.collection.proofs.Refuses.{Refuses, Five, FiveOrSix, look-refuses, cell-refuses, capped-refuses}
+use Rattle.collection.proofs.Refuses.{Refuses, Five, FiveOrSix, look-refuses, cell-refuses, collect-refuses}
 
 -- ---- what was asked, from the answer of a collection
 pub list-told : (h : Held) (m : Ask (List Aabb)) → Refuses FiveOrSix m → h ≡ heldAsked m → h .refusal ≡ 0 → m ≡ found (h .boxes)
@@ -89,7 +89,7 @@ module _ {S U : Type 0} (P : S → U → Type 0) (Q : Ask (Turn U Bool) → Type
 
 module _ (cells : List ℕ) (w : Window) (records : List ℕ) (shapes : List Float) (area : Aabb) where
   abbrev upTo : ℕ → Ask (List Aabb)
-  upTo cap = collectUpTo cap (lookAt cells w) records shapes area
+  upTo cap = collectBlockBoxes cap (lookAt cells w) records shapes area
 
   -- ---- a higher cap
   abbrev Same : List Aabb → List Aabb → Type 0
@@ -109,7 +109,7 @@ module _ (cells : List ℕ) (w : Window) (records : List ℕ) (shapes : List Flo
       go false v p q = full refl refl
 
   pub raised : (a b : ℕ) → a ≤ b → (upTo a ≡ refused 6) ⊎ (upTo a ≡ upTo b)
-  unfolding collectUpTo
+  unfolding collectBlockBoxes
   raised a b h = go _ _ (collections Same Any (λ n l q. refl) (push a) (push b) (pushes a b h) area cells w records shapes [] [] refl)
     where
       go : (m n : Ask (Turn (List Aabb) Bool)) → Beside Same Any m n → ((m >>= λ t. found (pushed t)) ≡ refused 6) ⊎ ((m >>= λ t. found (pushed t)) ≡ (n >>= λ t. found (pushed t)))
@@ -133,7 +133,7 @@ module _ (cells : List ℕ) (w : Window) (records : List ℕ) (shapes : List Flo
   hitOf (found bs) = found false
 
   pub told-by-none : hitOf (upTo 0) ≡ collidesWithBlocks (lookAt cells w) records shapes area
-  unfolding collectUpTo collidesWithBlocks choose
+  unfolding collectBlockBoxes collidesWithBlocks choose
   told-by-none = go _ _ (collections None Hit (λ n l q. rw q) (push 0) hit no-push area cells w records shapes [] false refl)
     where
       go : (m : Ask (Turn (List Aabb) Bool)) (n : Ask (Turn Bool Bool)) → Beside None Hit m n → hitOf (m >>= λ t. found (pushed t)) ≡ (n >>= λ t. found (isHit t))
@@ -144,7 +144,7 @@ module _ (cells : List ℕ) (w : Window) (records : List ℕ) (shapes : List Flo
   -- what such a collection answered
   module _ (h : Held) (e : h ≡ heldAsked (upTo 0)) where
     pub no-hit : h .refusal ≡ 0 → found false ≡ collidesWithBlocks (lookAt cells w) records shapes area
-    no-hit z = sym (ap hitOf (list-told h (upTo 0) (capped-refuses 0 cells w records shapes area) e z)) ∙ told-by-none
+    no-hit z = sym (ap hitOf (list-told h (upTo 0) (collect-refuses 0 cells w records shapes area) e z)) ∙ told-by-none
 
     refused-by : (h .refusal ≡ 0 → ⊥) → choose (eqb (h .refusal) 6) (found true) (refused (h .refusal)) ≡ collidesWithBlocks (lookAt cells w) records shapes area
     refused-by z = sym (ap hitOf (refusal-told h (upTo 0) e z)) ∙ told-by-none

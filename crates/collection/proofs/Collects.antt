@@ -207,7 +207,7 @@ module _ (most : ℕ) (bs : List Aabb) (i : ℕ) (has : Room most bs i) where
 
 pub empty-list : (l : BoxList) → l ≡ emptyList → Room room (l .boxes) (l .count) × (listOf l ≡ [])
 unfolding emptyList
-empty-list l e = rw e (record { whole = length-replicate 128 noBox; counts = omega arith }, refl)
+empty-list l e = rw e (record { whole = length-replicate room noBox; counts = omega arith }, refl)
 
 -- ---- the answers
 module _ (over : ℕ → Bool) (cap : ℕ) (look : Pos → Ask Block) (records : List ℕ) (shapes : List Float) (area : Aabb) (r : Range) where

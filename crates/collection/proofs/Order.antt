@@ -14,7 +14,6 @@ use Rattle.base.specs.Choose.{choose}
 use Rattle.base.specs.Ask.{Ask, refused, found, _>>=_, Turn, next, done, onward, turning}
 use Rattle.boxes.specs.declared.Aabb.{Aabb}
 use Rattle.boxes.specs.Boxes.{overlap}
-use Rattle.sweeps.specs.Lists.{room}
 use Rattle.window.specs.declared.Pos.{Pos}
 use Rattle.window.specs.declared.Window.{Window}
 use Rattle.window.specs.Window.{columnInside}
@@ -23,7 +22,7 @@ use Rattle.window.proofs.Cells.{outside-refused}
 use Rattle.ranges.specs.declared.Range.{Range}
 use Rattle.ranges.specs.Ranges.{placeAt}
 use Rattle.ranges.specs.Walk.{line, layer, walk}
-use Rattle.collection.specs.Collect.{CellShape, aabbsOf, cellShape, offer, offerAll, visit, push, pushed, rangeOf, collectUpTo, collectBlockBoxes}
+use Rattle.collection.specs.Collect.{CellShape, aabbsOf, cellShape, offer, offerAll, visit, push, pushed, rangeOf, collectBlockBoxes}
 use Rattle.collection.specs.Settled.{settled, settledBoxes, overlapping, appended, inOrder}
 
 no : {A : Type 0} → _≡_ {A = ℕ} 0 1 → A
@@ -119,10 +118,10 @@ in-overlapping area b (c ∷ bs) m o = go (List·Memᴰ·cases-cons m) (λ n. in
     go (inr n) below = put (overlap c area) (below n)
 
 -- ---- a cell adds those of its boxes that overlap
-module _ (area : Aabb) where
-  box-adds : (b : Aabb) (s t : List Aabb) → offer (push room) area b s ≡ found (next t) → t ≡ s ++ overlapping area (b ∷ [])
+module _ (cap : ℕ) (area : Aabb) where
+  box-adds : (b : Aabb) (s t : List Aabb) → offer (push cap) area b s ≡ found (next t) → t ≡ s ++ overlapping area (b ∷ [])
   unfolding overlapping choose
-  box-adds b s t e = go (overlap b area) (ltb (length s) room) e
+  box-adds b s t e = go (overlap b area) (ltb (length s) cap) e
     where
       go : (o c : Bool) → choose {A = Ask (Turn (List Aabb) Bool)} o (choose c (found (next (s ++ (b ∷ [])))) (refused 6)) (found (next s)) ≡ found (next t) → t ≡ s ++ choose o (b ∷ []) []
       go true true e = let q : t ≡ s ++ (b ∷ []) = cc in q
@@ -137,56 +136,57 @@ module _ (area : Aabb) where
       go true = refl
       go false = refl
 
-  boxes-add : (bs s t : List Aabb) → offerAll (push room) area bs s ≡ found (next t) → t ≡ s ++ overlapping area bs
+  boxes-add : (bs s t : List Aabb) → offerAll (push cap) area bs s ≡ found (next t) → t ≡ s ++ overlapping area bs
   unfolding offerAll
   boxes-add [] s t e = unfold overlapping in (let q : t ≡ s = cc in q ∙ sym (append-nil s))
   boxes-add (b ∷ bs) s t e =
-      let p = passed (offer (push room) area b s) (offerAll (push room) area bs) t e in
+      let p = passed (offer (push cap) area b s) (offerAll (push cap) area bs) t e in
       boxes-add bs (p .at) t (p .then)
       ∙ ap (λ (l : List Aabb). l ++ overlapping area bs) (box-adds b s (p .at) (p .first))
       ∙ append-assoc s (overlapping area (b ∷ [])) (overlapping area bs)
       ∙ ap (λ (l : List Aabb). s ++ l) (sym (one-more b bs))
 
   -- no box ends it
-  box-goes-on : (b : Aabb) (s : List Aabb) (v : Bool) → offer (push room) area b s ≡ found (done v) → ⊥
+  box-goes-on : (b : Aabb) (s : List Aabb) (v : Bool) → offer (push cap) area b s ≡ found (done v) → ⊥
   unfolding choose
-  box-goes-on b s v e = go (overlap b area) (ltb (length s) room) e
+  box-goes-on b s v e = go (overlap b area) (ltb (length s) cap) e
     where
       go : (o c : Bool) → choose {A = Ask (Turn (List Aabb) Bool)} o (choose c (found (next (s ++ (b ∷ [])))) (refused 6)) (found (next s)) ≡ found (done v) → ⊥
       go true true e = no cc
       go true false e = no cc
       go false c e = no cc
 
-  boxes-go-on : (bs s : List Aabb) (v : Bool) → offerAll (push room) area bs s ≡ found (done v) → ⊥
+  boxes-go-on : (bs s : List Aabb) (v : Bool) → offerAll (push cap) area bs s ≡ found (done v) → ⊥
   unfolding offerAll
   boxes-go-on [] s v e = no cc
-  boxes-go-on (b ∷ bs) s v e = undone (offer (push room) area b s) (offerAll (push room) area bs) v (box-goes-on b s v) (λ a. boxes-go-on bs a v) e
+  boxes-go-on (b ∷ bs) s v e = undone (offer (push cap) area b s) (offerAll (push cap) area bs) v (box-goes-on b s v) (λ a. boxes-go-on bs a v) e
 
 module _ (look : Pos → Ask Block) (records : List ℕ) (shapes : List Float) (area : Aabb) where
   abbrev pub keptOf : Pos → List Aabb
   keptOf p = overlapping area (settledBoxes look records shapes p)
 
-  cell-adds : (p : Pos) (s t : List Aabb) → visit (push room) area look records shapes p s ≡ found (next t) → t ≡ s ++ keptOf p
+module _ (cap : ℕ) (look : Pos → Ask Block) (records : List ℕ) (shapes : List Float) (area : Aabb) where
+  cell-adds : (p : Pos) (s t : List Aabb) → visit (push cap) area look records shapes p s ≡ found (next t) → t ≡ s ++ keptOf look records shapes area p
   unfolding visit settledBoxes
   cell-adds p s t e = go (cellShape look records p) e
     where
-      go : (m : Ask CellShape) → (m >>= (λ shape. offerAll (push room) area (aabbsOf shapes p shape) s)) ≡ found (next t) → t ≡ s ++ overlapping area (settled shapes p m)
+      go : (m : Ask CellShape) → (m >>= (λ shape. offerAll (push cap) area (aabbsOf shapes p shape) s)) ≡ found (next t) → t ≡ s ++ overlapping area (settled shapes p m)
       go (refused k) e = no cc
-      go (found shape) e = boxes-add area (aabbsOf shapes p shape) s t e
+      go (found shape) e = boxes-add cap area (aabbsOf shapes p shape) s t e
 
-  cell-goes-on : (v : Bool) (p : Pos) (s : List Aabb) → visit (push room) area look records shapes p s ≡ found (done v) → ⊥
+  cell-goes-on : (v : Bool) (p : Pos) (s : List Aabb) → visit (push cap) area look records shapes p s ≡ found (done v) → ⊥
   unfolding visit
   cell-goes-on v p s e = go (cellShape look records p) e
     where
-      go : (m : Ask CellShape) → (m >>= (λ shape. offerAll (push room) area (aabbsOf shapes p shape) s)) ≡ found (done v) → ⊥
+      go : (m : Ask CellShape) → (m >>= (λ shape. offerAll (push cap) area (aabbsOf shapes p shape) s)) ≡ found (done v) → ⊥
       go (refused k) e = no cc
-      go (found shape) e = boxes-go-on area (aabbsOf shapes p shape) s v e
+      go (found shape) e = boxes-go-on cap area (aabbsOf shapes p shape) s v e
 
   -- ---- a collection that is not refused
-  module _ (bs : List Aabb) (e : collectBlockBoxes look records shapes area ≡ found bs) where
-    walked : walk (visit (push room) area look records shapes) (rangeOf area) [] ≡ found (next bs)
-    unfolding collectUpTo
-    walked = go (walk (visit (push room) area look records shapes) (rangeOf area) []) (λ v. walks-on v (visit (push room) area look records shapes) (rangeOf area) (cell-goes-on v) []) e
+  module _ (bs : List Aabb) (e : collectBlockBoxes cap look records shapes area ≡ found bs) where
+    walked : walk (visit (push cap) area look records shapes) (rangeOf area) [] ≡ found (next bs)
+    unfolding collectBlockBoxes
+    walked = go (walk (visit (push cap) area look records shapes) (rangeOf area) []) (λ v. walks-on v (visit (push cap) area look records shapes) (rangeOf area) (cell-goes-on v) []) e
       where
         go : (m : Ask (Turn (List Aabb) Bool)) → ((v : Bool) → m ≡ found (done v) → ⊥) → (m >>= λ t. found (pushed t)) ≡ found bs → m ≡ found (next bs)
         go (refused k) h e = no cc
@@ -194,17 +194,17 @@ module _ (look : Pos → Ask Block) (records : List ℕ) (shapes : List Float) (
         go (found (done v)) h e = absurd (h v refl)
 
     -- the list and its order
-    pub collected-is : bs ≡ inOrder keptOf (rangeOf area)
-    collected-is = walk-grows (visit (push room) area look records shapes) keptOf (rangeOf area) cell-adds [] bs walked
+    pub collected-is : bs ≡ inOrder (keptOf look records shapes area) (rangeOf area)
+    collected-is = walk-grows (visit (push cap) area look records shapes) (keptOf look records shapes area) (rangeOf area) cell-adds [] bs walked
 
     -- every cell of the range was settled
     pub all-settled : (x y z : ℕ) → x < rangeOf area .x .count → y < rangeOf area .y .count → z < rangeOf area .z .count → (shape : CellShape) × (cellShape look records (placeAt (rangeOf area) x y z) ≡ found shape)
     unfolding visit
     all-settled x y z hx hy hz =
-        let w = walk-each (visit (push room) area look records shapes) (rangeOf area) x y z hx hy hz [] bs walked in
+        let w = walk-each (visit (push cap) area look records shapes) (rangeOf area) x y z hx hy hz [] bs walked in
         go (cellShape look records (placeAt (rangeOf area) x y z)) (w .from) (w .to) (w .went)
       where
-        go : (m : Ask CellShape) (s t : List Aabb) → (m >>= (λ shape. offerAll (push room) area (aabbsOf shapes (placeAt (rangeOf area) x y z) shape) s)) ≡ found (next t) → (shape : CellShape) × (m ≡ found shape)
+        go : (m : Ask CellShape) (s t : List Aabb) → (m >>= (λ shape. offerAll (push cap) area (aabbsOf shapes (placeAt (rangeOf area) x y z) shape) s)) ≡ found (next t) → (shape : CellShape) × (m ≡ found shape)
         go (refused k) s t e = no cc
         go (found shape) s t e = (shape, refl)
 
@@ -217,10 +217,10 @@ module _ (look : Pos → Ask Block) (records : List ℕ) (shapes : List Float) (
         (in-joined b _ (rangeOf area .y .count) y hy (in-joined b _ (rangeOf area .x .count) x hx (in-joined b _ (rangeOf area .z .count) z hz (in-overlapping area b _ m o))))
 
 -- a cell of the range that lies outside the window: the collection is refused
-pub outside-refuses : (cells : List ℕ) (w : Window) (records : List ℕ) (shapes : List Float) (area : Aabb) (x y z : ℕ) → x < rangeOf area .x .count → y < rangeOf area .y .count → z < rangeOf area .z .count
-    → columnInside w (placeAt (rangeOf area) x y z) ≡ false → (bs : List Aabb) → collectBlockBoxes (lookAt cells w) records shapes area ≡ found bs → ⊥
+pub outside-refuses : (cap : ℕ) (cells : List ℕ) (w : Window) (records : List ℕ) (shapes : List Float) (area : Aabb) (x y z : ℕ) → x < rangeOf area .x .count → y < rangeOf area .y .count → z < rangeOf area .z .count
+    → columnInside w (placeAt (rangeOf area) x y z) ≡ false → (bs : List Aabb) → collectBlockBoxes cap (lookAt cells w) records shapes area ≡ found bs → ⊥
 unfolding cellShape
-outside-refuses cells w records shapes area x y z hx hy hz out bs e =
-    let s = all-settled (lookAt cells w) records shapes area bs e x y z hx hy hz in
+outside-refuses cap cells w records shapes area x y z hx hy hz out bs e =
+    let s = all-settled cap (lookAt cells w) records shapes area bs e x y z hx hy hz in
     let q : refused 5 ≡ found (s .0) = (rw (outside-refused cells w (placeAt (rangeOf area) x y z) out) at (s .1)) in
     no cc

@@ -19,7 +19,7 @@ use Rattle.ranges.specs.Ranges.{placeAt, noCells, trimmed}
 use Rattle.ranges.specs.Walk.{line, layer, walk}
 use Rattle.passing.specs.declared.Reach.{Reach}
 use Rattle.passing.specs.Passing.{nowhere, passesBy}
-use Rattle.collection.specs.Collect.{visit, rangeOf, push, pushed, collectUpTo}
+use Rattle.collection.specs.Collect.{visit, rangeOf, push, pushed, collectBlockBoxes}
 use Rattle.collection.specs.Past.{layerPast, walkPast, collectInPast, collectPast}
 
 -- ---- a loop whose turns all go on with what they are given
@@ -45,8 +45,8 @@ walks {S} {R} over f r h s = ap (λ (g : ℕ → S → Ask (Turn S R)). turning 
 
 pub collects : (over : Range → ℕ → Bool) (cap : ℕ) (look : Pos → Ask Block) (records : List ℕ) (shapes : List Float) (area : Aabb)
     → ((y : ℕ) → over (rangeOf area) y ≡ true → (s : List Aabb) → layer (visit (push cap) area look records shapes) (rangeOf area) y s ≡ found (next s))
-    → collectPast over cap look records shapes area ≡ collectUpTo cap look records shapes area
-unfolding collectPast collectUpTo
+    → collectPast over cap look records shapes area ≡ collectBlockBoxes cap look records shapes area
+unfolding collectPast collectBlockBoxes
 collects over cap look records shapes area h = rw (walks (over (rangeOf area)) (visit (push cap) area look records shapes) (rangeOf area) h [])
 
 -- ---- a range that was trimmed
@@ -86,7 +86,7 @@ module _ (words : List ℕ) (w : Window) where
   none-passed r y = refl
 
   pub all-come-to : (cap : ℕ) (look : Pos → Ask Block) (records : List ℕ) (shapes : List Float) (area : Aabb) (r : Range) (k : Reach) → k ≡ nowhere → r ≡ trimmed (rangeOf area)
-      → collectInPast (passesBy words w r k) cap look records shapes area r ≡ collectUpTo cap look records shapes area
+      → collectInPast (passesBy words w r k) cap look records shapes area r ≡ collectBlockBoxes cap look records shapes area
   all-come-to cap look records shapes area r k e f =
       ap (λ (n : Reach). collectInPast (passesBy words w r n) cap look records shapes area r) e
       ∙ in-range (λ q. passesBy words w q nowhere) cap look records shapes area r f

@@ -10,7 +10,6 @@ use lib.Ieee.{Float}
 use Rattle.base.specs.Choose.{choose}
 use Rattle.base.specs.Ask.{Ask, refused, found, _>>=_, asking, Turn, next, done, resume, onward, turning}
 use Rattle.boxes.specs.declared.Aabb.{Aabb}
-use Rattle.sweeps.specs.Lists.{room}
 use Rattle.cover.specs.declared.Side.{Side}
 use Rattle.cover.specs.declared.Side.the-variants.{North, East, South, West}
 use Rattle.window.specs.declared.Pos.{Pos}
@@ -20,7 +19,7 @@ use Rattle.ranges.specs.declared.Range.{Range}
 use Rattle.ranges.specs.Walk.{line, layer, walk}
 use Rattle.joining.specs.declared.Joined.{Joined}
 use Rattle.connect.specs.Connect.{connectKind, joins, post, besideNeighbours, connectedState}
-use Rattle.collection.specs.Collect.{connectedShape, shapeOf, cellShape, offer, offerAll, visit, push, hit, rangeOf, collectIn, collectUpTo, collectBlockBoxes, collidesWithBlocks}
+use Rattle.collection.specs.Collect.{connectedShape, shapeOf, cellShape, offer, offerAll, visit, push, hit, rangeOf, collectIn, collectBlockBoxes, collidesWithBlocks}
 use Rattle.collection.specs.Past.{layerPast, walkPast, collectInPast}
 
 -- what a refusal's number can be
@@ -142,12 +141,9 @@ pub past-refuses : (over : ℕ → Bool) (cap : ℕ) (cells : List ℕ) (w : Win
 past-refuses over cap cells w records shapes area r =
     after _ _ (past-walks over _ r (visit-refuses (lookAt cells w) (look-refuses cells w) records (λ n e. inl e) (push cap) (push-refuses cap) area shapes) []) (λ t. finds _)
 
-pub capped-refuses : (cap : ℕ) (cells : List ℕ) (w : Window) (records : List ℕ) (shapes : List Float) (area : Aabb) → Refuses FiveOrSix (collectUpTo cap (lookAt cells w) records shapes area)
-unfolding collectUpTo
-capped-refuses cap cells w records shapes area = range-refuses cap cells w records shapes area (rangeOf area)
-
-pub collect-refuses : (cells : List ℕ) (w : Window) (records : List ℕ) (shapes : List Float) (area : Aabb) → Refuses FiveOrSix (collectBlockBoxes (lookAt cells w) records shapes area)
-collect-refuses = capped-refuses room
+pub collect-refuses : (cap : ℕ) (cells : List ℕ) (w : Window) (records : List ℕ) (shapes : List Float) (area : Aabb) → Refuses FiveOrSix (collectBlockBoxes cap (lookAt cells w) records shapes area)
+unfolding collectBlockBoxes
+collect-refuses cap cells w records shapes area = range-refuses cap cells w records shapes area (rangeOf area)
 
 pub collides-refuses : (cells : List ℕ) (w : Window) (records : List ℕ) (shapes : List Float) (area : Aabb) → Refuses Five (collidesWithBlocks (lookAt cells w) records shapes area)
 unfolding collidesWithBlocks

@@ -12,7 +12,6 @@ use Rattle.floats.specs.Numbers.{zero64}
 use Rattle.boxes.specs.declared.Vec3.{Vec3}
 use Rattle.boxes.specs.declared.Aabb.{Aabb}
 use Rattle.boxes.specs.Boxes.{vec, expandTowards, overlap}
-use Rattle.sweeps.specs.Lists.{room}
 use Rattle.window.specs.declared.Pos.{Pos}
 use Rattle.window.specs.Look.{Block}
 use Rattle.ranges.specs.declared.Range.{Range}
@@ -61,12 +60,9 @@ collectIn cap look records shapes area r = do
   t ← walk (visit (push cap) area look records shapes) r []
   found (pushed t)
 
-unfoldable pub collectUpTo : ℕ → (Pos → Ask Block) → List ℕ → List Float → Aabb → Ask (List Aabb)
-collectUpTo cap look records shapes area = collectIn cap look records shapes area (rangeOf area)
-
--- into the list, whose 129th box is 6
-abbrev pub collectBlockBoxes : (Pos → Ask Block) → List ℕ → List Float → Aabb → Ask (List Aabb)
-collectBlockBoxes look records shapes area = collectUpTo room look records shapes area
+-- "6 reads with the cap in force"
+unfoldable pub collectBlockBoxes : ℕ → (Pos → Ask Block) → List ℕ → List Float → Aabb → Ask (List Aabb)
+collectBlockBoxes cap look records shapes area = collectIn cap look records shapes area (rangeOf area)
 
 -- |_| true: it stops at its first hit
 abbrev pub hit : Aabb → Bool → Ask (Turn Bool Bool)

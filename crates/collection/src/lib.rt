@@ -12,7 +12,7 @@ use window::Pos;
 use window::Window;
 ghost use mathlib.Core.Path.{_≡_};
 ghost use Prim.Native.Nat.{_≤_};
-ghost use Rattle.sweeps.specs.Lists.{room, heldIn};
+ghost use Rattle.sweeps.specs.Lists.{room, capOf, heldIn};
 ghost use Rattle.tables.specs.Tables.{boxesAt};
 ghost use Rattle.passing.specs.Passing.{passesBy, passes};
 ghost use Rattle.ranges.specs.Ranges.{trimmed};
@@ -94,19 +94,19 @@ fn collect_up_to(cap: usize, records: &[u32], shapes: &[f32], cells: &[u32], w: 
     Collected { list, refusal: 0 }
 }
 
-// Collection into the list from the cells of a range that is known already, by the summary behind the window's words where there is one. It refuses
-// 5 and 6 alone.
-pub fn collect_range(records: &[u32], shapes: &[f32], cells: &[u32], w: Window, area: Aabb, r: Range) -> Collected
-    ensures { λ c. ⌜ heldIn c ≡ heldAsked (collectInPast (passes (now (cells .entry)) w r) room (lookAt (now (cells .entry)) w) (now (records .entry)) (now (shapes .entry)) area r) ⌝ }
+// Collection into the list from the cells of a range that is known already, under a cap of the rules, by the summary behind the window's words
+// where there is one. It refuses 5 and 6 alone.
+pub fn collect_range(cap: u32, records: &[u32], shapes: &[f32], cells: &[u32], w: Window, area: Aabb, r: Range) -> Collected
+    ensures { λ c. ⌜ heldIn c ≡ heldAsked (collectInPast (passes (now (cells .entry)) w r) (capOf cap) (lookAt (now (cells .entry)) w) (now (records .entry)) (now (shapes .entry)) area r) ⌝ }
 {
-    collect_up_to(128, records, shapes, cells, w, area, r, passing::reach_in(cells, w, r))
+    collect_up_to(sweeps::cap_of(cap), records, shapes, cells, w, area, r, passing::reach_in(cells, w, r))
 }
 
 // The same from the cells that the area reaches, each of them.
-pub fn collect(records: &[u32], shapes: &[f32], cells: &[u32], w: Window, area: Aabb) -> Collected
-    ensures { λ r. ⌜ heldIn r ≡ heldAsked (collectBlockBoxes (lookAt (now (cells .entry)) w) (now (records .entry)) (now (shapes .entry)) area) ⌝ }
+pub fn collect(cap: u32, records: &[u32], shapes: &[f32], cells: &[u32], w: Window, area: Aabb) -> Collected
+    ensures { λ r. ⌜ heldIn r ≡ heldAsked (collectBlockBoxes (capOf cap) (lookAt (now (cells .entry)) w) (now (records .entry)) (now (shapes .entry)) area) ⌝ }
 {
-    collect_up_to(128, records, shapes, cells, w, area, range_of(area), passing::nowhere())
+    collect_up_to(sweeps::cap_of(cap), records, shapes, cells, w, area, range_of(area), passing::nowhere())
 }
 
 // Whether a block box strictly overlaps the area. It stops at its first hit: no cell after that is asked for. It refuses 5 alone.

@@ -14,6 +14,7 @@ pub use drift::boltjuniper_item_current;
 pub use falling::boltjuniper_step_falling;
 pub use file::boltjuniper_tick;
 pub use night::boltjuniper_midnight;
+pub use night::boltjuniper_midnight_capped;
 pub use over::boltjuniper_move_over;
 pub use over::boltjuniper_move_over_list;
 pub use summed::boltjuniper_build_summary;

@@ -109,20 +109,21 @@ pub extern "C" fn boltjuniper_move_summed(
     mover: &[f64],
     step: f64,
     ground: u32,
+    cap: u32,
     out: &mut [f64],
 ) -> u32
-    ensures { λ r. ⌜ r ≡ moveSummedAt (now (records .entry)) (now (shapes .entry)) (now (cells .entry)) (windowOf ox oy oz sx sy sz lowest highest air) (now (mover .entry)) step ground (length (now (out .entry))) .refusal ⌝ }
-    ensures { λ _. ⌜ now (out .exit) ≡ writtenBy (now (out .entry)) (moveSummedAt (now (records .entry)) (now (shapes .entry)) (now (cells .entry)) (windowOf ox oy oz sx sy sz lowest highest air) (now (mover .entry)) step ground (length (now (out .entry)))) ⌝ }
+    ensures { λ r. ⌜ r ≡ moveSummedAt cap (now (records .entry)) (now (shapes .entry)) (now (cells .entry)) (windowOf ox oy oz sx sy sz lowest highest air) (now (mover .entry)) step ground (length (now (out .entry))) .refusal ⌝ }
+    ensures { λ _. ⌜ now (out .exit) ≡ writtenBy (now (out .entry)) (moveSummedAt cap (now (records .entry)) (now (shapes .entry)) (now (cells .entry)) (windowOf ox oy oz sx sy sz lowest highest air) (now (mover .entry)) step ground (length (now (out .entry)))) ⌝ }
 {
     let w = window::window_of(ox, oy, oz, sx, sy, sz, lowest, highest, air);
     if movers::whole_move(mover, ground, out.len()) {
         let q = movers::request_of(mover, step, ground);
-        let a = moves::move_summed(records, shapes, cells, w, q.aabb, q.delta, q.step, q.ground);
+        let a = moves::move_summed(cap, records, shapes, cells, w, q.aabb, q.delta, q.step, q.ground);
         return lent_numbers::move_into(out, a);
     }
     let plain = summary::plain_words(cells, w);
     let first = lent::check_direct(records, shapes, plain, w);
-    let early = movers::mover_refusal(mover, step, ground, true);
+    let early = movers::mover_refusal(cap, mover, step, ground, true);
     short_of(first, early)
 }
 

@@ -14,6 +14,7 @@ use Rattle.base.specs.Every as EV
 use Rattle.floats.specs.Numbers as N
 use Rattle.wholes.specs.Whole as H
 use Rattle.sweeps.specs.Move as M
+use Rattle.sweeps.specs.Lists as LS
 use Rattle.boxes.specs.Limits.{twoTo}
 use Rattle.tables.specs.declared.LiquidKind.the-variants.{None, Water}
 use Rattle.ranges.specs.Ranges as G
@@ -101,7 +102,7 @@ record Computed : Type 0 where
   fourth : Goes (between bareColumn 565 545) record { old = hundredths 565; new = low; ground = false; liquid = None }
 
 computed : Computed
-unfolding C.choose LO.listed A.asking A.turning N.sizeOf H.floorSize H.floorInt H.cellOf M.clipAll M.clipSequence M.steppedUp M.moveOver G.spanOf G.onFrom GC.cellHolding D.line D.layer D.walk B.isRegistered B.blocksMotion B.frictionAt B.kindOf B.liquidOf B.liquidAt B.boxesAt W.isVoid W.indexOf W.columnIndexOf K.lookAt J.connectKind J.connectedState SH.connectedShape SH.shapeOf SH.cellShape CO.offerAll CO.visit CO.collectUpTo MA.moveAabb Q.liquidHeld U.surfaceAt Y.shrunk Y.cellsOf Y.surfaceOf Y.wetIn Y.livingTurn Y.livingLiquid BB.modelOf BB.stageOf BB.frictionOf BB.isYes BB.yesNumber BB.flapOf BB.bodyOf BB.motionOf BL.isExtent BL.isSmall BL.measuresFit BL.casesFit BL.rulesFit BL.numbersFit BL.isPosition BL.isVelocity BL.motionFits BL.numberRefusal BL.isFiniteMotion DR.sunk DR.flapped DR.damped DR.floated DR.restsNow DR.pulled DR.unlessStopped SA.sampleOfState SA.told SA.sampled SA.livingSample SA.livingSupport SA.supportAfter TS.tickAfter TS.afterMove TS.moveOnBy TS.tickBegins TS.senses TS.stepBodyBy TS.stepBodySensed SE.finiteTick P.off P.on P.fence P.wall P.rows P.records P.shapes I.toBits I.ofBits I.ofInt I.round I.add I.sub I.mul I.div I.neg I.lt I.le I.eq I.ne
+unfolding C.choose LS.isCap LS.capOf LO.listed A.asking A.turning N.sizeOf H.floorSize H.floorInt H.cellOf M.clipAll M.clipSequence M.steppedUp M.moveOver G.spanOf G.onFrom GC.cellHolding D.line D.layer D.walk B.isRegistered B.blocksMotion B.frictionAt B.kindOf B.liquidOf B.liquidAt B.boxesAt W.isVoid W.indexOf W.columnIndexOf K.lookAt J.connectKind J.connectedState SH.connectedShape SH.shapeOf SH.cellShape CO.offerAll CO.visit CO.collectBlockBoxes MA.moveAabb Q.liquidHeld U.surfaceAt Y.shrunk Y.cellsOf Y.surfaceOf Y.wetIn Y.livingTurn Y.livingLiquid BB.modelOf BB.stageOf BB.frictionOf BB.isYes BB.yesNumber BB.flapOf BB.bodyOf BB.motionOf BL.isExtent BL.isSmall BL.measuresFit BL.casesFit BL.rulesFit BL.numbersFit BL.isPosition BL.isVelocity BL.motionFits BL.numberRefusal BL.isFiniteMotion DR.sunk DR.flapped DR.damped DR.floated DR.restsNow DR.pulled DR.unlessStopped SA.sampleOfState SA.told SA.sampled SA.livingSample SA.livingSupport SA.supportAfter TS.tickAfter TS.afterMove TS.moveOnBy TS.tickBegins TS.senses TS.stepBodyBy TS.stepBodySensed SE.finiteTick P.off P.on P.fence P.wall P.rows P.records P.shapes I.toBits I.ofBits I.ofInt I.round I.add I.sub I.mul I.div I.neg I.lt I.le I.eq I.ne
 computed =
     record {
       first = record { accepted = refl; moved = refl };

@@ -35,7 +35,7 @@ body =
     }
 
 abbrev pub rules : Rules
-rules = record { friction = ratio 3 5; depth = ratio 1 2; gravity = ratio 1 2; water = ratio 1 2; lava = ratio 1 2; air = air }
+rules = record { friction = ratio 3 5; depth = ratio 1 2; gravity = ratio 1 2; water = ratio 1 2; lava = ratio 1 2; air = air; cap = 0 }
 
 -- three columns, of a world two cells high: a cube at y 5, water at y 6, nothing; above and below them is sky and void
 abbrev pub world : Window

@@ -11,7 +11,7 @@ use Rattle.files.specs.declared.Counts.{Counts}
 use Rattle.files.specs.Places.{numberPlace, agePlace, wordPlace}
 use Rattle.files.specs.Files.{bodyWord, windowIn, countsOf}
 
--- tables, the window with its lent words, and a body: 19 numbers and 6 words in the order of `bodies`, and its age
+-- tables, the window with its lent words, and a body: 19 numbers and 7 words in the order of `bodies`, and its age
 pub record Contents : Type 0 where
   pub records : List ℕ
   pub shapes : List Float
@@ -39,7 +39,7 @@ abbrev pub lateWord : List ℕ → ℕ → ℕ
 lateWord file k = bodyWord file (wordPlace k)
 
 abbrev pub lateWords : List ℕ → List ℕ
-lateWords file = listed (lateWord file) 6 0
+lateWords file = listed (lateWord file) 7 0
 
 -- "age (low, high)"
 unfoldable pub ageIn : List ℕ → ℕ

@@ -31,6 +31,7 @@ use Rattle.window.proofs.Cells as N
 use Rattle.lent.specs.Lent.{unless, lentRefusal, directRefusal}
 use Rattle.ranges.specs.declared.Range.{Range}
 use Rattle.ranges.specs.Ranges.{placeAt}
+use Rattle.sweeps.specs.Lists.{isCap, capOf}
 use Rattle.collection.specs.Collect.{rangeOf, collectBlockBoxes, sweptArea}
 use Rattle.collection.specs.Settled.{settledBoxes, overlapping, appended, inOrder}
 use Rattle.moves.specs.Answers.{moveAabb, moveAnswer, moveEntry}
@@ -224,7 +225,7 @@ module _ (records : List ℕ) (shapes : List Float) (cells : List ℕ) (w : Wind
         go : Settled w (c .cell) o → T (overlap m o) → ⊥
         go b u = at (c .cell) (b .place) (b .stands) (c .is) u
 
-    module _ (m : Aabb) (d : Vec3) (h : Float) (s : Start m d h) (bs : List Aabb) (C : collectBlockBoxes (lookAt cells w) records shapes (sweptArea m d h) ≡ found bs) where
+    module _ (cap : ℕ) (m : Aabb) (d : Vec3) (h : Float) (s : Start m d h) (bs : List Aabb) (C : collectBlockBoxes cap (lookAt cells w) records shapes (sweptArea m d h) ≡ found bs) where
       abbrev swept : Aabb
       swept = sweptArea m d h
 
@@ -232,7 +233,7 @@ module _ (records : List ℕ) (shapes : List Float) (cells : List ℕ) (w : Wind
       kept-at : (o : Aabb) → List·Memᴰ o bs → OneOf o (keptOf (lookAt cells w) records shapes swept)
       kept-at o n =
           in-order o (keptOf (lookAt cells w) records shapes swept) (rangeOf swept)
-          (subst (λ (l : List Aabb). List·Memᴰ o l) (collected-is (lookAt cells w) records shapes swept bs C) n)
+          (subst (λ (l : List Aabb). List·Memᴰ o l) (collected-is cap (lookAt cells w) records shapes swept bs C) n)
 
       back : (o : Aabb) → List·Memᴰ o bs → IsSettled records shapes cells w o
       back o n = let r = kept-at o n in record { cell = r .at; is = of-overlapping swept o (boxesIn (r .at)) (r .is) }
@@ -257,7 +258,7 @@ module _ (records : List ℕ) (shapes : List Float) (cells : List ℕ) (w : Wind
       -- a box of a settled cell is collected, or lies aside of all that the move reaches
       collected : (p : Pos) (o : Aabb) → List·Memᴰ o (boxesIn p) → InRange (rangeOf swept) p → overlap o swept ≡ true → List·Memᴰ o bs
       collected p o n r e =
-          is-collected (lookAt cells w) records shapes swept bs C o (r .x) (r .y) (r .z) (r .below-x) (r .below-y) (r .below-z) (subst (λ (q : Pos). List·Memᴰ o (boxesIn q)) (r .is) n) e
+          is-collected cap (lookAt cells w) records shapes swept bs C o (r .x) (r .y) (r .z) (r .below-x) (r .below-y) (r .below-z) (subst (λ (q : Pos). List·Memᴰ o (boxesIn q)) (r .is) n) e
 
       seen : (o : Aabb) → IsSettled records shapes cells w o → List·Memᴰ o bs ⊎ Aside (areaOf s) o
       seen o c = let b = block records shapes cells w W G (c .cell) o (c .is) in at (c .cell) (b .place) (b .stands) (c .is)
@@ -327,11 +328,11 @@ neither first then e = go (eqb first 0) (eqb→eq first 0) (λ z. eq→eqb {a = 
 
 pub demand3-window : WindowDemand
 unfolding moveEntry moveAabb directRefusal lentRefusal windowOnGrid keepsStepIn
-demand3-window records shapes cells w m d h ground t e =
-    let c = collectBlockBoxes (lookAt cells w) records shapes (sweptArea m d h) in
+demand3-window cap records shapes cells w m d h ground t e =
+    let c = collectBlockBoxes (capOf cap) (lookAt cells w) records shapes (sweptArea m d h) in
     let l = directRefusal records shapes cells w in
-    let a = accepted l (not (eqb l 0)) (not (isStep h)) (not (isBox m && isDelta d)) c m d h ground (λ t z. T-not (eqb l 0) t (eq→eqb {a = l} {b = 0} z))
-    (collect-refuses cells w records shapes (sweptArea m d h) .only) e in
+    let a = accepted l (not (eqb l 0)) (not (isCap cap && isStep h)) (not (isBox m && isDelta d)) c m d h ground (λ t z. T-not (eqb l 0) t (eq→eqb {a = l} {b = 0} z))
+    (collect-refuses (capOf cap) cells w records shapes (sweptArea m d h) .only) e in
     let bs = a .boxes in
     let lent = neither (lentRefusal records shapes cells w) (choose (isRegistered records (w .air)) 0 3) (eqb→eq l 0 (no-not (eqb l 0) (a .lent))) in
     let W = N.accepted cells w (neither (tableRefusal records shapes) (windowRefusal cells w) (lent .one) .two) in
@@ -340,8 +341,8 @@ demand3-window records shapes cells w m d h ground t e =
     let t2 = and-r (shapesOnGrid records shapes cells w) (vecOnGrid d && (onGrid h && isFreeIn records shapes cells w m)) t1 in
     let t3 = and-r (vecOnGrid d) (onGrid h && isFreeIn records shapes cells w m) t2 in
     let s : Start m d h = start m d h (and-l (isBox m) (isDelta d) bd) (and-l (isProper m) (shapesOnGrid records shapes cells w && (vecOnGrid d && (onGrid h && isFreeIn records shapes cells w m))) t)
-    (and-r (isBox m) (isDelta d) bd) (and-l (vecOnGrid d) (onGrid h && isFreeIn records shapes cells w m) t2) (no-not (isStep h) (a .three)) (and-l (onGrid h) (isFreeIn records shapes cells w m) t3) in
-    let r = through records shapes cells w W (and-l (shapesOnGrid records shapes cells w) (vecOnGrid d && (onGrid h && isFreeIn records shapes cells w m)) t1) m d h s bs (a .collects) (and-r (onGrid h) (isFreeIn records shapes cells w m) t3) ground in
+    (and-r (isBox m) (isDelta d) bd) (and-l (vecOnGrid d) (onGrid h && isFreeIn records shapes cells w m) t2) (and-r (isCap cap) (isStep h) (no-not (isCap cap && isStep h) (a .three))) (and-l (onGrid h) (isFreeIn records shapes cells w m) t3) in
+    let r = through records shapes cells w W (and-l (shapesOnGrid records shapes cells w) (vecOnGrid d && (onGrid h && isFreeIn records shapes cells w m)) t1) (capOf cap) m d h s bs (a .collects) (and-r (onGrid h) (isFreeIn records shapes cells w m) t3) ground in
     let k : keepsAmong c m d h ground ≡ keepsStep bs m d h ground = ap (λ (x : Ask (List Aabb)). keepsAmong x m d h ground) (a .collects) in
     subst (λ (q : MoveResult). Demand3 (IsSettled records shapes cells w) (keepsAmong c m d h ground) m d q) (sym (a .result))
     (subst (λ (q : Bool). Demand3 (IsSettled records shapes cells w) q m d (moveOver bs m d h ground)) (sym k) r)

@@ -23,7 +23,7 @@ use Rattle.sweeps.specs.declared.Swept.{Swept}
 use Rattle.sweeps.specs.declared.BoxList.{BoxList}
 use Rattle.sweeps.specs.declared.MoveResult.{MoveResult}
 use Rattle.boxes.specs.Boxes.{vec, offsetBy, overlap}
-use Rattle.sweeps.specs.Lists.{listOf}
+use Rattle.sweeps.specs.Lists.{capOf, listOf}
 use Rattle.sweeps.specs.Move.{clipSequence, steppedUp, flatSquare, triesStep}
 use Rattle.sweeps.specs.Entry.{moveOverList}
 use Rattle.cover.specs.Cover.{boxCount}
@@ -103,11 +103,11 @@ listOnGrid list aabb delta stepHeight =
 
 abbrev pub ListDemand : Type 0
 ListDemand =
-    (list : BoxList) (aabb : Aabb) (delta : Vec3) (stepHeight : Float) (wasOnGround : Bool)
+    (cap : ℕ) (list : BoxList) (aabb : Aabb) (delta : Vec3) (stepHeight : Float) (wasOnGround : Bool)
     → T (listOnGrid list aabb delta stepHeight)
-    → moveOverList list aabb delta stepHeight wasOnGround .refusal ≡ 0
+    → moveOverList cap list aabb delta stepHeight wasOnGround .refusal ≡ 0
     → Demand3 (λ b. List·Memᴰ b (listOf list)) (keepsStep (listOf list) aabb delta stepHeight wasOnGround) aabb delta
-    (moveOverList list aabb delta stepHeight wasOnGround .result)
+    (moveOverList cap list aabb delta stepHeight wasOnGround .result)
 
 -- ---- a move through a window: the block boxes are those of every cell whose shape the look-up settles without leaving the window
 
@@ -180,14 +180,14 @@ abbrev pub keepsAmong : Ask (List Aabb) → Aabb → Vec3 → Float → Bool →
 keepsAmong (refused n) aabb delta stepHeight wasOnGround = false
 keepsAmong (found boxes) aabb delta stepHeight wasOnGround = keepsStep boxes aabb delta stepHeight wasOnGround
 
-unfoldable pub keepsStepIn : List ℕ → List Float → List ℕ → Window → Aabb → Vec3 → Float → Bool → Bool
-keepsStepIn records shapes cells w aabb delta stepHeight wasOnGround =
-    keepsAmong (collectBlockBoxes (lookAt cells w) records shapes (sweptArea aabb delta stepHeight)) aabb delta stepHeight wasOnGround
+unfoldable pub keepsStepIn : ℕ → List ℕ → List Float → List ℕ → Window → Aabb → Vec3 → Float → Bool → Bool
+keepsStepIn cap records shapes cells w aabb delta stepHeight wasOnGround =
+    keepsAmong (collectBlockBoxes (capOf cap) (lookAt cells w) records shapes (sweptArea aabb delta stepHeight)) aabb delta stepHeight wasOnGround
 
 abbrev pub WindowDemand : Type 0
 WindowDemand =
-    (records : List ℕ) (shapes : List Float) (cells : List ℕ) (w : Window) (aabb : Aabb) (delta : Vec3) (stepHeight : Float) (wasOnGround : Bool)
+    (cap : ℕ) (records : List ℕ) (shapes : List Float) (cells : List ℕ) (w : Window) (aabb : Aabb) (delta : Vec3) (stepHeight : Float) (wasOnGround : Bool)
     → T (windowOnGrid records shapes cells w aabb delta stepHeight)
-    → moveEntry records shapes cells w aabb delta stepHeight wasOnGround .refusal ≡ 0
-    → Demand3 (IsSettled records shapes cells w) (keepsStepIn records shapes cells w aabb delta stepHeight wasOnGround) aabb delta
-    (moveEntry records shapes cells w aabb delta stepHeight wasOnGround .result)
+    → moveEntry cap records shapes cells w aabb delta stepHeight wasOnGround .refusal ≡ 0
+    → Demand3 (IsSettled records shapes cells w) (keepsStepIn cap records shapes cells w aabb delta stepHeight wasOnGround) aabb delta
+    (moveEntry cap records shapes cells w aabb delta stepHeight wasOnGround .result)

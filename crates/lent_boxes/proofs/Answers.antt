@@ -13,7 +13,7 @@ use Rattle.base.specs.Loop.{stored}
 use Rattle.sweeps.specs.declared.BoxList.{BoxList}
 use Rattle.sweeps.specs.declared.Request.{Request}
 use Rattle.sweeps.specs.declared.MoveResult.{MoveResult}
-use Rattle.sweeps.specs.Lists.{room, listOf}
+use Rattle.sweeps.specs.Lists.{isCap, capOf, listOf}
 use Rattle.boxes.specs.Limits.{isBox, isDelta, isStep, areBoxes}
 use Rattle.sweeps.specs.Move.{moveOver}
 use Rattle.sweeps.specs.Entry.{refusalOf, moveOverList}
@@ -35,7 +35,7 @@ module _ (boxes mover : List Float) (step : Float) (ground : ℕ) (out : List Fl
 
 -- ---- where every slice has its length, and there is room, it is `move_over_list` of a list that holds these boxes
 
--- step height, box, delta and lent boxes; then n
+-- cap and step height, box, delta and lent boxes; then n
 tests : (s b d a : Bool) (n : ℕ) → choose (not s) 3 (choose (not (b && (d && a))) 4 n)
     ≡ choose (not (eqb (choose s (choose (a && (b && d)) 0 4) 3) 0)) (choose s (choose (a && (b && d)) 0 4) 3) n
 unfolding choose
@@ -47,12 +47,12 @@ tests true true false false n = refl
 tests true false d true n = refl
 tests true false d false n = refl
 
-module _ (boxes mover : List Float) (step : Float) (ground places : ℕ) (nine : length mover ≡ 9) (sixes : length boxes % 6 ≡ 0) (flag : ground < 2) (wide : 10 ≤ places) where
-  same-refusal : refusalOf (aabbAt mover 0) (vecAt mover 6) step (areBoxes (boxesOf boxes)) (lentCount boxes) ≡ listRefusal boxes mover step ground places
+module _ (cap : ℕ) (boxes mover : List Float) (step : Float) (ground places : ℕ) (nine : length mover ≡ 9) (sixes : length boxes % 6 ≡ 0) (flag : ground < 2) (wide : 10 ≤ places) where
+  same-refusal : refusalOf cap (aabbAt mover 0) (vecAt mover 6) step (areBoxes (boxesOf boxes)) (lentCount boxes) ≡ listRefusal cap boxes mover step ground places
   unfolding listRefusal moverRefusal lentFit choose
-  same-refusal = rw (eq-eqb _ _ nine, eq-eqb _ _ sixes, lt-ltb _ _ flag, le-ltb _ _ wide) (tests (isStep step) (isBox (aabbAt mover 0)) (isDelta (vecAt mover 6)) (areBoxes (boxesOf boxes)) (choose (ltb room (lentCount boxes)) 6 0))
+  same-refusal = rw (eq-eqb _ _ nine, eq-eqb _ _ sixes, lt-ltb _ _ flag, le-ltb _ _ wide) (tests (isCap cap && isStep step) (isBox (aabbAt mover 0)) (isDelta (vecAt mover 6)) (areBoxes (boxesOf boxes)) (choose (ltb (capOf cap) (lentCount boxes)) 6 0))
 
   pub as-a-list : (l : BoxList) → listOf l ≡ boxesOf boxes → l .count ≡ lentCount boxes
-      → moveOverList l (aabbAt mover 0) (vecAt mover 6) step (eqb ground 1) ≡ moveListOf boxes mover step ground places
+      → moveOverList cap l (aabbAt mover 0) (vecAt mover 6) step (eqb ground 1) ≡ moveListOf cap boxes mover step ground places
   unfolding moveOverList moveListOf
   as-a-list l el en = rw (el, en) (ap (λ (n : ℕ). movedOver boxes mover step ground n) same-refusal)

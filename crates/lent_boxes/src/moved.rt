@@ -14,18 +14,18 @@ ghost use Rattle.lent_boxes.specs.Boxes.{boxesOf};
 ghost use Rattle.lent_boxes.specs.Moves.{listRefusal, moveListOf, moveAnyOf};
 
 // 3, 4, 11 and 6 in order, or 0.
-fn list_refusal(boxes: &[f64], mover: &[f64], step: f64, ground: u32, places: usize) -> u32
-    ensures { λ r. ⌜ r ≡ listRefusal (now (boxes .entry)) (now (mover .entry)) step ground places ⌝ }
+fn list_refusal(cap: u32, boxes: &[f64], mover: &[f64], step: f64, ground: u32, places: usize) -> u32
+    ensures { λ r. ⌜ r ≡ listRefusal cap (now (boxes .entry)) (now (mover .entry)) step ground places ⌝ }
 {
     let sound = lent_fit(boxes);
-    let early = mover_refusal(mover, step, ground, sound);
+    let early = mover_refusal(cap, mover, step, ground, sound);
     if early != 0 {
         return early;
     }
     if places < 10 {
         return 11;
     }
-    if boxes.len() / 6 > 128 {
+    if boxes.len() / 6 > sweeps::cap_of(cap) {
         return 6;
     }
     0
@@ -61,11 +61,11 @@ fn moved_over(numbers: &[f64], q: Request) -> MoveResult
 
 // The move of a box over boxes, for a host, who may hand over anything. It writes ten numbers and returns 0, or writes nothing and returns
 // 3, 4, 11 or 6.
-pub fn move_over_lent(boxes: &[f64], mover: &[f64], step: f64, ground: u32, out: &mut [f64]) -> u32
-    ensures { λ r. ⌜ r ≡ moveListOf (now (boxes .entry)) (now (mover .entry)) step ground (length (now (out .entry))) .refusal ⌝ }
-    ensures { λ _. ⌜ now (out .exit) ≡ writtenBy (now (out .entry)) (moveListOf (now (boxes .entry)) (now (mover .entry)) step ground (length (now (out .entry)))) ⌝ }
+pub fn move_over_lent(cap: u32, boxes: &[f64], mover: &[f64], step: f64, ground: u32, out: &mut [f64]) -> u32
+    ensures { λ r. ⌜ r ≡ moveListOf cap (now (boxes .entry)) (now (mover .entry)) step ground (length (now (out .entry))) .refusal ⌝ }
+    ensures { λ _. ⌜ now (out .exit) ≡ writtenBy (now (out .entry)) (moveListOf cap (now (boxes .entry)) (now (mover .entry)) step ground (length (now (out .entry)))) ⌝ }
 {
-    let refusal = list_refusal(boxes, mover, step, ground, out.len());
+    let refusal = list_refusal(cap, boxes, mover, step, ground, out.len());
     if refusal != 0 {
         return refusal;
     }
@@ -74,13 +74,13 @@ pub fn move_over_lent(boxes: &[f64], mover: &[f64], step: f64, ground: u32, out:
 }
 
 // The same for any numbers, to be timed beside the original: it looks at no limit, takes what is not there for 0 and drops what there is no
-// room for. For more than 128 boxes it writes nothing and returns 6.
+// room for. For more boxes than a list holds it writes nothing and returns 6.
 pub fn move_over_any(boxes: &[f64], mover: &[f64], step: f64, ground: u32, out: &mut [f64]) -> u32
     ensures { λ r. ⌜ r ≡ moveAnyOf (now (boxes .entry)) (now (mover .entry)) step ground .refusal ⌝ }
     ensures { λ _. ⌜ now (out .exit) ≡ writtenBy (now (out .entry)) (moveAnyOf (now (boxes .entry)) (now (mover .entry)) step ground) ⌝ }
 {
     let count = boxes.len() / 6;
-    if count > 128 {
+    if count > sweeps::ROOM {
         return 6;
     }
     put_result(out, moved_over(boxes, request_of(mover, step, ground)));

@@ -93,14 +93,14 @@ fn are_boxes(list: BoxList) -> bool
 }
 
 // 3, then 4, then 6; sound says whether the list's boxes are boxes.
-pub fn refusal_of(aabb: Aabb, delta: Vec3, step: f64, sound: bool, count: usize) -> u32
-    ensures { λ r. ⌜ r ≡ refusalOf aabb delta step sound count ⌝ }
+pub fn refusal_of(cap: u32, aabb: Aabb, delta: Vec3, step: f64, sound: bool, count: usize) -> u32
+    ensures { λ r. ⌜ r ≡ refusalOf cap aabb delta step sound count ⌝ }
 {
-    if is_step(step) {
+    if sweeps::is_cap(cap) & is_step(step) {
         if is_box(aabb) {
             if is_delta(delta) {
                 if sound {
-                    if count > 128 {
+                    if count > sweeps::cap_of(cap) {
                         return 6;
                     }
                     return 0;
@@ -113,11 +113,11 @@ pub fn refusal_of(aabb: Aabb, delta: Vec3, step: f64, sound: bool, count: usize)
 }
 
 // The move over a list that is handed in: step is the step height, ground whether the body was on the ground.
-pub fn move_over_list(list: BoxList, aabb: Aabb, delta: Vec3, step: f64, ground: bool) -> MoveAnswer
-    ensures { λ r. ⌜ r ≡ moveOverList list aabb delta step ground ⌝ }
+pub fn move_over_list(cap: u32, list: BoxList, aabb: Aabb, delta: Vec3, step: f64, ground: bool) -> MoveAnswer
+    ensures { λ r. ⌜ r ≡ moveOverList cap list aabb delta step ground ⌝ }
 {
     let sound = are_boxes(list);
-    let refusal = refusal_of(aabb, delta, step, sound, list.count);
+    let refusal = refusal_of(cap, aabb, delta, step, sound, list.count);
     if refusal == 0 {
         return MoveAnswer {
             refusal,

@@ -76,58 +76,58 @@ row-at lent d (row ∷ rows) beyond (suc i) h =
 
 -- ---- the buffer after a call
 
-module _ (lent : Lent) (numbers : List Float) (words : List ℕ) (bodies : ℕ) (out : List Float) where
+module _ (older : Bool) (lent : Lent) (numbers : List Float) (words : List ℕ) (bodies : ℕ) (out : List Float) where
   abbrev pub after : List Float
-  after = runWritten lent (bodiesOf numbers words bodies) out
+  after = runWritten lent (bodiesOf older numbers words bodies) out
 
   -- a refused call writes nothing
   pub unwritten : (runRefusal lent bodies (length out) ≡ 0 → ⊥) → after ≡ out
   unfolding runWritten choose
-  unwritten r = rw (listed-length (rowAt numbers words) bodies 0, ne-eqb (runRefusal lent bodies (length out)) 0 r)
+  unwritten r = rw (listed-length (rowAt older numbers words) bodies 0, ne-eqb (runRefusal lent bodies (length out)) 0 r)
 
   module _ (accepted : runRefusal lent bodies (length out) ≡ 0) where
-    pub stored-all : stored out 0 (rowsOf lent (bodiesOf numbers words bodies)) ≡ after
+    pub stored-all : stored out 0 (rowsOf lent (bodiesOf older numbers words bodies)) ≡ after
     unfolding runWritten choose
-    stored-all = rw (listed-length (rowAt numbers words) bodies 0, accepted)
+    stored-all = rw (listed-length (rowAt older numbers words) bodies 0, accepted)
 
-    rows-fill : length (rowsOf lent (bodiesOf numbers words bodies)) ≡ bodies * answerWidth
-    rows-fill = rows-length lent (bodiesOf numbers words bodies) ∙ ap (λ (k : ℕ). k * answerWidth) (listed-length (rowAt numbers words) bodies 0)
+    rows-fill : length (rowsOf lent (bodiesOf older numbers words bodies)) ≡ bodies * answerWidth
+    rows-fill = rows-length lent (bodiesOf older numbers words bodies) ∙ ap (λ (k : ℕ). k * answerWidth) (listed-length (rowAt older numbers words) bodies 0)
 
     -- the answers one behind the other, and what lies beyond as it was
-    pub written : after ≡ rowsOf lent (bodiesOf numbers words bodies) ++ drop (bodies * answerWidth) out
+    pub written : after ≡ rowsOf lent (bodiesOf older numbers words bodies) ++ drop (bodies * answerWidth) out
     written =
         sym stored-all
-        ∙ stored-first out (rowsOf lent (bodiesOf numbers words bodies)) (bodies * answerWidth) rows-fill (passed lent bodies (length out) accepted .fits)
+        ∙ stored-first out (rowsOf lent (bodiesOf older numbers words bodies)) (bodies * answerWidth) rows-fill (passed lent bodies (length out) accepted .fits)
 
     pub kept : drop (bodies * answerWidth) after ≡ drop (bodies * answerWidth) out
     kept =
         ap (λ (l : List Float). drop (bodies * answerWidth) l) written
-        ∙ drop-at (rowsOf lent (bodiesOf numbers words bodies)) (drop (bodies * answerWidth) out) (bodies * answerWidth) rows-fill
+        ∙ drop-at (rowsOf lent (bodiesOf older numbers words bodies)) (drop (bodies * answerWidth) out) (bodies * answerWidth) rows-fill
 
     -- row i is the answer of body i
-    pub answer : (i : ℕ) → i < bodies → rowOf answerWidth after i ≡ answerRow lent (rowAt numbers words i)
+    pub answer : (i : ℕ) → i < bodies → rowOf answerWidth after i ≡ answerRow lent (rowAt older numbers words i)
     answer i h =
-        let inside : i < length (bodiesOf numbers words bodies) = rw (listed-length (rowAt numbers words) bodies 0) h in
+        let inside : i < length (bodiesOf older numbers words bodies) = rw (listed-length (rowAt older numbers words) bodies 0) h in
         ap (λ (l : List Float). rowOf answerWidth l i) written
-        ∙ row-at lent (rowAt numbers words 0) (bodiesOf numbers words bodies) (drop (bodies * answerWidth) out) i inside
-        ∙ ap (answerRow lent) (listed-at (rowAt numbers words) bodies 0 i (rowAt numbers words 0) h ∙ ap (rowAt numbers words) (zero-add i))
+        ∙ row-at lent (rowAt older numbers words 0) (bodiesOf older numbers words bodies) (drop (bodies * answerWidth) out) i inside
+        ∙ ap (answerRow lent) (listed-at (rowAt older numbers words) bodies 0 i (rowAt older numbers words 0) h ∙ ap (rowAt older numbers words) (zero-add i))
 
     -- which is the single step's
-    pub each : (i : ℕ) → i < bodies → Named lent (rowAt numbers words i)
+    pub each : (i : ℕ) → i < bodies → Named lent (rowAt older numbers words i)
         → rowOf answerWidth after i
-        ≡ answerNumbers (singleStep (lent .records) (lent .shapes) (lent .cells) (windowAt (lent .windows) (namedIn (rowAt numbers words i))) (rowAt numbers words i))
+        ≡ answerNumbers (singleStep (lent .records) (lent .shapes) (lent .cells) (windowAt (lent .windows) (namedIn (rowAt older numbers words i))) (rowAt older numbers words i))
     each i h named =
-        answer i h ∙ ap answerNumbers (single lent (rowAt numbers words i) (passed lent bodies (length out) accepted .tables) named)
+        answer i h ∙ ap answerNumbers (single lent (rowAt older numbers words i) (passed lent bodies (length out) accepted .tables) named)
 
     -- all of them, row by row, are those of the bodies, row by row
-    pub answers : answersIn after bodies ≡ map (answerRow lent) (bodiesOf numbers words bodies)
-    answers = map-listed (answerRow lent) (rowAt numbers words) (rowOf answerWidth after) bodies 0 (λ k l m. answer k (omega arith))
+    pub answers : answersIn after bodies ≡ map (answerRow lent) (bodiesOf older numbers words bodies)
+    answers = map-listed (answerRow lent) (rowAt older numbers words) (rowOf answerWidth after) bodies 0 (λ k l m. answer k (omega arith))
 
 -- ---- by what the program returns
 
-module _ (lent : Lent) (numbers : List Float) (words : List ℕ) (bodies : ℕ) (out : List Float) (r : ℕ) (told : r ≡ runRefusal lent bodies (length out)) where
-  pub refused-run : (r ≡ 0 → ⊥) → out ≡ runWritten lent (bodiesOf numbers words bodies) out
-  refused-run not = sym (unwritten lent numbers words bodies out (λ z. not (told ∙ z)))
+module _ (older : Bool) (lent : Lent) (numbers : List Float) (words : List ℕ) (bodies : ℕ) (out : List Float) (r : ℕ) (told : r ≡ runRefusal lent bodies (length out)) where
+  pub refused-run : (r ≡ 0 → ⊥) → out ≡ runWritten lent (bodiesOf older numbers words bodies) out
+  refused-run not = sym (unwritten older lent numbers words bodies out (λ z. not (told ∙ z)))
 
   module _ (none : r ≡ 0) where
     pub few-windows : lent .count ≤ 16
@@ -136,8 +136,8 @@ module _ (lent : Lent) (numbers : List Float) (words : List ℕ) (bodies : ℕ) 
     pub zero-told : 0 ≡ runRefusal lent bodies (length out)
     zero-told = sym none ∙ told
 
-    pub accepted-run : (l : List Float) → l ≡ stored out 0 (rowsOf lent (bodiesOf numbers words bodies)) → l ≡ runWritten lent (bodiesOf numbers words bodies) out
-    accepted-run l e = e ∙ stored-all lent numbers words bodies out (sym told ∙ none)
+    pub accepted-run : (l : List Float) → l ≡ stored out 0 (rowsOf lent (bodiesOf older numbers words bodies)) → l ≡ runWritten lent (bodiesOf older numbers words bodies) out
+    accepted-run l e = e ∙ stored-all older lent numbers words bodies out (sym told ∙ none)
 
 -- ---- any order
 
@@ -154,12 +154,12 @@ map-picked lent d rows (i ∷ places) =
 
 -- Two calls over the same tables and windows: where the bodies of the one are those of the other in the order of any list of places (each once, or
 -- some of them twice or not at all), so are the answers.
-pub follow : (lent : Lent) (numbers numbers' : List Float) (words words' : List ℕ) (bodies bodies' : ℕ) (out out' : List Float)
+pub follow : (older : Bool) (lent : Lent) (numbers numbers' : List Float) (words words' : List ℕ) (bodies bodies' : ℕ) (out out' : List Float)
     → runRefusal lent bodies (length out) ≡ 0 → runRefusal lent bodies' (length out') ≡ 0
-    → (d : Row) (places : List ℕ) → bodiesOf numbers' words' bodies' ≡ picked d (bodiesOf numbers words bodies) places
-    → answersIn (after lent numbers' words' bodies' out') bodies' ≡ picked (answerRow lent d) (answersIn (after lent numbers words bodies out) bodies) places
-follow lent numbers numbers' words words' bodies bodies' out out' ok ok' d places same =
-    answers lent numbers' words' bodies' out' ok'
+    → (d : Row) (places : List ℕ) → bodiesOf older numbers' words' bodies' ≡ picked d (bodiesOf older numbers words bodies) places
+    → answersIn (after older lent numbers' words' bodies' out') bodies' ≡ picked (answerRow lent d) (answersIn (after older lent numbers words bodies out) bodies) places
+follow older lent numbers numbers' words words' bodies bodies' out out' ok ok' d places same =
+    answers older lent numbers' words' bodies' out' ok'
     ∙ ap (map (answerRow lent)) same
-    ∙ map-picked lent d (bodiesOf numbers words bodies) places
-    ∙ ap (λ (l : List (List Float)). picked (answerRow lent d) l places) (sym (answers lent numbers words bodies out ok))
+    ∙ map-picked lent d (bodiesOf older numbers words bodies) places
+    ∙ ap (λ (l : List (List Float)). picked (answerRow lent d) l places) (sym (answers older lent numbers words bodies out ok))

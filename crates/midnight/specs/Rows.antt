@@ -6,10 +6,12 @@ use lib.Dec.{eqb}
 use lib.IntN.{pos}
 use lib.ListN.{length, take, drop}
 use lib.Ieee.{Float, binary64, ofInt}
+use Rattle.base.specs.Choose.{choose}
 use Rattle.tables.specs.Tables.{wordAt}
 use Rattle.bodies.specs.declared.BodyNumbers.{BodyNumbers}
 use Rattle.bodies.specs.declared.Rules.{Rules}
 use Rattle.bodies.specs.declared.MotionNumbers.{MotionNumbers}
+use Rattle.bodies.specs.Body.{withCap}
 use Rattle.bodies.specs.Numbers.{numberAt, motionFrom, bodyFrom, rulesFrom}
 use Rattle.lent_words.specs.Words.{wideOf, windowFrom}
 use Rattle.lent_steps.specs.Falling.{fallingNumbers}
@@ -37,27 +39,29 @@ windowAt windows j = windowOfRow (rowOf windowWidth windows j)
 
 -- ---- a body
 
+-- `older` where it is an older caller's, who names no cap
 pub record Row : Type 0 where
+  pub older : Bool
   pub numbers : List Float
   pub words : List ℕ
 
-abbrev pub rowWith : List Float → List ℕ → Row
-rowWith numbers words = record { numbers = numbers; words = words }
+abbrev pub rowWith : Bool → List Float → List ℕ → Row
+rowWith older numbers words = record { older = older; numbers = numbers; words = words }
 
 -- numbers: the 19 of a scene in its order, then the fall record, its sum and its landed number
 abbrev pub numberWidth : ℕ
 numberWidth = 21
 
 -- words: the number of its window; its age, low word first; then those of a scene in its order, "ground, model, stage, ground friction, flap
--- present, air state": what a later rule adds to these comes behind
-abbrev pub wordWidth : ℕ
-wordWidth = 9
+-- present, air state", and the cap, which an older row is without: what a later rule adds to these comes behind
+unfoldable pub wordWidth : Bool → ℕ
+wordWidth older = choose older 9 10
 
-abbrev pub rowAt : List Float → List ℕ → ℕ → Row
-rowAt numbers words i = rowWith (rowOf numberWidth numbers i) (rowOf wordWidth words i)
+abbrev pub rowAt : Bool → List Float → List ℕ → ℕ → Row
+rowAt older numbers words i = rowWith older (rowOf numberWidth numbers i) (rowOf (wordWidth older) words i)
 
 unfoldable pub isWhole : Row → Bool
-isWhole row = eqb (length (row .numbers)) numberWidth && eqb (length (row .words)) wordWidth
+isWhole row = eqb (length (row .numbers)) numberWidth && eqb (length (row .words)) (wordWidth (row .older))
 
 abbrev pub namedIn : Row → ℕ
 namedIn row = wordAt (row .words) 0 0
@@ -75,8 +79,12 @@ givenIn row = motionFrom (numberAt (row .numbers)) (sceneWord row)
 abbrev pub bodyIn : Row → BodyNumbers
 bodyIn row = bodyFrom (numberAt (row .numbers)) (sceneWord row)
 
+-- "The midnight crate's older callers, who rely on 6 at 129, name 128 themselves"
+unfoldable pub capIn : Row → ℕ
+capIn row = choose (row .older) 128 (sceneWord row 6)
+
 abbrev pub rulesIn : Row → Rules
-rulesIn row = rulesFrom (numberAt (row .numbers)) (sceneWord row)
+rulesIn row = withCap (rulesFrom (numberAt (row .numbers)) (sceneWord row)) (capIn row)
 
 abbrev pub fallIn : Row → Fall
 fallIn row = fallOf (numberAt (row .numbers) 19) (numberAt (row .numbers) 20)

@@ -27,8 +27,8 @@ runRefusal lent bodies room =
 -- ---- what is written
 
 -- so many bodies, row by row
-abbrev pub bodiesOf : List Float → List ℕ → ℕ → List Row
-bodiesOf numbers words bodies = listed (rowAt numbers words) bodies 0
+abbrev pub bodiesOf : Bool → List Float → List ℕ → ℕ → List Row
+bodiesOf older numbers words bodies = listed (rowAt older numbers words) bodies 0
 
 abbrev pub answerRow : Lent → Row → List Float
 answerRow lent row = answerNumbers (answerOf lent row)

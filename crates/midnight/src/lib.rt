@@ -8,6 +8,7 @@ mod windows;
 use rows::ANSWER_WIDTH;
 use rows::wide;
 use window::Window;
+ghost use mathlib.Core.Bool.{true, false};
 ghost use mathlib.Core.Path.{_≡_};
 ghost use Prim.Native.Nat.{_≤_};
 ghost use lib.Dec.{eqb};
@@ -53,6 +54,7 @@ fn run_refusal(records: &[u32], shapes: &[f32], windows: u32, bodies: u32, room:
 
 // The answers of so many bodies, each in its row.
 fn answer_all(
+    older: bool,
     records: &[u32],
     shapes: &[f32],
     windows: &[u32],
@@ -64,14 +66,15 @@ fn answer_all(
     out: &mut [f64],
 )
     requires { ⌜ count ≤ 16 ⌝ }
-    ensures { λ _. ⌜ now (out .exit) ≡ stored (now (out .entry)) 0 (rowsOf (lentWith (now (records .entry)) (now (shapes .entry)) (now (windows .entry)) count (now (cells .entry))) (bodiesOf (now (numbers .entry)) (now (words .entry)) bodies)) ⌝ }
+    ensures { λ _. ⌜ now (out .exit) ≡ stored (now (out .entry)) 0 (rowsOf (lentWith (now (records .entry)) (now (shapes .entry)) (now (windows .entry)) count (now (cells .entry))) (bodiesOf older (now (numbers .entry)) (now (words .entry)) bodies)) ⌝ }
 {
     let checked = windows::check_all(records, windows, count, cells);
     let mut i = 0u32;
     while i < bodies {
         let own_numbers = rows::numbers_at(numbers, i);
-        let own_words = rows::words_at(words, i);
+        let own_words = rows::words_at(older, words, i);
         let a = answers::answer_of(
+            older,
             records,
             shapes,
             windows,
@@ -86,8 +89,43 @@ fn answer_all(
     }
 }
 
+// The call whole. It returns 0; or 1, 14 or 11, and writes nothing.
+fn run_rows(
+    older: bool,
+    records: &[u32],
+    shapes: &[f32],
+    windows: &[u32],
+    count: u32,
+    cells: &[u32],
+    numbers: &[f64],
+    words: &[u32],
+    bodies: u32,
+    out: &mut [f64],
+) -> u32
+    ensures { λ r. ⌜ r ≡ runRefusal (lentWith (now (records .entry)) (now (shapes .entry)) (now (windows .entry)) count (now (cells .entry))) bodies (length (now (out .entry))) ⌝ }
+    ensures { λ _. ⌜ now (out .exit) ≡ runWritten (lentWith (now (records .entry)) (now (shapes .entry)) (now (windows .entry)) count (now (cells .entry))) (bodiesOf older (now (numbers .entry)) (now (words .entry)) bodies) (now (out .entry)) ⌝ }
+{
+    let refusal = run_refusal(records, shapes, count, bodies, out.len());
+    if refusal != 0 {
+        return refusal;
+    }
+    answer_all(
+        older,
+        records,
+        shapes,
+        windows,
+        count,
+        cells,
+        numbers,
+        words,
+        bodies,
+        out,
+    );
+    0
+}
+
 // For hosts. Tables as ever; `windows` has ten words for each of `count` windows, over the words `cells` of all of them; `numbers` has 21 numbers
-// and `words` nine words for each of so many bodies; 13 numbers are written for each body (specs/Rows.antt has what stands where). It returns
+// and `words` ten words for each of so many bodies; 13 numbers are written for each body (specs/Rows.antt has what stands where). It returns
 // 0; or 1, 14 or 11, and writes nothing.
 pub fn run(
     records: &[u32],
@@ -101,13 +139,10 @@ pub fn run(
     out: &mut [f64],
 ) -> u32
     ensures { λ r. ⌜ r ≡ runRefusal (lentWith (now (records .entry)) (now (shapes .entry)) (now (windows .entry)) count (now (cells .entry))) bodies (length (now (out .entry))) ⌝ }
-    ensures { λ _. ⌜ now (out .exit) ≡ runWritten (lentWith (now (records .entry)) (now (shapes .entry)) (now (windows .entry)) count (now (cells .entry))) (bodiesOf (now (numbers .entry)) (now (words .entry)) bodies) (now (out .entry)) ⌝ }
+    ensures { λ _. ⌜ now (out .exit) ≡ runWritten (lentWith (now (records .entry)) (now (shapes .entry)) (now (windows .entry)) count (now (cells .entry))) (bodiesOf false (now (numbers .entry)) (now (words .entry)) bodies) (now (out .entry)) ⌝ }
 {
-    let refusal = run_refusal(records, shapes, count, bodies, out.len());
-    if refusal != 0 {
-        return refusal;
-    }
-    answer_all(
+    run_rows(
+        false,
         records,
         shapes,
         windows,
@@ -117,6 +152,34 @@ pub fn run(
         words,
         bodies,
         out,
-    );
-    0
+    )
+}
+
+// For older callers, who rely on 6 at the 129th box: nine words for each body, without the cap, which is 128.
+pub fn run_older(
+    records: &[u32],
+    shapes: &[f32],
+    windows: &[u32],
+    count: u32,
+    cells: &[u32],
+    numbers: &[f64],
+    words: &[u32],
+    bodies: u32,
+    out: &mut [f64],
+) -> u32
+    ensures { λ r. ⌜ r ≡ runRefusal (lentWith (now (records .entry)) (now (shapes .entry)) (now (windows .entry)) count (now (cells .entry))) bodies (length (now (out .entry))) ⌝ }
+    ensures { λ _. ⌜ now (out .exit) ≡ runWritten (lentWith (now (records .entry)) (now (shapes .entry)) (now (windows .entry)) count (now (cells .entry))) (bodiesOf true (now (numbers .entry)) (now (words .entry)) bodies) (now (out .entry)) ⌝ }
+{
+    run_rows(
+        true,
+        records,
+        shapes,
+        windows,
+        count,
+        cells,
+        numbers,
+        words,
+        bodies,
+        out,
+    )
 }

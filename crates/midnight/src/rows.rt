@@ -8,7 +8,12 @@ pub(crate) const WINDOW_WIDTH: usize = 10;
 
 pub(crate) const NUMBER_WIDTH: usize = 21;
 
-pub(crate) const WORD_WIDTH: usize = 9;
+pub(crate) const WORD_WIDTH: usize = 10;
+
+// The words of an older caller's row, who names no cap; and the cap that such a row stands for.
+pub(crate) const OLDER_WIDTH: usize = 9;
+
+pub(crate) const OLDER_CAP: u32 = 128;
 
 pub(crate) const ANSWER_WIDTH: usize = 13;
 
@@ -56,9 +61,12 @@ pub(crate) fn numbers_at(numbers: &[f64], i: u32) -> &[f64]
     numbers_from(numbers, wide(i) * NUMBER_WIDTH, NUMBER_WIDTH)
 }
 
-pub(crate) fn words_at(words: &[u32], i: u32) -> &[u32]
-    ensures { λ r. ⌜ now r ≡ rowOf wordWidth (now (words .entry)) i ⌝ }
+pub(crate) fn words_at(older: bool, words: &[u32], i: u32) -> &[u32]
+    ensures { λ r. ⌜ now r ≡ rowOf (wordWidth older) (now (words .entry)) i ⌝ }
 {
+    if older {
+        return words_from(words, wide(i) * OLDER_WIDTH, OLDER_WIDTH);
+    }
     words_from(words, wide(i) * WORD_WIDTH, WORD_WIDTH)
 }
 

@@ -139,7 +139,7 @@ fn alone(numbers: &[f64], words: &[u32], window: &[u32]) -> FallingAnswer {
     let many = tables::word(window, 0, 9);
     let own = words_part(&cells, first as usize, many as usize);
     let late = words_part(words, 3, 6);
-    let rules = bodies::rules_from(numbers, late);
+    let rules = bodies::with_cap(bodies::rules_from(numbers, late), 128); // an older caller's row
     let body = bodies::body_from(numbers, late);
     let given = bodies::motion_from(numbers, late);
     let sum = bodies::number_at(numbers, 19);
@@ -224,7 +224,7 @@ fn call(records: &[u32; 80], windows_count: u32, numbers: &[f64], words: &[u32],
     let shapes = SHAPES;
     let windows = WINDOWS;
     let cells = CELLS;
-    midnight::run(records, &shapes, &windows, windows_count, &cells, numbers, words, bodies_count, out)
+    midnight::run_older(records, &shapes, &windows, windows_count, &cells, numbers, words, bodies_count, out)
 }
 
 fn tell_written(out: &[f64]) {

@@ -91,9 +91,13 @@ fn window_in(origin: Pos, x: u32, y: u32, z: u32, lowest: i32, highest: i32) -> 
 }
 
 fn collect(case: u8, cells: &[u32], w: Window, a: Aabb) {
+    collect_under(128, case, cells, w, a);
+}
+
+fn collect_under(cap: u32, case: u8, cells: &[u32], w: Window, a: Aabb) {
     let records = RECORDS;
     let shapes = SHAPES;
-    let got = moves::collect_block_boxes(&records, &shapes, cells, w, a);
+    let got = moves::collect_block_boxes(&records, &shapes, cells, w, a, cap);
     say(b"collect ", case, got.refusal);
     io::write_all(1, b", boxes ");
     let n = got.list.count;
@@ -128,6 +132,24 @@ fn caps() {
     let more = layers(2);
     collect(2, &more, w, a); // 129 boxes
     hits(1, &more, w, a); // a hit meets no 6
+}
+
+// The same under other caps.
+fn higher_caps() {
+    let w = window_of(Pos { x: 0, y: -1, z: 0 }, 4, 2, 2);
+    let a = area(3.97, 0.9, 1.9);
+    let more = layers(2);
+    collect_under(0, 30, &more, w, a); // 129 boxes under a cap of 0, which is 512
+    collect_under(129, 31, &more, w, a); // and under one of 129
+}
+
+fn lower_caps() {
+    let w = window_of(Pos { x: 0, y: -1, z: 0 }, 4, 2, 2);
+    let a = area(3.97, 0.9, 1.9);
+    let full = layers(0);
+    collect_under(127, 32, &full, w, a); // 128 boxes under one of 127
+    collect_under(512, 33, &full, w, a);
+    collect_under(513, 34, &full, w, a); // no cap
 }
 
 // Sixteen cells of air in eight loaded columns.
@@ -224,7 +246,7 @@ fn step_height(case: u8, highest: i32, step: f64, delta: f64) {
     let shapes = SHAPES;
     let cells = EMPTY;
     let w = window_in(Pos { x: 0, y: -1, z: 0 }, 4, 2, 2, -64, highest);
-    let got = moves::move_aabb(&records, &shapes, &cells, w, area(0.5, 0.5, 0.5), vec(delta, 0.0, 0.0), step, false);
+    let got = moves::move_aabb(&records, &shapes, &cells, w, area(0.5, 0.5, 0.5), vec(delta, 0.0, 0.0), step, false, 0);
     say(b"step ", case, got.refusal);
     if got.result.moved.x == delta {
         io::write_all(1, b", went all the way\n");
@@ -249,7 +271,7 @@ fn is_same(a: Vec3, b: Vec3) -> bool {
 fn goes(case: u8, cells: &[u32], w: Window, b: Aabb, delta: Vec3, moved: Vec3) {
     let records = RECORDS;
     let shapes = SHAPES;
-    let got = moves::move_aabb(&records, &shapes, cells, w, b, delta, 0.0, false);
+    let got = moves::move_aabb(&records, &shapes, cells, w, b, delta, 0.0, false, 0);
     say(b"move ", case, got.refusal);
     if is_same(got.result.moved, moved) {
         io::write_all(1, b", went as far as it must");
@@ -326,6 +348,8 @@ fn skies() {
 
 fn main() {
     caps();
+    higher_caps();
+    lower_caps();
     rims();
     fences();
     fences_beside_unloaded();

@@ -11,6 +11,7 @@ use Rattle.boxes.specs.declared.Aabb.{Aabb}
 use Rattle.boxes.specs.Boxes.{box}
 use Rattle.boxes.specs.Limits.{isBox, isDelta, isStep}
 use Rattle.sweeps.specs.declared.Request.{Request}
+use Rattle.sweeps.specs.Lists.{isCap}
 use Rattle.bodies.specs.Numbers.{numberAt, vecFrom}
 
 abbrev pub vecAt : List Float → ℕ → Vec3
@@ -27,9 +28,9 @@ requestOf mover step ground = record { aabb = aabbAt mover 0; delta = vecAt move
 abbrev pub moverFits : List Float → Bool → Bool
 moverFits mover sound = eqb (length mover) 9 && (sound && (isBox (aabbAt mover 0) && isDelta (vecAt mover 6)))
 
--- 3 for the step height and for a ground that is neither 0 nor 1; 4 for the mover, or where what is moved over is not `sound`; else 0
-unfoldable pub moverRefusal : List Float → Float → ℕ → Bool → ℕ
-moverRefusal mover step ground sound = choose (ltb ground 2 && isStep step) (choose (moverFits mover sound) 0 4) 3
+-- 3 for a cap above 512, the step height, and a ground that is neither 0 nor 1; 4 for the mover, or where what is moved over is not `sound`; else 0
+unfoldable pub moverRefusal : ℕ → List Float → Float → ℕ → Bool → ℕ
+moverRefusal cap mover step ground sound = choose (isCap cap && (ltb ground 2 && isStep step)) (choose (moverFits mover sound) 0 4) 3
 
 -- lengths that fit, a ground that is 0 or 1, and room for ten numbers; `places` are how many numbers there is room for
 abbrev pub wholeMove : List Float → ℕ → ℕ → Bool

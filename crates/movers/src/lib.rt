@@ -45,17 +45,18 @@ fn mover_fits(mover: &[f64], sound: bool) -> bool
 }
 
 // 3, then 4, or 0; `sound` says whether what is moved over is.
-pub fn mover_refusal(mover: &[f64], step: f64, ground: u32, sound: bool) -> u32
-    ensures { λ r. ⌜ r ≡ moverRefusal (now (mover .entry)) step ground sound ⌝ }
+pub fn mover_refusal(cap: u32, mover: &[f64], step: f64, ground: u32, sound: bool) -> u32
+    ensures { λ r. ⌜ r ≡ moverRefusal cap (now (mover .entry)) step ground sound ⌝ }
 {
-    if ground < 2 {
-        if boxes::is_step(step) {
-            if mover_fits(mover, sound) {
-                return 0;
+    if sweeps::is_cap(cap) {
+        if ground < 2 {
+            if boxes::is_step(step) {
+                if mover_fits(mover, sound) {
+                    return 0;
+                }
+                return 4;
             }
-            return 4;
         }
-        return 3;
     }
     3
 }

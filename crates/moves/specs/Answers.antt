@@ -9,7 +9,7 @@ use Rattle.boxes.specs.declared.Aabb.{Aabb}
 use Rattle.boxes.specs.Limits.{isBox, isDelta, isStep}
 use Rattle.sweeps.specs.declared.MoveResult.{MoveResult}
 use Rattle.sweeps.specs.declared.MoveAnswer.{MoveAnswer}
-use Rattle.sweeps.specs.Lists.{Held}
+use Rattle.sweeps.specs.Lists.{Held, isCap, capOf}
 use Rattle.sweeps.specs.Entry.{refusedMove}
 use Rattle.window.specs.declared.Window.{Window}
 use Rattle.window.specs.Look.{lookAt}
@@ -25,11 +25,15 @@ abbrev pub moveAnswer : Aabb → Ask MoveResult → MoveAnswer
 moveAnswer aabb (refused n) = record { refusal = n; result = refusedMove aabb }
 moveAnswer aabb (found m) = record { refusal = 0; result = m }
 
--- ---- what a host calls: 1, 2, 3 and 4 in order, before any cell is asked for; then 5 or 6
+-- ---- what a host calls: 1, 2, 3, also for the cap, and 4 in order, before any cell is asked for; then 5 or 6
 
-unfoldable pub collectEntry : List ℕ → List Float → List ℕ → Window → Aabb → Held
-collectEntry records shapes cells w area =
-    heldAsked (direct records shapes cells w (unless (not (isBox area)) 4 (collectBlockBoxes (lookAt cells w) records shapes area)))
+unfoldable pub collectEntry : ℕ → List ℕ → List Float → List ℕ → Window → Aabb → Held
+collectEntry cap records shapes cells w area =
+    heldAsked
+    (direct records shapes cells w
+    (unless (not (isCap cap)) 3
+    (unless (not (isBox area)) 4
+    (collectBlockBoxes (capOf cap) (lookAt cells w) records shapes area))))
 
 abbrev pub hitAnswer : Ask Bool → HitAnswer
 hitAnswer (refused n) = record { refusal = n; hit = false }
@@ -39,20 +43,20 @@ unfoldable pub collidesEntry : List ℕ → List Float → List ℕ → Window �
 collidesEntry records shapes cells w area =
     hitAnswer (direct records shapes cells w (unless (not (isBox area)) 4 (collidesWithBlocks (lookAt cells w) records shapes area)))
 
-unfoldable pub moveEntry : List ℕ → List Float → List ℕ → Window → Aabb → Vec3 → Float → Bool → MoveAnswer
-moveEntry records shapes cells w aabb delta stepHeight wasOnGround =
+unfoldable pub moveEntry : ℕ → List ℕ → List Float → List ℕ → Window → Aabb → Vec3 → Float → Bool → MoveAnswer
+moveEntry cap records shapes cells w aabb delta stepHeight wasOnGround =
     moveAnswer aabb
     (direct records shapes cells w
-    (unless (not (isStep stepHeight)) 3
+    (unless (not (isCap cap && isStep stepHeight)) 3
     (unless (not (isBox aabb && isDelta delta)) 4
-    (moveAabb (lookAt cells w) records shapes aabb delta stepHeight wasOnGround))))
+    (moveAabb (capOf cap) (lookAt cells w) records shapes aabb delta stepHeight wasOnGround))))
 
 -- over a summary: 11 and 13 after 4, then the move over cells and columns
-unfoldable pub moveSummed : List ℕ → List Float → List ℕ → Window → Aabb → Vec3 → Float → Bool → MoveAnswer
-moveSummed records shapes words w aabb delta stepHeight wasOnGround =
+unfoldable pub moveSummed : ℕ → List ℕ → List Float → List ℕ → Window → Aabb → Vec3 → Float → Bool → MoveAnswer
+moveSummed cap records shapes words w aabb delta stepHeight wasOnGround =
     moveAnswer aabb
     (direct records shapes (plain words w) w
-    (unless (not (isStep stepHeight)) 3
+    (unless (not (isCap cap && isStep stepHeight)) 3
     (unless (not (isBox aabb && isDelta delta)) 4
     (summed records words w
-    (moveAabb (lookAt (plain words w) w) records shapes aabb delta stepHeight wasOnGround)))))
+    (moveAabb (capOf cap) (lookAt (plain words w) w) records shapes aabb delta stepHeight wasOnGround)))))

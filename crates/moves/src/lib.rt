@@ -20,18 +20,21 @@ pub struct HitAnswer {
     pub hit: bool,
 }
 
-// For hosts: collection, with tables, window and area checked before any cell is asked for.
-pub fn collect_block_boxes(records: &[u32], shapes: &[f32], cells: &[u32], w: Window, area: Aabb) -> Collected
-    ensures { λ r. ⌜ heldIn r ≡ collectEntry (now (records .entry)) (now (shapes .entry)) (now (cells .entry)) w area ⌝ }
+// For hosts: collection, with tables, window, cap and area checked before any cell is asked for.
+pub fn collect_block_boxes(records: &[u32], shapes: &[f32], cells: &[u32], w: Window, area: Aabb, cap: u32) -> Collected
+    ensures { λ r. ⌜ heldIn r ≡ collectEntry cap (now (records .entry)) (now (shapes .entry)) (now (cells .entry)) w area ⌝ }
 {
     let bad = lent::check_direct(records, shapes, cells, w);
     if bad != 0 {
         return Collected::refused(bad);
     }
-    if boxes::is_box(area) {
-        return collection::collect(records, shapes, cells, w, area);
+    if sweeps::is_cap(cap) {
+        if boxes::is_box(area) {
+            return collection::collect(cap, records, shapes, cells, w, area);
+        }
+        return Collected::refused(4);
     }
-    Collected::refused(4)
+    Collected::refused(3)
 }
 
 // For hosts: whether a block box strictly overlaps the area.
@@ -76,16 +79,16 @@ fn is_fit(aabb: Aabb, delta: Vec3) -> bool
 }
 
 // For hosts: the move through a window. 1, 2, 3 and 4 in order, before any cell is asked for; then 5 or 6.
-pub fn move_aabb(records: &[u32], shapes: &[f32], cells: &[u32], w: Window, aabb: Aabb, delta: Vec3, step: f64, ground: bool) -> MoveAnswer
-    ensures { λ r. ⌜ r ≡ moveEntry (now (records .entry)) (now (shapes .entry)) (now (cells .entry)) w aabb delta step ground ⌝ }
+pub fn move_aabb(records: &[u32], shapes: &[f32], cells: &[u32], w: Window, aabb: Aabb, delta: Vec3, step: f64, ground: bool, cap: u32) -> MoveAnswer
+    ensures { λ r. ⌜ r ≡ moveEntry cap (now (records .entry)) (now (shapes .entry)) (now (cells .entry)) w aabb delta step ground ⌝ }
 {
     let bad = lent::check_direct(records, shapes, cells, w);
     if bad != 0 {
         return refused_move(bad, aabb);
     }
-    if boxes::is_step(step) {
+    if sweeps::is_cap(cap) & boxes::is_step(step) {
         if is_fit(aabb, delta) {
-            let told = through::move_through(records, shapes, cells, w, aabb, delta, step, ground);
+            let told = through::move_through(cap, records, shapes, cells, w, aabb, delta, step, ground);
             return match told {
                 AskedMove::Refused(n) => refused_move(n, aabb),
                 AskedMove::To(m) => MoveAnswer {
@@ -100,21 +103,21 @@ pub fn move_aabb(records: &[u32], shapes: &[f32], cells: &[u32], w: Window, aabb
 }
 
 // For hosts: the move through a window with a summary behind its words, by which it passes over layers. As `move_aabb`, with 11 and 13 after 4.
-pub fn move_summed(records: &[u32], shapes: &[f32], words: &[u32], w: Window, aabb: Aabb, delta: Vec3, step: f64, ground: bool) -> MoveAnswer
-    ensures { λ r. ⌜ r ≡ moveSummed (now (records .entry)) (now (shapes .entry)) (now (words .entry)) w aabb delta step ground ⌝ }
+pub fn move_summed(cap: u32, records: &[u32], shapes: &[f32], words: &[u32], w: Window, aabb: Aabb, delta: Vec3, step: f64, ground: bool) -> MoveAnswer
+    ensures { λ r. ⌜ r ≡ moveSummed cap (now (records .entry)) (now (shapes .entry)) (now (words .entry)) w aabb delta step ground ⌝ }
 {
     let cells = summary::plain_words(words, w);
     let bad = lent::check_direct(records, shapes, cells, w);
     if bad != 0 {
         return refused_move(bad, aabb);
     }
-    if boxes::is_step(step) {
+    if sweeps::is_cap(cap) & boxes::is_step(step) {
         if is_fit(aabb, delta) {
             let wrong = groups::check_summary(records, words, w);
             if wrong != 0 {
                 return refused_move(wrong, aabb);
             }
-            let told = through::move_through(records, shapes, words, w, aabb, delta, step, ground);
+            let told = through::move_through(cap, records, shapes, words, w, aabb, delta, step, ground);
             return match told {
                 AskedMove::Refused(n) => refused_move(n, aabb),
                 AskedMove::To(m) => MoveAnswer {

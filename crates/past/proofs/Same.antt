@@ -24,7 +24,7 @@ use Rattle.ranges.specs.Ranges.{placeAt}
 use Rattle.ranges.specs.Walk.{line, layer, walk}
 use Rattle.solids.specs.Shapes.{boxes, aabbsOf, shapeOf, cellShape}
 use Rattle.solids.proofs.Boxes.{head-registered, plain-shape}
-use Rattle.collection.specs.Collect.{offerAll, visit, rangeOf, push, pushed, collectUpTo}
+use Rattle.collection.specs.Collect.{offerAll, visit, rangeOf, push, pushed, collectBlockBoxes}
 use Rattle.groups.specs.Groups.{isEmptyState, isEmpty}
 use Rattle.groups.specs.Summary.{wordsBefore}
 use Rattle.groups.proofs.Sets.{Kept}
@@ -68,14 +68,14 @@ module _ {S : Type 0} (accept : Aabb → S → Ask (Turn S Bool)) (area : Aabb) 
 -- ---- collection
 module _ (words : List ℕ) (w : Window) (records : List ℕ) (shapes : List Float) where
   -- by a summary whose words are those built afresh
-  pub collection-with : Kept records words w → (cap : ℕ) (area : Aabb) → collectPast (passes words w) cap (lookAt words w) records shapes area ≡ collectUpTo cap (lookAt words w) records shapes area
+  pub collection-with : Kept records words w → (cap : ℕ) (area : Aabb) → collectPast (passes words w) cap (lookAt words w) records shapes area ≡ collectBlockBoxes cap (lookAt words w) records shapes area
   collection-with kept cap area =
       collects (passes words w) cap (lookAt words w) records shapes area
       (λ y e s. idle-layer (visit (push cap) area (lookAt words w) records shapes) (rangeOf area) y
       (λ x z hx hz t. cell-adds-nothing (push cap) area (lookAt words w) records shapes (placeAt (rangeOf area) x y z) t (clear words w (rangeOf area) y e x z hx hz records kept)) s)
 
   -- and where the words of cells and columns stand alone
-  pub collection-without : length words ≤ wordsBefore (w .sizes) → (cap : ℕ) (area : Aabb) → collectPast (passes words w) cap (lookAt words w) records shapes area ≡ collectUpTo cap (lookAt words w) records shapes area
+  pub collection-without : length words ≤ wordsBefore (w .sizes) → (cap : ℕ) (area : Aabb) → collectPast (passes words w) cap (lookAt words w) records shapes area ≡ collectBlockBoxes cap (lookAt words w) records shapes area
   collection-without short cap area =
       collects (passes words w) cap (lookAt words w) records shapes area
       (λ y e s. idle-layer (visit (push cap) area (lookAt words w) records shapes) (rangeOf area) y

@@ -83,9 +83,9 @@ fn run_scene(n: u32) {
     libc::close(fd);
 }
 
-// The scenes that were made with heights and columns, and those of both marks.
+// The scenes that were made with heights and columns, those of both marks, and those of a cap.
 pub(crate) fn run_scenes() {
-    let most: u32 = 2124;
+    let most: u32 = 3204;
     for n in 0..most {
         run_scene(n);
     }

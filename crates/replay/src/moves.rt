@@ -1,9 +1,10 @@
-// The move over a list: `movelist box6 delta3 step ground n box6*n`.
+// The move over a list: `movelist box6 delta3 step ground n box6*n`, under the cap of 128 that the original's answers were made with.
 use boxes::Aabb;
 use sweeps::BoxList;
 use sweeps::MoveAnswer;
 use boxes::Vec3;
 ghost use Prim.Native.Nat.{_≤_};
+ghost use Rattle.sweeps.specs.Lists.{room};
 
 // The vector whose three numbers begin at the k-th word.
 fn vec3(line: &[u8], k: usize) -> Vec3 {
@@ -21,9 +22,9 @@ fn aabb(line: &[u8], k: usize) -> Aabb {
 
 // How many boxes a list has room for, of those that a line has.
 fn held(count: usize) -> usize
-    ensures { λ r. ⌜ r ≤ 128 ⌝ }
+    ensures { λ r. ⌜ r ≤ room ⌝ }
 {
-    if count < 128 { count } else { 128 }
+    sweeps::counted(count)
 }
 
 // The list with its count as the line has it, also where that is above its room.
@@ -43,7 +44,7 @@ fn answer(line: &[u8]) -> MoveAnswer {
     let delta = vec3(line, 7);
     let step = crate::text::float(line, 10);
     let ground = crate::text::number(line, 11) == 1;
-    list_moves::move_over_list(list(line), mover, delta, step, ground)
+    list_moves::move_over_list(128, list(line), mover, delta, step, ground)
 }
 
 fn put_vec3(v: Vec3) {

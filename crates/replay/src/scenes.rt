@@ -1,7 +1,7 @@
 // The scene files of data/, by number: each with what `onetick` prints of it, its lines joined by `; `, and behind them the case of its sample; then
 // with what `rewrite` does. From 1000 to 1999 they are scenes of the layout without heights and columns, converted (tools/convert): not each has a
-// likeness, so a number without a file is passed over, and of none is the case among the original's answers. From 2000 on they are of both marks. The
-// stored answers have a line for each that must be there.
+// likeness, so a number without a file is passed over, and of none is the case among the original's answers. From 2000 on they are of both marks, and from
+// 3000 on of a cap. The stored answers have a line for each that must be there.
 ghost use mathlib.Core.Path.{_≡_};
 ghost use lib.ListN.{length};
 
@@ -124,7 +124,7 @@ fn run(n: u32) {
 }
 
 pub(crate) fn run_all() {
-    let most: u32 = 2124;
+    let most: u32 = 3204;
     for n in 0..most {
         run(n);
     }

@@ -84,7 +84,7 @@ module _ (file : List ℕ) (small : (i : ℕ) → getD file i 0 < 256) (s : isSc
         cells = at-place (λ w. w < 4294967296) (partWord file (cellPart (n .states) (n .boxes) (n .cells))) (n .cells) 0 (fit (cellPart (n .states) (n .boxes) (n .cells))) (omega arith);
         window = record { x = signed-fits _ (fit w 0); y = signed-fits _ (fit w 1); z = signed-fits _ (fit w 2); low = signed-fits _ (fit w 6); high = signed-fits _ (fit w 7) };
         numbers = at-place (λ x. T (fits binary64 x)) (bodyFloat file) 19 zero64 (λ k. ofBits-fits binary64 _) (ofBits-fits binary64 0);
-        words = at-place (λ w. w < 4294967296) (lateWord file) 6 0 (λ k. fit bodyPart (wordPlace k)) (omega arith);
+        words = at-place (λ w. w < 4294967296) (lateWord file) 7 0 (λ k. fit bodyPart (wordPlace k)) (omega arith);
         age = wide-fits _ _ (fit bodyPart 38) (fit bodyPart 39);
       }
 

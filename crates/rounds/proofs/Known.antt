@@ -20,6 +20,7 @@ use Rattle.table_check.specs.Check.{four, sideFits, boxFits}
 use Rattle.bodies.specs.declared.BodyNumbers.{BodyNumbers}
 use Rattle.bodies.specs.declared.Rules.{Rules}
 use Rattle.bodies.specs.Numbers.{numberAt}
+use Rattle.sweeps.specs.Lists.{isCap}
 use Rattle.bodies.specs.Limits.{isExtent, isSmall, measuresFit, casesFit, rulesFit, numbersFit, isPosition, isVelocity, motionFits}
 use Rattle.bodies.specs.Lent.{motionAt, bodyAt, rulesAt}
 use Rattle.files.specs.Contents.{Contents}
@@ -110,7 +111,9 @@ ruled records r h =
     let g = isSmall (r .gravity) in
     let w = isSmall (r .water) in
     let l = isSmall (r .lava) in
-    let h₁ = both (f && d && g && w && l) (isRegistered records (r .air)) h in
+    let a = isRegistered records (r .air) in
+    let h₀ = both (f && d && g && w && l && a) (isCap (r .cap)) h in
+    let h₁ = both (f && d && g && w && l) a (h₀ .one) in
     let h₂ = both (f && d && g && w) l (h₁ .one) in
     let h₃ = both (f && d && g) w (h₂ .one) in
     let h₄ = both (f && d) g (h₃ .one) in

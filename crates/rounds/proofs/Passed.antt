@@ -81,7 +81,7 @@ place cells w h =
 
 record Body (records : List ℕ) (numbers : List Float) (words : List ℕ) : Type 0 where
   numbers-whole : length numbers ≡ 19
-  words-whole : length words ≡ 6
+  words-whole : length words ≡ 7
   numbers-fit : numbersFit records (rulesAt numbers words) (bodyAt numbers words) (motionAt numbers words .ground) ≡ true
   motion-fits : motionFits (motionAt numbers words .feet) (motionAt numbers words .velocity) ≡ true
 
@@ -89,7 +89,7 @@ body : (records : List ℕ) (numbers : List Float) (words : List ℕ) → bodyRe
 unfolding bodyRefusal lengthsFit numberRefusal
 body records numbers words h =
     let l = held (lengthsFit numbers words) (numberRefusal records (rulesAt numbers words) (bodyAt numbers words) (motionAt numbers words)) 2 h in
-    let t = both (eqb (length numbers) 19) (eqb (length words) 6) (l .test) in
+    let t = both (eqb (length numbers) 19) (eqb (length words) 7) (l .test) in
     let n = held (numbersFit records (rulesAt numbers words) (bodyAt numbers words) (motionAt numbers words .ground))
         (choose (motionFits (motionAt numbers words .feet) (motionAt numbers words .velocity)) 0 4) 2 (l .rest) in
     record {
@@ -111,7 +111,7 @@ pub record Passed (c : Contents) : Type 0 where
   pub sizes : sizesFit (c .window .sizes) ≡ true
   pub cells-whole : length (c .cells) ≡ cellCount (c .window .sizes) + columnCount (c .window .sizes)
   pub numbers-whole : length (c .numbers) ≡ 19
-  pub words-whole : length (c .words) ≡ 6
+  pub words-whole : length (c .words) ≡ 7
   pub numbers-fit : numbersFit (c .records) (rulesAt (c .numbers) (c .words)) (bodyAt (c .numbers) (c .words)) (motionAt (c .numbers) (c .words) .ground) ≡ true
   pub motion-fits : motionFits (motionAt (c .numbers) (c .words) .feet) (motionAt (c .numbers) (c .words) .velocity) ≡ true
 

@@ -21,7 +21,7 @@ use Rattle.blocks.specs.Blocks.{blockOf, fileWord, isSecond, partWord, perBlock
 use Rattle.blocks.proofs.Words.{word-fits, block-small}
 use Rattle.files.specs.declared.Counts.{Counts}
 use Rattle.files.proofs.Told.{Told, tells}
-use Rattle.files.specs.Places.{numberPlace, wordPlace, statesPlace, boxesPlace, flapNumber, presentWord, airWord}
+use Rattle.files.specs.Places.{numberPlace, wordPlace, statesPlace, boxesPlace, flapNumber, presentWord, airWord, capWord}
 use Rattle.files.specs.Files.{bodyWord, flapFits, windowIn, countsIn, countsOf, blocksFor, isScene}
 use Rattle.files.specs.Contents.{Contents, bodyFloat, lateWord, ageIn, wordsOf, singlesOf, contentsIn}
 use Rattle.part_writer.specs.Bytes.{partBytes, wordIn, bitsIn}
@@ -103,8 +103,8 @@ module _ (file : List ℕ) (small : (i : ℕ) → getD file i 0 < 256) where
         ap (λ (l : List ℕ). wordIn l i) (words-back (partWord file p) (bodyWord file (wordPlace airWord)) (part-word-fits p)) ∙ listed-from (partWord file p) 8 i 0 h
 
     -- the body
-    pub word-same : (k : ℕ) → k < 6 → wordIn (c .words) k ≡ bodyWord file (wordPlace k)
-    word-same k h = listed-from (lateWord file) 6 k 0 h
+    pub word-same : (k : ℕ) → k < 7 → wordIn (c .words) k ≡ bodyWord file (wordPlace k)
+    word-same k h = listed-from (lateWord file) 7 k 0 h
 
     pub number-same : (k : ℕ) → k < 19 → getD (c .numbers) k zero64 ≡ bodyFloat file k
     number-same k h = listed-from (bodyFloat file) 19 k zero64 h
@@ -163,7 +163,11 @@ module _ (file : List ℕ) (small : (i : ℕ) → getD file i 0 < 256) where
     unfolding bodyWordOf countsIn choose
     boxes-word = refl
 
-    -- word by word: a number's, the age's, one of the six, a count
+    cap-word : bodyWordOf (c .numbers) (c .words) (c .age) n (wordPlace capWord) ≡ bodyWord file (wordPlace capWord)
+    unfolding bodyWordOf choose
+    cap-word = word-same capWord (omega arith)
+
+    -- word by word: a number's, the age's, one of the six before the counts, a count, the cap
     number-word : (i : ℕ) → i < 38 → bodyWordOf (c .numbers) (c .words) (c .age) n i ≡ bodyWord file i
     unfolding bodyWordOf choose
     number-word i h =
@@ -180,24 +184,25 @@ module _ (file : List ℕ) (small : (i : ℕ) → getD file i 0 < 256) where
     late-word : (i : ℕ) → 40 ≤ i → i < 46 → bodyWordOf (c .numbers) (c .words) (c .age) n i ≡ bodyWord file i
     unfolding bodyWordOf choose
     late-word i g h =
-        let e : 40 + (i - 40) ≡ i = omega arith in
+        let e : 40 + (i - 40) + (i - 40) / 6 * 2 ≡ i = omega arith in
         rw (le-ltb i 38 (omega arith), le-ltb i 40 g, lt-ltb i 46 h) (word-same (i - 40) (omega arith) ∙ ap (bodyWord file) e)
 
-    count-word : (i : ℕ) → 46 ≤ i → i < 48 → bodyWordOf (c .numbers) (c .words) (c .age) n i ≡ bodyWord file i
-    count-word i g h = go (decLt i 47)
+    last-word : (i : ℕ) → 46 ≤ i → i < 49 → bodyWordOf (c .numbers) (c .words) (c .age) n i ≡ bodyWord file i
+    last-word i g h = go (decLt i 47) (decLt i 48)
       where
-        go : Dec (i < 47) → bodyWordOf (c .numbers) (c .words) (c .age) n i ≡ bodyWord file i
-        go (yes l) = let e : i ≡ 46 = omega arith in rw e states-word
-        go (no l) = let e : i ≡ 47 = omega arith in rw e boxes-word
+        go : Dec (i < 47) → Dec (i < 48) → bodyWordOf (c .numbers) (c .words) (c .age) n i ≡ bodyWord file i
+        go (yes l) m = let e : i ≡ 46 = omega arith in rw e states-word
+        go (no l) (yes m) = let e : i ≡ 47 = omega arith in rw e boxes-word
+        go (no l) (no m) = let e : i ≡ 48 = omega arith in rw e cap-word
 
-    body-same : (i : ℕ) → i < 48 → bodyWordOf (c .numbers) (c .words) (c .age) n i ≡ bodyWord file i
+    body-same : (i : ℕ) → i < 49 → bodyWordOf (c .numbers) (c .words) (c .age) n i ≡ bodyWord file i
     body-same i h = number (decLt i 38) (decLt i 40) (decLt i 46)
       where
         number : Dec (i < 38) → Dec (i < 40) → Dec (i < 46) → bodyWordOf (c .numbers) (c .words) (c .age) n i ≡ bodyWord file i
         number (yes l) y x = number-word i l
         number (no l) (yes m) x = age-word i (omega arith) m
         number (no l) (no m) (yes k) = late-word i (omega arith) k
-        number (no l) (no m) (no k) = count-word i (omega arith) h
+        number (no l) (no m) (no k) = last-word i (omega arith) h
 
     -- ---- byte for byte, where the file's mark is the new one
     body-bytes : partBytes bodyPart (bodyWordOf (c .numbers) (c .words) (c .age) n) ≡ partBytes bodyPart (partWord file bodyPart)

@@ -26,7 +26,7 @@ use Rattle.lent_words.proofs.Rounds.{unsigned-fits, wide-halves, window-back}
 use Rattle.blocks.specs.declared.Part.{Part}
 use Rattle.blocks.specs.Blocks.{blockOf, isSecond, partWord, partFits, endOf, bodyPart, recordPart, boxPart, windowPart, cellPart}
 use Rattle.files.specs.declared.Counts.{Counts}
-use Rattle.files.specs.Places.{numberPlace, agePlace, wordPlace, statesPlace, boxesPlace, flapNumber, presentWord, airWord}
+use Rattle.files.specs.Places.{numberPlace, agePlace, wordPlace, statesPlace, boxesPlace, flapNumber, presentWord, airWord, capWord}
 use Rattle.files.specs.Files.{bodyWord, flapFits, windowIn, sizesIn, countsIn, countsFit, countsOf, partsFit, blocksFor, blocksFit, isScene}
 use Rattle.files.specs.Contents.{Contents, bodyFloat, numbersIn, lateWord, lateWords, ageIn, wordsOf, singlesOf, contentsBehind, contentsIn}
 use Rattle.part_writer.specs.Bytes.{partBytes, wordIn, bitsIn}
@@ -93,7 +93,8 @@ module _ (c : Contents) (t : Typed c) (p : Passed c) (few : sceneBlocks c ≤ 12
       chosen (ltb i agePlace) _ _ 4294967296 (half-fits _ (i % 2) (toBits-lt binary64 _ (number-fits (i / 2))))
       (chosen (ltb i (wordPlace 0)) _ _ 4294967296 (half-fits (c .age) (i - agePlace) (t .age))
       (chosen (ltb i statesPlace) _ _ 4294967296 (t .words (i - wordPlace 0))
-      (chosen (eqb i statesPlace) (stateCount (c .records)) (boxCount (c .shapes)) 4294967296 (omega arith) (omega arith))))
+      (chosen (eqb i statesPlace) (stateCount (c .records)) _ 4294967296 (omega arith)
+      (chosen (eqb i boxesPlace) (boxCount (c .shapes)) _ 4294967296 (omega arith) (t .words capWord)))))
 
   bits-fit : (i : ℕ) → bitsIn (c .shapes) i < 4294967296
   unfolding bitsIn
@@ -151,7 +152,7 @@ module _ (c : Contents) (t : Typed c) (p : Passed c) (few : sceneBlocks c ≤ 12
   new-mark = holds-new file body body-held
 
   -- ---- the body's words
-  body-word : (i : ℕ) → i < 48 → bodyWord file i ≡ body i
+  body-word : (i : ℕ) → i < 49 → bodyWord file i ≡ body i
   body-word i h = holds-word file new-mark bodyPart body body-held (omega arith) (omega arith) (λ i g. body-fits i) i h
 
   states-read : bodyWord file statesPlace ≡ n .states
@@ -162,12 +163,24 @@ module _ (c : Contents) (t : Typed c) (p : Passed c) (few : sceneBlocks c ≤ 12
   unfolding bodyWordOf choose
   boxes-read = body-word boxesPlace (omega arith)
 
-  word-read : (k : ℕ) → k < 6 → bodyWord file (wordPlace k) ≡ wordIn (c .words) k
+  -- the six before the counts
+  early-read : (k : ℕ) → k < 6 → bodyWord file (40 + k) ≡ wordIn (c .words) k
   unfolding bodyWordOf choose
-  word-read k h =
+  early-read k h =
       let e : 40 + k - 40 ≡ k = omega arith in
       body-word (40 + k) (omega arith)
       ∙ rw (le-ltb (40 + k) 38 (omega arith), le-ltb (40 + k) 40 (omega arith), lt-ltb (40 + k) 46 (omega arith), e)
+
+  cap-read : bodyWord file (wordPlace capWord) ≡ wordIn (c .words) capWord
+  unfolding bodyWordOf choose
+  cap-read = body-word (wordPlace capWord) (omega arith)
+
+  word-read : (k : ℕ) → k < 7 → bodyWord file (wordPlace k) ≡ wordIn (c .words) k
+  word-read k h = go (decLt k 6)
+    where
+      go : Dec (k < 6) → bodyWord file (wordPlace k) ≡ wordIn (c .words) k
+      go (yes l) = let e : 40 + k + k / 6 * 2 ≡ 40 + k = omega arith in rw e (early-read k l)
+      go (no l) = let e : k ≡ capWord = omega arith in rw e cap-read
 
   low-read : (k : ℕ) → k < 19 → bodyWord file (numberPlace k) ≡ lowOf (toBits binary64 (writtenNumber (c .numbers) (c .words) k))
   unfolding bodyWordOf halfOf choose
@@ -261,7 +274,7 @@ module _ (c : Contents) (t : Typed c) (p : Passed c) (few : sceneBlocks c ≤ 12
           (λ i h. holds-word file new-mark (cellPart (n .states) (n .boxes) (n .cells)) (wordIn (c .cells)) cells-held few (omega arith) (λ i h. t .cells i) i h) in
       let m = listed-list (bodyFloat file) (listed (writtenNumber (c .numbers) (c .words)) 19 0) 19 zero64 (listed-length (writtenNumber (c .numbers) (c .words)) 19 0)
           (λ k h. number-read k h ∙ sym (listed-from (writtenNumber (c .numbers) (c .words)) 19 k zero64 h)) in
-      let w = listed-list (lateWord file) (c .words) 6 0 (p .words-whole) (λ k h. word-read k h) in
+      let w = listed-list (lateWord file) (c .words) 7 0 (p .words-whole) (λ k h. word-read k h) in
       rw (counts-read, r, s, l, window-read, m, w, age-read)
     where
       single : (i : ℕ) → i < n .boxes * 6 → ofBits binary32 (partWord file (boxPart (n .states) (n .boxes)) i) ≡ getD (c .shapes) i zero64

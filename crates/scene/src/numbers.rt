@@ -1,4 +1,4 @@
-// The numbers of a scene's body: 19 numbers, 6 words and its age. Which is which is for `bodies` to say.
+// The numbers of a scene's body: 19 numbers, 7 words and its age. Which is which is for `bodies` to say.
 use files::body_word;
 use files::places;
 use lent_words::join;
@@ -27,14 +27,15 @@ pub(crate) fn numbers_in(file: &[u8]) -> [f64; 19]
     numbers
 }
 
-// The words behind the numbers and the age.
-pub(crate) fn words_in(file: &[u8]) -> [u32; 6]
+// The words behind the numbers and the age; the last of them is the cap, behind the two counts.
+pub(crate) fn words_in(file: &[u8]) -> [u32; 7]
     ensures { λ r. ⌜ r ≡ lateWords (now (file .entry)) ⌝ }
 {
-    let mut words = [0; 6];
+    let mut words = [0; 7];
     let mut k = 0u8;
-    while k < 6 {
-        words[k as usize] = body_word(file, places::WORDS + k as u32);
+    while k < 7 {
+        let i = k as u32;
+        words[k as usize] = body_word(file, places::WORDS + i + i / places::CAP * places::COUNTS);
         k += 1;
     }
     words

@@ -14,13 +14,8 @@ any-default (x ∷ xs) zero y z h = refl
 any-default (x ∷ xs) (suc k) y z h = any-default xs k y z (le-of-suc-le-suc h)
 
 module _ {A : Type 0} (l : List A) (count most : ℕ) (whole : length l ≡ most) where
-  pub few : count < most → count ≡ length (take count l)
-  few h =
-      let m : length (take count l) ≡ min count (length l) = length-take count l in
-      omega arith
-
-  pub many : most ≤ count → most ≡ length (take count l)
-  many h =
+  pub as-many : (n : ℕ) → n ≡ min count most → n ≡ length (take count l)
+  as-many n h =
       let m : length (take count l) ≡ min count (length l) = length-take count l in
       omega arith
 

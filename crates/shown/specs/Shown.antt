@@ -10,7 +10,7 @@ use lib.Ieee.{Float, binary64, ofInt}
 use Rattle.base.specs.Choose.{choose}
 use Rattle.base.specs.Loop.{stored}
 use Rattle.boxes.specs.declared.Aabb.{Aabb}
-use Rattle.sweeps.specs.Lists.{Held, noBox}
+use Rattle.sweeps.specs.Lists.{Held, capOf, noBox}
 use Rattle.lent.specs.Lent.{direct, unless}
 use Rattle.movers.specs.Movers.{vecAt, aabbAt, moverRefusal}
 use Rattle.window.specs.declared.Window.{Window}
@@ -23,17 +23,17 @@ abbrev pub sweptBy : List Float → Float → Aabb
 sweptBy mover step = sweptArea (aabbAt mover 0) (vecAt mover 6) step
 
 -- 3, then 4, or 0: what a move is refused for, whatever the ground
-abbrev pub earlyOf : List Float → Float → ℕ
-earlyOf mover step = moverRefusal mover step 0 true
+abbrev pub earlyOf : ℕ → List Float → Float → ℕ
+earlyOf cap mover step = moverRefusal cap mover step 0 true
 
 -- what the move collects: 1, 2, 3, 4 and 11 in order, before any cell is asked for; then 5 or 6. A refusal has no box.
-unfoldable pub collectedAt : List ℕ → List Float → List ℕ → Window → List Float → Float → ℕ → Held
-collectedAt records shapes cells w mover step places =
+unfoldable pub collectedAt : ℕ → List ℕ → List Float → List ℕ → Window → List Float → Float → ℕ → Held
+collectedAt cap records shapes cells w mover step places =
     heldAsked
     (direct records shapes cells w
-    (unless (not (eqb (earlyOf mover step) 0)) (earlyOf mover step)
+    (unless (not (eqb (earlyOf cap mover step) 0)) (earlyOf cap mover step)
     (unless (ltb places 7) 11
-    (collectBlockBoxes (lookAt cells w) records shapes (sweptBy mover step)))))
+    (collectBlockBoxes (capOf cap) (lookAt cells w) records shapes (sweptBy mover step)))))
 
 -- how many boxes there are, and box k, zeros where k is not below that: seven numbers
 abbrev pub numbersAt : List Aabb → ℕ → List Float

@@ -24,28 +24,28 @@ fn swept_by(mover: &[f64], step: f64) -> Aabb
 }
 
 // What the move collects, or its refusal: 1 to 4 and 11 before any cell is asked for.
-fn collected(records: &[u32], shapes: &[f32], cells: &[u32], w: Window, mover: &[f64], step: f64, places: usize) -> Collected
-    ensures { λ r. ⌜ heldIn r ≡ collectedAt (now (records .entry)) (now (shapes .entry)) (now (cells .entry)) w (now (mover .entry)) step places ⌝ }
+fn collected(cap: u32, records: &[u32], shapes: &[f32], cells: &[u32], w: Window, mover: &[f64], step: f64, places: usize) -> Collected
+    ensures { λ r. ⌜ heldIn r ≡ collectedAt cap (now (records .entry)) (now (shapes .entry)) (now (cells .entry)) w (now (mover .entry)) step places ⌝ }
 {
     let bad = lent::check_direct(records, shapes, cells, w);
     if bad != 0 {
         return Collected::refused(bad);
     }
-    let early = movers::mover_refusal(mover, step, 0, true);
+    let early = movers::mover_refusal(cap, mover, step, 0, true);
     if early != 0 {
         return Collected::refused(early);
     }
     if places < 7 {
         return Collected::refused(11);
     }
-    collection::collect(records, shapes, cells, w, swept_by(mover, step))
+    collection::collect(cap, records, shapes, cells, w, swept_by(mover, step))
 }
 
 // How many boxes a list has: a count above its room is the room.
 fn count_of(list: BoxList) -> u32
     ensures { λ r. ⌜ r ≡ length (listOf list) ⌝ }
 {
-    if list.count < 128 { list.count as u32 } else { 128 }
+    sweeps::counted(list.count) as u32
 }
 
 fn nth_box(list: BoxList, k: u32) -> Aabb
@@ -70,8 +70,9 @@ fn put_nth(out: &mut [f64], list: BoxList, k: u32)
     put_vec(out, 4, b.max);
 }
 
-// The boxes that the move of a box through a window collects, one at a call: `mover` is the box and its delta, nine numbers. It writes how many
-// boxes there are, then box k, zeros where k is not below that, seven numbers, and returns 0; or it writes nothing and returns 1 to 4, 11, 5 or 6.
+// The boxes that the move of a box through a window collects, one at a call: `mover` is the box and its delta, nine numbers, and `cap` how many it
+// may collect, 0 to 512, where 0 stands for 512. It writes how many boxes there are, then box k, zeros where k is not below that, seven numbers, and
+// returns 0; or it writes nothing and returns 1 to 4, 11, 5 or 6.
 #[no_mangle]
 pub extern "C" fn boltjuniper_collected(
     records: &[u32],
@@ -88,14 +89,15 @@ pub extern "C" fn boltjuniper_collected(
     air: u32,
     mover: &[f64],
     step: f64,
+    cap: u32,
     k: u32,
     out: &mut [f64],
 ) -> u32
-    ensures { λ r. ⌜ r ≡ collectedAt (now (records .entry)) (now (shapes .entry)) (now (cells .entry)) (windowOf ox oy oz sx sy sz lowest highest air) (now (mover .entry)) step (length (now (out .entry))) .refusal ⌝ }
-    ensures { λ _. ⌜ now (out .exit) ≡ boxWritten (now (out .entry)) (collectedAt (now (records .entry)) (now (shapes .entry)) (now (cells .entry)) (windowOf ox oy oz sx sy sz lowest highest air) (now (mover .entry)) step (length (now (out .entry)))) k ⌝ }
+    ensures { λ r. ⌜ r ≡ collectedAt cap (now (records .entry)) (now (shapes .entry)) (now (cells .entry)) (windowOf ox oy oz sx sy sz lowest highest air) (now (mover .entry)) step (length (now (out .entry))) .refusal ⌝ }
+    ensures { λ _. ⌜ now (out .exit) ≡ boxWritten (now (out .entry)) (collectedAt cap (now (records .entry)) (now (shapes .entry)) (now (cells .entry)) (windowOf ox oy oz sx sy sz lowest highest air) (now (mover .entry)) step (length (now (out .entry)))) k ⌝ }
 {
     let w = window::window_of(ox, oy, oz, sx, sy, sz, lowest, highest, air);
-    let c = collected(records, shapes, cells, w, mover, step, out.len());
+    let c = collected(cap, records, shapes, cells, w, mover, step, out.len());
     if c.refusal != 0 {
         return c.refusal;
     }

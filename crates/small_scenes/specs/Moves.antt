@@ -29,7 +29,7 @@ pub record MoveScene : Type 0 where
   pub moved : Vec3
   pub after : Bool
 
--- the boxes as a program holds them: 128 places, and a count
+-- the boxes as a program holds them: a place for each that there is room for, and a count
 unfoldable pub listFor : List Aabb → BoxList
 listFor boxes = record { boxes = boxes ++ replicate (room - length boxes) noBox; count = length boxes }
 

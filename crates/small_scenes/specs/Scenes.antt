@@ -81,7 +81,7 @@ abbrev pub isFoundIn : {A : Type 0} → List ℕ → Window → (A → Bool) →
 isFoundIn cells window test ask = eqb (windowRefusal cells window) 0 && isFound test ask
 
 unfoldable pub holds : Scene → Bool
-holds (move m) = moves (moveOverList (listFor (m .boxes)) mover (m .delta) (m .step) (m .ground)) (m .moved) (m .after)
+holds (move m) = moves (moveOverList 128 (listFor (m .boxes)) mover (m .delta) (m .step) (m .ground)) (m .moved) (m .after)
 holds (join j) =
     let cells : List ℕ = cellsAround (j .column) (j .north) (j .east) (j .south) (j .west) (j .above) (j .it) in
     isFoundIn cells around (eqb (j .comes-to)) (connectedState (lookAt cells around) records middle (j .it))

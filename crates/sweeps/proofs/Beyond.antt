@@ -21,10 +21,10 @@ pub record Alike (k l : BoxList) : Type 0 where
 pub beyond : (l : BoxList) (i : ℕ) (b : Aabb) → l .count ≤ i → Alike record { boxes = set (l .boxes) i b; count = l .count } l
 beyond l i b h = record { count = refl; boxes = take-set-le (l .count) (l .boxes) i b h }
 
-module _ (k l : BoxList) (same : Alike k l) (aabb : Aabb) (delta : Vec3) (step : Float) (ground : Bool) where
+module _ (cap : ℕ) (k l : BoxList) (same : Alike k l) (aabb : Aabb) (delta : Vec3) (step : Float) (ground : Bool) where
   pub same-move : moveOver (listOf k) aabb delta step ground ≡ moveOver (listOf l) aabb delta step ground
   same-move = ap (λ bs. moveOver bs aabb delta step ground) (same .boxes)
 
-  pub same-answer : moveOverList k aabb delta step ground ≡ moveOverList l aabb delta step ground
+  pub same-answer : moveOverList cap k aabb delta step ground ≡ moveOverList cap l aabb delta step ground
   unfolding moveOverList
   same-answer = rw (same .boxes, same .count)

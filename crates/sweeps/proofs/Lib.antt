@@ -3,3 +3,4 @@ pub mod Lists
 pub mod Turns
 pub mod Shape
 pub mod Beyond
+pub mod Caps

@@ -1,7 +1,11 @@
--- The capped list: room for 128 boxes and a count. Its meaning is the list of its first `count` boxes; what lies beyond means nothing.
+-- The capped list: room for 512 boxes and a count, and the cap on it. Its meaning is the list of its first `count` boxes; what lies beyond means
+-- nothing. Document 02's words stand in quotes.
+use mathlib.Core.Bool.{Bool}
 use mathlib.Core.List.{List}
-use Prim.Native.Nat.{ℕ}
+use Prim.Native.Nat.{ℕ, min}
+use lib.Dec.{eqb, leb}
 use lib.ListN.{length, take, replicate}
+use Rattle.base.specs.Choose.{choose}
 use Rattle.floats.specs.Numbers.{zero64}
 use Rattle.boxes.specs.Boxes.{vec, box}
 use Rattle.boxes.specs.declared.Aabb.{Aabb}
@@ -10,7 +14,15 @@ use Rattle.sweeps.specs.declared.Collected.{Collected}
 
 -- how many boxes a list has room for
 abbrev pub room : ℕ
-room = 128
+room = 512
+
+-- "The cap becomes a number in the rules, 0 to 512"; "a cap above 512 is 3"
+unfoldable pub isCap : ℕ → Bool
+isCap cap = leb cap room
+
+-- the cap in force: "0 stands for 512". One that is no cap is refused before, and stands for 512 too
+unfoldable pub capOf : ℕ → ℕ
+capOf cap = choose (eqb cap 0) room (min cap room)
 
 abbrev pub listOf : BoxList → List Aabb
 listOf l = take (l .count) (l .boxes)

@@ -2,7 +2,9 @@
 mod list;
 mod passes;
 
+pub use list::cap_of;
 pub use list::counted;
+pub use list::is_cap;
 pub use passes::axis_of;
 pub use passes::begun;
 pub use passes::clip_along;
@@ -13,9 +15,12 @@ pub use passes::wanted;
 use boxes::Aabb;
 use boxes::Vec3;
 
-// The capped list: room for 128 boxes and a count.
+// How many boxes a list has room for.
+pub const ROOM: usize = 512;
+
+// The capped list: room for 512 boxes and a count.
 pub struct BoxList {
-    pub boxes: [Aabb; 128],
+    pub boxes: [Aabb; ROOM],
     pub count: usize,
 }
 

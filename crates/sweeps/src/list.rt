@@ -1,11 +1,12 @@
-// The capped list: one record, room for 128 boxes and a count. It is built by value; a loop that fills it does so in place, since
+// The capped list: one record, room for 512 boxes and a count. It is built by value; a loop that fills it does so in place, since
 // a call that takes and hands back a list copies it.
 use boxes::Aabb;
 use crate::BoxList;
 use crate::Collected;
+use crate::ROOM;
 use boxes::Vec3;
 ghost use mathlib.Core.Path.{_≡_};
-ghost use Rattle.sweeps.specs.Lists.{room, noBox, emptyList, heldIn, held};
+ghost use Rattle.sweeps.specs.Lists.{room, isCap, capOf, noBox, emptyList, heldIn, held};
 ghost use Prim.Native.Nat.{min};
 ghost use mathlib.Core.List.{[]};
 
@@ -30,7 +31,24 @@ fn no_box() -> Aabb
 pub fn counted(count: usize) -> usize
     ensures { λ r. ⌜ r ≡ min count room ⌝ }
 {
-    if count < 128 { count } else { 128 }
+    if count < ROOM { count } else { ROOM }
+}
+
+// Whether a cap is no 3.
+pub fn is_cap(cap: u32) -> bool
+    ensures { λ r. ⌜ r ≡ isCap cap ⌝ }
+{
+    cap as usize <= ROOM
+}
+
+// The cap in force: 0 stands for the room.
+pub fn cap_of(cap: u32) -> usize
+    ensures { λ r. ⌜ r ≡ capOf cap ⌝ }
+{
+    if cap == 0 {
+        return ROOM;
+    }
+    counted(cap as usize)
 }
 
 impl BoxList {
@@ -38,7 +56,7 @@ impl BoxList {
         ensures { λ r. ⌜ r ≡ emptyList ⌝ }
     {
         let b = no_box();
-        let boxes = [b; 128];
+        let boxes = [b; ROOM];
         BoxList { boxes, count: 0 }
     }
 }

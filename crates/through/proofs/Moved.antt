@@ -14,7 +14,7 @@ use Rattle.sweeps.specs.declared.Sweep.{Sweep}
 use Rattle.sweeps.specs.declared.MoveResult.{MoveResult}
 use Rattle.sweeps.specs.Passes.{sweepOf, endOfMove}
 use Rattle.sweeps.proofs.Shape.{moves}
-use Rattle.sweeps.specs.Lists.{Held, room, noBox}
+use Rattle.sweeps.specs.Lists.{Held, noBox}
 use Rattle.window.specs.declared.Window.{Window}
 use Rattle.window.specs.Look.{lookAt}
 use Rattle.ranges.specs.declared.Range.{Range}
@@ -33,33 +33,33 @@ use Rattle.collection.proofs.Past.{in-range}
 use Rattle.collection.proofs.Caps.{list-told, refusal-told}
 use Rattle.collection.proofs.Refuses.{Refuses, FiveOrSix, finds, after, past-refuses, collect-refuses}
 
-module _ (over : ℕ → Bool) (cells : List ℕ) (w : Window) (records : List ℕ) (shapes : List Float) (q : Request) (area : Aabb) (r : Range) where
+module _ (cap : ℕ) (over : ℕ → Bool) (cells : List ℕ) (w : Window) (records : List ℕ) (shapes : List Float) (q : Request) (area : Aabb) (r : Range) where
   abbrev whole-move : Ask MoveResult
-  whole-move = moveFrom over (lookAt cells w) records shapes q area r
+  whole-move = moveFrom cap over (lookAt cells w) records shapes q area r
 
-  pub moved : (bs : List Aabb) → found (next bs) ≡ allPast (push room) (lookAt cells w) records shapes area r over [] → (s : Sweep) → s ≡ sweepOf bs q → (m : MoveResult) → m ≡ endOfMove q s → found m ≡ whole-move
+  pub moved : (bs : List Aabb) → found (next bs) ≡ allPast (push cap) (lookAt cells w) records shapes area r over [] → (s : Sweep) → s ≡ sweepOf bs q → (m : MoveResult) → m ≡ endOfMove q s → found m ≡ whole-move
   unfolding moveFrom
   moved bs h s es m em = rw (← h, em, moves bs q s es)
 
-  pub not-moved : (k : ℕ) → refused k ≡ allPast (push room) (lookAt cells w) records shapes area r over [] → refused k ≡ whole-move
+  pub not-moved : (k : ℕ) → refused k ≡ allPast (push cap) (lookAt cells w) records shapes area r over [] → refused k ≡ whole-move
   unfolding moveFrom
   not-moved k h = rw (← h)
 
   -- from the answer of a collection
-  module _ (h : Held) (e : h ≡ heldAsked (collectInPast over room (lookAt cells w) records shapes area r)) where
+  module _ (h : Held) (e : h ≡ heldAsked (collectInPast over cap (lookAt cells w) records shapes area r)) where
     pub moved-over : h .refusal ≡ 0 → (s : Sweep) → s ≡ sweepOf (h .boxes) q → (m : MoveResult) → m ≡ endOfMove q s → found m ≡ whole-move
     unfolding moveFrom
-    moved-over z s es m em = rw (list-told h (collectInPast over room (lookAt cells w) records shapes area r) (past-refuses over room cells w records shapes area r) e z, em, moves (h .boxes) q s es)
+    moved-over z s es m em = rw (list-told h (collectInPast over cap (lookAt cells w) records shapes area r) (past-refuses over cap cells w records shapes area r) e z, em, moves (h .boxes) q s es)
 
     pub told-refused : (h .refusal ≡ 0 → ⊥) → refused (h .refusal) ≡ whole-move
     unfolding moveFrom
-    told-refused z = rw (refusal-told h (collectInPast over room (lookAt cells w) records shapes area r) e z)
+    told-refused z = rw (refusal-told h (collectInPast over cap (lookAt cells w) records shapes area r) e z)
 
 -- for the range of the swept area, as `range_of` answers it
-pub as-asked : (over : Range → ℕ → Bool) (cells : List ℕ) (w : Window) (records : List ℕ) (shapes : List Float) (q : Request) (area : Aabb) (r : Range) → area ≡ sweptArea (q .aabb) (q .delta) (q .step) → r ≡ trimmed (rangeOf area)
-    → moveFrom (over r) (lookAt cells w) records shapes q area r ≡ moveAabbPast over (lookAt cells w) records shapes (q .aabb) (q .delta) (q .step) (q .ground)
+pub as-asked : (cap : ℕ) (over : Range → ℕ → Bool) (cells : List ℕ) (w : Window) (records : List ℕ) (shapes : List Float) (q : Request) (area : Aabb) (r : Range) → area ≡ sweptArea (q .aabb) (q .delta) (q .step) → r ≡ trimmed (rangeOf area)
+    → moveFrom cap (over r) (lookAt cells w) records shapes q area r ≡ moveAabbPast cap over (lookAt cells w) records shapes (q .aabb) (q .delta) (q .step) (q .ground)
 unfolding moveFrom moveAabbPast
-as-asked over cells w records shapes q area r e er = rw (in-range over room (lookAt cells w) records shapes area r er, e)
+as-asked cap over cells w records shapes q area r e er = rw (in-range over cap (lookAt cells w) records shapes area r er, e)
 
 -- ---- the lines of a layer, as the program has them
 module _ (words : List ℕ) (w : Window) (r : Range) (k : Reach) (y lines x : ℕ) (e : k ≡ reachIn words w r) (f : lines ≡ linesBy words w r k y) where
@@ -72,9 +72,9 @@ module _ (words : List ℕ) (w : Window) (r : Range) (k : Reach) (y lines x : �
   pub at-the-end : lines ≤ x → choose (passes words w r y) 0 (r .x .count) ≤ x
   at-the-end h = rw come-to at h
 
-pub move-refuses : (cells : List ℕ) (w : Window) (records : List ℕ) (shapes : List Float) (aabb : Aabb) (delta : Vec3) (step : Float) (ground : Bool) → Refuses FiveOrSix (moveAabb (lookAt cells w) records shapes aabb delta step ground)
+pub move-refuses : (cap : ℕ) (cells : List ℕ) (w : Window) (records : List ℕ) (shapes : List Float) (aabb : Aabb) (delta : Vec3) (step : Float) (ground : Bool) → Refuses FiveOrSix (moveAabb cap (lookAt cells w) records shapes aabb delta step ground)
 unfolding moveAabb
-move-refuses cells w records shapes aabb delta step ground = after _ _ (collect-refuses cells w records shapes _) (λ bs. finds _)
+move-refuses cap cells w records shapes aabb delta step ground = after _ _ (collect-refuses cap cells w records shapes _) (λ bs. finds _)
 
 pub empty-few : (l : Few) → l ≡ emptyFew → Room few (l .boxes) (l .count) × (take (l .count) (l .boxes) ≡ [])
 unfolding emptyFew

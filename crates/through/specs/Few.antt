@@ -2,14 +2,14 @@
 -- function cites this file.
 use mathlib.Core.Bool.{Bool}
 use mathlib.Core.List.{List}
-use Prim.Native.Nat.{ℕ}
+use Prim.Native.Nat.{ℕ, min}
 use lib.ListN.{replicate}
 use lib.Ieee.{Float}
 use Rattle.base.specs.Ask.{Ask, refused, found, _>>=_}
 use Rattle.boxes.specs.declared.Aabb.{Aabb}
 use Rattle.sweeps.specs.declared.Request.{Request}
 use Rattle.sweeps.specs.declared.MoveResult.{MoveResult}
-use Rattle.sweeps.specs.Lists.{room, noBox}
+use Rattle.sweeps.specs.Lists.{capOf, noBox}
 use Rattle.sweeps.specs.Move.{moveOver}
 use Rattle.window.specs.declared.Pos.{Pos}
 use Rattle.window.specs.Look.{Block}
@@ -20,11 +20,15 @@ use Rattle.through.specs.declared.Few.{Few}
 abbrev pub few : ℕ
 few = 42
 
+-- how many boxes are held in it under a cap of the rules
+abbrev pub fewOf : ℕ → ℕ
+fewOf cap = min (capOf cap) few
+
 unfoldable pub emptyFew : Few
 emptyFew = record { boxes = replicate few noBox; count = 0 }
 
--- the move over what is collected from a range, past the layers of which `over` says so
-unfoldable pub moveFrom : (ℕ → Bool) → (Pos → Ask Block) → List ℕ → List Float → Request → Aabb → Range → Ask MoveResult
-moveFrom over look records shapes q area r = do
-  boxes ← collectInPast over room look records shapes area r
+-- the move over what is collected from a range, past the layers of which `over` says so; `cap` is the cap in force
+unfoldable pub moveFrom : ℕ → (ℕ → Bool) → (Pos → Ask Block) → List ℕ → List Float → Request → Aabb → Range → Ask MoveResult
+moveFrom cap over look records shapes q area r = do
+  boxes ← collectInPast over cap look records shapes area r
   found (moveOver boxes (q .aabb) (q .delta) (q .step) (q .ground))

@@ -8,10 +8,11 @@ use sweeps::MoveResult;
 use sweeps::Request;
 use window::Window;
 ghost use mathlib.Core.Path.{_≡_};
+ghost use Rattle.sweeps.specs.Lists.{capOf};
 ghost use Rattle.window.specs.Look.{lookAt};
 ghost use Rattle.passing.specs.Passing.{passes};
 ghost use Rattle.through.specs.Through.{movedAsked, moveAabbPast};
-ghost use Rattle.through.specs.Few.{emptyFew, moveFrom};
+ghost use Rattle.through.specs.Few.{fewOf, emptyFew, moveFrom};
 
 // A move, or the number of a refusal.
 pub enum AskedMove {
@@ -37,12 +38,20 @@ impl Few {
     }
 }
 
-// A move of more boxes than a few, from its range on, over the whole list. It is here that 6 is refused. It has two callers, so that the compiler
-// leaves it out of the loop below, which is slower with it inside.
-fn crowded(records: &[u32], shapes: &[f32], cells: &[u32], w: Window, q: Request, area: Aabb, r: Range) -> AskedMove
-    ensures { λ m. ⌜ movedAsked m ≡ moveFrom (passes (now (cells .entry)) w r) (lookAt (now (cells .entry)) w) (now (records .entry)) (now (shapes .entry)) q area r ⌝ }
+// How many boxes are held in it under a cap of the rules.
+fn few_of(cap: u32) -> usize
+    ensures { λ r. ⌜ r ≡ fewOf cap ⌝ }
 {
-    let c = collection::collect_range(records, shapes, cells, w, area, r);
+    let most = sweeps::cap_of(cap);
+    if most < 42 { most } else { 42 }
+}
+
+// A move of more boxes than a few, or than the cap, from its range on, over the whole list. It is here that 6 is refused. It has two callers, so that the compiler
+// leaves it out of the loop below, which is slower with it inside.
+fn crowded(cap: u32, records: &[u32], shapes: &[f32], cells: &[u32], w: Window, q: Request, area: Aabb, r: Range) -> AskedMove
+    ensures { λ m. ⌜ movedAsked m ≡ moveFrom (capOf cap) (passes (now (cells .entry)) w r) (lookAt (now (cells .entry)) w) (now (records .entry)) (now (shapes .entry)) q area r ⌝ }
+{
+    let c = collection::collect_range(cap, records, shapes, cells, w, area, r);
     let refusal = c.refusal;
     if refusal == 0 {
         let s = list_moves::swept_over(c.list, q);
@@ -53,9 +62,10 @@ fn crowded(records: &[u32], shapes: &[f32], cells: &[u32], w: Window, q: Request
 
 // A move of a few boxes. Collection and passes stand in one function, so that the list is read where it was built: handed on by value, it would be
 // copied.
-fn swept_through(records: &[u32], shapes: &[f32], cells: &[u32], w: Window, q: Request, area: Aabb, r: Range) -> AskedMove
-    ensures { λ m. ⌜ movedAsked m ≡ moveFrom (passes (now (cells .entry)) w r) (lookAt (now (cells .entry)) w) (now (records .entry)) (now (shapes .entry)) q area r ⌝ }
+fn swept_through(cap: u32, records: &[u32], shapes: &[f32], cells: &[u32], w: Window, q: Request, area: Aabb, r: Range) -> AskedMove
+    ensures { λ m. ⌜ movedAsked m ≡ moveFrom (capOf cap) (passes (now (cells .entry)) w r) (lookAt (now (cells .entry)) w) (now (records .entry)) (now (shapes .entry)) q area r ⌝ }
 {
+    let most = few_of(cap);
     let over = passing::reach_in(cells, w, r);
     let mut list = Few::new();
     for y in 0..r.y.count {
@@ -73,8 +83,8 @@ fn swept_through(records: &[u32], shapes: &[f32], cells: &[u32], w: Window, q: R
                     let b = solids::quick_aabb(part.cube, shape, p, k);
                     if b.intersects(area) {
                         let i = list.count;
-                        if i >= 42 {
-                            let told = crowded(records, shapes, cells, w, q, area, r); // bound first, as in `quick_part`
+                        if i >= most {
+                            let told = crowded(cap, records, shapes, cells, w, q, area, r); // bound first, as in `quick_part`
                             return told;
                         }
                         list.boxes[i] = b;
@@ -103,9 +113,9 @@ fn swept_through(records: &[u32], shapes: &[f32], cells: &[u32], w: Window, q: R
     AskedMove::To(sweeps::ended(q, s))
 }
 
-// The move: step is the step height, ground whether the body was on the ground. It refuses 5 and 6 alone.
-pub fn move_through(records: &[u32], shapes: &[f32], cells: &[u32], w: Window, aabb: Aabb, delta: Vec3, step: f64, ground: bool) -> AskedMove
-    ensures { λ r. ⌜ movedAsked r ≡ moveAabbPast (passes (now (cells .entry)) w) (lookAt (now (cells .entry)) w) (now (records .entry)) (now (shapes .entry)) aabb delta step ground ⌝ }
+// The move under a cap of the rules: step is the step height, ground whether the body was on the ground. It refuses 5 and 6 alone.
+pub fn move_through(cap: u32, records: &[u32], shapes: &[f32], cells: &[u32], w: Window, aabb: Aabb, delta: Vec3, step: f64, ground: bool) -> AskedMove
+    ensures { λ r. ⌜ movedAsked r ≡ moveAabbPast (capOf cap) (passes (now (cells .entry)) w) (lookAt (now (cells .entry)) w) (now (records .entry)) (now (shapes .entry)) aabb delta step ground ⌝ }
 {
     let q = Request {
         aabb,
@@ -116,8 +126,8 @@ pub fn move_through(records: &[u32], shapes: &[f32], cells: &[u32], w: Window, a
     let area = collection::swept_area(aabb, delta, step);
     let r = collection::range_of(area);
     if (r.x.count > 6) & (r.z.count > 6) {
-        let told = crowded(records, shapes, cells, w, q, area, r); // one layer of ground is more than a few boxes
+        let told = crowded(cap, records, shapes, cells, w, q, area, r); // one layer of ground is more than a few boxes
         return told;
     }
-    swept_through(records, shapes, cells, w, q, area, r)
+    swept_through(cap, records, shapes, cells, w, q, area, r)
 }

@@ -17,6 +17,7 @@ use Rattle.window.specs.declared.Pos.{Pos}
 use Rattle.window.specs.declared.Window.{Window}
 use Rattle.window.specs.Look.{Block, none, some, lookAt}
 use Rattle.collection.proofs.Refuses.{Refuses, FiveOrSix, wider, finds, names, either, after, walks, asks, resumes, look-refuses}
+use Rattle.sweeps.specs.Lists.{capOf}
 use Rattle.through.specs.Through.{moveAabb}
 use Rattle.through.proofs.Moved.{move-refuses}
 use Rattle.flow.specs.Liquid.{liquidHeld, stopsFlow, blocksLiquidFlow}
@@ -156,10 +157,10 @@ module _ (cells : List ℕ) (w : Window) (records : List ℕ) where
   looks p = wider _ five (look-refuses cells w p)
 
   module _ (shapes : List Float) (rules : Rules) (body : Body) where
-    on-refuses : (aabb : Aabb) (onGround : Bool) (flotation liquid : LiquidKind) (v : Vec3) → Refuses FiveToSeven (moveOnBy (moveAabb (lookAt cells w) records shapes) (lookAt cells w) records rules body aabb onGround flotation liquid v)
+    on-refuses : (aabb : Aabb) (onGround : Bool) (flotation liquid : LiquidKind) (v : Vec3) → Refuses FiveToSeven (moveOnBy (moveAabb (capOf (rules .cap)) (lookAt cells w) records shapes) (lookAt cells w) records rules body aabb onGround flotation liquid v)
     unfolding moveOnBy
     on-refuses aabb onGround flotation liquid v =
-        after _ _ (wider _ five-or-six (move-refuses cells w records shapes aabb (pulled body flotation v) (body .step) onGround)) (λ m.
+        after _ _ (wider _ five-or-six (move-refuses _ cells w records shapes aabb (pulled body flotation v) (body .step) onGround)) (λ m.
         after-refuses (lookAt cells w) looks records rules _ body liquid _ _)
 
     pub core-refuses : (motion : Motion) (age : ℕ) → Refuses FiveToSeven (stepBodySensed (lookAt cells w) records shapes rules body motion age)

@@ -15,6 +15,7 @@ use Rattle.tables.specs.declared.LiquidKind.{LiquidKind}
 use Rattle.tables.specs.declared.LiquidKind.the-variants.{None}
 use Rattle.window.specs.declared.Pos.{Pos}
 use Rattle.window.specs.Look.{Block}
+use Rattle.sweeps.specs.Lists.{capOf}
 use Rattle.through.specs.Through.{moveAabb}
 use Rattle.bodies.specs.declared.Model.{Model}
 use Rattle.bodies.specs.declared.Model.the-variants.{Item, Living, FallingBlock, Other}
@@ -88,11 +89,11 @@ module _ (look : Pos → Ask Block) (records : List ℕ) (rules : Rules) (body :
     abbrev start : Aabb
     start = fromFeet (motion .feet) (body .width) (body .height)
 
-    on-tells : (flotation liquid : LiquidKind) (v : Vec3) → Finds Told (moveOnBy (moveAabb look records shapes) look records rules body start (motion .ground) flotation liquid v)
+    on-tells : (flotation liquid : LiquidKind) (v : Vec3) → Finds Told (moveOnBy (moveAabb (capOf (rules .cap)) look records shapes) look records rules body start (motion .ground) flotation liquid v)
     unfolding moveOnBy
     on-tells flotation liquid v =
         let velocity = pulled body flotation v in
-        after (moveAabb look records shapes start velocity (body .step) (motion .ground)) _
+        after (moveAabb (capOf (rules .cap)) look records shapes start velocity (body .step) (motion .ground)) _
         (λ m. after-tells liquid (feetOf (m .aabb)) (m .ground) (keptAfter (m .moved) velocity))
 
     abbrev ToldUnless : Bool → Tick → Type 0
@@ -101,7 +102,7 @@ module _ (look : Pos → Ask Block) (records : List ℕ) (rules : Rules) (body :
     abbrev going : Bool → Begun → Ask Tick
     going rests b =
         choose rests (found (tickTo (motion .feet) (b .velocity) (motion .ground) None NotAsked))
-        (senses look records body start >>= λ liquid. moveOnBy (moveAabb look records shapes) look records rules body start (motion .ground) (b .flotation) liquid (b .velocity))
+        (senses look records body start >>= λ liquid. moveOnBy (moveAabb (capOf (rules .cap)) look records shapes) look records rules body start (motion .ground) (b .flotation) liquid (b .velocity))
 
     rests-or-goes : (rests : Bool) (b : Begun) → Finds (ToldUnless rests) (going rests b)
     unfolding choose

@@ -1,5 +1,5 @@
 -- The step: physics.rs' `step_body_sensed`, in the Rust's order and line by line. `look` is its `block_at`: what is looked up outside the window
--- is refused, and the first refusal ends the step. The mob constants and the air state come as `rules`. What the Rust changes through `&mut` goes
+-- is refused, and the first refusal ends the step. The mob constants, the air state and the cap come as `rules`. What the Rust changes through `&mut` goes
 -- in and comes back by value, and where it has an `Option<LiquidKind>` there is a `LiquidKind`, whose `None` is the Rust's. The sample of friction
 -- that it takes after its move is asked for first (`supportAfter` of `samples`), and what it does to the velocity is worked out from it (`drags`).
 use mathlib.Core.Bool.{Bool, false, not, _&&_}
@@ -11,6 +11,7 @@ use Rattle.base.specs.Ask.{Ask, refused, found, _>>=_}
 use Rattle.boxes.specs.declared.Vec3.{Vec3}
 use Rattle.boxes.specs.declared.Aabb.{Aabb}
 use Rattle.sweeps.specs.declared.MoveResult.{MoveResult}
+use Rattle.sweeps.specs.Lists.{capOf}
 use Rattle.boxes.specs.Boxes.{plus, fromFeet, feetOf}
 use Rattle.tables.specs.declared.LiquidKind.{LiquidKind}
 use Rattle.tables.specs.declared.LiquidKind.the-variants.{None}
@@ -99,15 +100,15 @@ stepBodyBy move look records rules body motion age = do
         moveOnBy move look records rules body aabb (motion .ground) (begun .flotation) liquid (begun .velocity))
 
 unfoldable pub stepBodySensed : (Pos → Ask Block) → List ℕ → List Float → Rules → Body → Motion → ℕ → Ask Tick
-stepBodySensed look records shapes = stepBodyBy (moveAabb look records shapes) look records
+stepBodySensed look records shapes rules = stepBodyBy (moveAabb (capOf (rules .cap)) look records shapes) look records rules
 
 -- the same where the move passes over layers, by the summary behind the words of a window; with a true one, and with none, it is the same step
 -- (proofs/Past.antt)
-abbrev pub movePast : List ℕ → Window → List ℕ → List Float → Aabb → Vec3 → Float → Bool → Ask MoveResult
-movePast words w = moveAabbPast (passes words w) (lookAt words w)
+abbrev pub movePast : ℕ → List ℕ → Window → List ℕ → List Float → Aabb → Vec3 → Float → Bool → Ask MoveResult
+movePast cap words w = moveAabbPast (capOf cap) (passes words w) (lookAt words w)
 
 abbrev pub stepBodyPast : List ℕ → Window → List ℕ → List Float → Rules → Body → Motion → ℕ → Ask Tick
-stepBodyPast words w records shapes = stepBodyBy (movePast words w records shapes) (lookAt words w) records
+stepBodyPast words w records shapes rules = stepBodyBy (movePast (rules .cap) words w records shapes) (lookAt words w) records rules
 
 -- ---- of its sample, for who reads cases
 

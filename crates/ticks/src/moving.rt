@@ -64,10 +64,10 @@ fn move_on(
     liquid: LiquidKind,
     v: Vec3,
 ) -> AskedTick
-    ensures { λ r. ⌜ tickAsked r ≡ moveOnBy (movePast (now (cells .entry)) w (now (records .entry)) (now (shapes .entry))) (lookAt (now (cells .entry)) w) (now (records .entry)) rules body aabb ground flotation liquid v ⌝ }
+    ensures { λ r. ⌜ tickAsked r ≡ moveOnBy (movePast (rules .cap) (now (cells .entry)) w (now (records .entry)) (now (shapes .entry))) (lookAt (now (cells .entry)) w) (now (records .entry)) rules body aabb ground flotation liquid v ⌝ }
 {
     let velocity = drags::pulled(body, flotation, v);
-    let told = through::move_through(records, shapes, cells, w, aabb, velocity, body.step, ground);
+    let told = through::move_through(rules.cap, records, shapes, cells, w, aabb, velocity, body.step, ground);
     match told {
         AskedMove::Refused(n) => AskedTick::Refused(n),
         AskedMove::To(m) => {

@@ -7,6 +7,7 @@ ghost use mathlib.Core.Path.{_≡_};
 ghost use mathlib.Core.Bool.{not};
 ghost use lib.Dec.{eqb};
 ghost use Rattle.boxes.specs.Boxes.{vec};
+ghost use Rattle.sweeps.specs.Lists.{capOf};
 ghost use Rattle.window.specs.Look.{lookAt};
 ghost use Rattle.passing.specs.Passing.{passes};
 ghost use Rattle.window.specs.Numbers.{windowOf};
@@ -55,7 +56,7 @@ pub extern "C" fn boltjuniper_way(
     ground: u32,
     k: u32,
 ) -> f64
-    ensures { λ r. ⌜ r ≡ wayOf k (moveAabbPast (passes (now (cells .entry)) (windowOf ox oy oz sx sy sz lowest highest air)) (lookAt (now (cells .entry)) (windowOf ox oy oz sx sy sz lowest highest air)) (now (records .entry)) (now (shapes .entry)) (boxBetween x0 y0 z0 x1 y1 z1) (vec dx dy dz) step (not (eqb ground 0))) ⌝ }
+    ensures { λ r. ⌜ r ≡ wayOf k (moveAabbPast (capOf 0) (passes (now (cells .entry)) (windowOf ox oy oz sx sy sz lowest highest air)) (lookAt (now (cells .entry)) (windowOf ox oy oz sx sy sz lowest highest air)) (now (records .entry)) (now (shapes .entry)) (boxBetween x0 y0 z0 x1 y1 z1) (vec dx dy dz) step (not (eqb ground 0))) ⌝ }
 {
     let w = window::window_of(ox, oy, oz, sx, sy, sz, lowest, highest, air);
     let a = Aabb {
@@ -63,7 +64,7 @@ pub extern "C" fn boltjuniper_way(
         max: Vec3 { x: x1, y: y1, z: z1 },
     };
     let d = Vec3 { x: dx, y: dy, z: dz };
-    let told = through::move_through(records, shapes, cells, w, a, d, step, ground != 0);
+    let told = through::move_through(0, records, shapes, cells, w, a, d, step, ground != 0);
     match told {
         AskedMove::Refused(_) => 0.0,
         AskedMove::To(m) => {

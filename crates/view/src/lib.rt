@@ -22,8 +22,9 @@ pub fn move_view<'r, 's, 'a>(
     delta: Vec3,
     step: f64,
     ground: bool,
+    cap: u32,
 ) -> MoveAnswer
-    ensures { λ r. ⌜ r ≡ moveEntry (now (records .entry)) (now (shapes .entry)) (now (v .entry .cells)) (v .entry .window) aabb delta step ground ⌝ }
+    ensures { λ r. ⌜ r ≡ moveEntry cap (now (records .entry)) (now (shapes .entry)) (now (v .entry .cells)) (v .entry .window) aabb delta step ground ⌝ }
 {
     moves::move_aabb(
         records,
@@ -34,6 +35,7 @@ pub fn move_view<'r, 's, 'a>(
         delta,
         step,
         ground,
+        cap,
     )
 }
 
@@ -70,11 +72,11 @@ pub fn checked_view<'r, 's, 'a>(
 // The three for a caller that has cells and numbers apart: their parameters are plain, so whoever calls them needs no proof by hand.
 
 pub fn move_window(
-    records: &[u32], shapes: &[f32], cells: &[u32], w: Window, aabb: Aabb, delta: Vec3, step: f64, ground: bool,
+    records: &[u32], shapes: &[f32], cells: &[u32], w: Window, aabb: Aabb, delta: Vec3, step: f64, ground: bool, cap: u32,
 ) -> MoveAnswer
-    ensures { λ r. ⌜ r ≡ moveEntry (now (records .entry)) (now (shapes .entry)) (now (cells .entry)) w aabb delta step ground ⌝ }
+    ensures { λ r. ⌜ r ≡ moveEntry cap (now (records .entry)) (now (shapes .entry)) (now (cells .entry)) w aabb delta step ground ⌝ }
 {
-    move_view(records, shapes, window_view::view_of(cells, w), aabb, delta, step, ground)
+    move_view(records, shapes, window_view::view_of(cells, w), aabb, delta, step, ground, cap)
 }
 
 pub fn step_window(

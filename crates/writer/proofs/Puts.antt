@@ -67,7 +67,7 @@ module _ (c : Contents) (n : Counts) where
 
   -- the program's five calls
   pub all-put : (l₀ l₁ l₂ l₃ l₄ l₅ body place : List ℕ) → blocksFor n ≤ 128 → blocksFor n * 512 ≤ length l₀
-      → body ≡ listed (bodyWordOf (c .numbers) (c .words) (c .age) n) 48 0 → place ≡ windowWords (c .window)
+      → body ≡ listed (bodyWordOf (c .numbers) (c .words) (c .age) n) 49 0 → place ≡ windowWords (c .window)
       → l₁ ≡ writtenPart l₀ bodyPart (wordIn body)
       → l₂ ≡ writtenPart l₁ (recordPart (n .states)) (wordIn (c .records))
       → l₃ ≡ writtenPart l₂ (boxPart (n .states) (n .boxes)) (bitsIn (c .shapes))
@@ -78,7 +78,7 @@ module _ (c : Contents) (n : Counts) where
   all-put l₀ l₁ l₂ l₃ l₄ l₅ body place few long eb ew e₁ e₂ e₃ e₄ e₅ =
       let s : partBytes bodyPart (wordIn body) ≡ first =
           part-same bodyPart (wordIn body) (bodyWordOf (c .numbers) (c .words) (c .age) n)
-          (λ i h. rw eb (listed-from (bodyWordOf (c .numbers) (c .words) (c .age) n) 48 i 0 h)) in
+          (λ i h. rw eb (listed-from (bodyWordOf (c .numbers) (c .words) (c .age) n) 49 i 0 h)) in
       let p₁ = rw s at (next-written l₀ l₀ l₁ [] bodyPart (wordIn body) (room-there _ _ (omega arith) (omega arith)) refl refl e₁) in
       let p₂ = next-written l₀ l₁ l₂ first (recordPart (n .states)) (wordIn (c .records)) (room-there _ _ (omega arith) (omega arith)) one-length p₁ e₂ in
       let p₃ = next-written l₀ l₂ l₃ (first ++ second) (boxPart (n .states) (n .boxes)) (bitsIn (c .shapes)) (room-there _ _ (omega arith) (omega arith)) two-length p₂ e₃ in

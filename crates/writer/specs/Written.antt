@@ -15,7 +15,7 @@ use Rattle.lent.specs.Lent.{lentRefusal}
 use Rattle.lent_words.specs.Words.{lowOf, highOf, windowWords}
 use Rattle.blocks.specs.Blocks.{bodyPart, recordPart, boxPart, windowPart, cellPart}
 use Rattle.files.specs.declared.Counts.{Counts}
-use Rattle.files.specs.Places.{agePlace, wordPlace, statesPlace}
+use Rattle.files.specs.Places.{agePlace, wordPlace, statesPlace, boxesPlace, capWord}
 use Rattle.files.specs.Files.{blocksFor}
 use Rattle.part_writer.specs.Bytes.{partBytes, wordIn, bitsIn}
 use Rattle.files.specs.declared.Counted.{Counted}
@@ -30,13 +30,14 @@ use Rattle.writer.specs.Contents.{countsBy, countsFor, writtenNumber}
 unfoldable pub halfOf : ℕ → ℕ → ℕ
 halfOf n j = choose (eqb j 0) (lowOf n) (highOf n)
 
--- payload word i of the body: numbers, age, words, "state count, box count"
+-- payload word i of the body: numbers, age, words, "state count, box count", and the cap as it was given: 0 "is written back as 0"
 unfoldable pub bodyWordOf : List Float → List ℕ → ℕ → Counts → ℕ → ℕ
 bodyWordOf numbers words age n i =
     choose (ltb i agePlace) (halfOf (toBits binary64 (writtenNumber numbers words (i / 2))) (i % 2))
     (choose (ltb i (wordPlace 0)) (halfOf age (i - agePlace))
     (choose (ltb i statesPlace) (wordIn words (i - wordPlace 0))
-    (choose (eqb i statesPlace) (n .states) (n .boxes))))
+    (choose (eqb i statesPlace) (n .states)
+    (choose (eqb i boxesPlace) (n .boxes) (wordIn words capWord)))))
 
 -- ---- the scene: "Kinds in order: one 1 (body), 2, 3, one 4, 5", by the table of parts that the reader goes by
 

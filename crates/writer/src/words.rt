@@ -33,7 +33,7 @@ fn half_of(n: u64, j: u32) -> u32
     lent_words::high_of(n)
 }
 
-// Payload word i: numbers, age, words, state count, box count.
+// Payload word i: numbers, age, words, state count, box count, and the cap as it was given.
 fn body_word_of(numbers: &[f64], words: &[u32], age: u64, n: Counts, i: u32) -> u32
     ensures { λ r. ⌜ r ≡ bodyWordOf (now (numbers .entry)) (now (words .entry)) age n i ⌝ }
 {
@@ -50,15 +50,18 @@ fn body_word_of(numbers: &[f64], words: &[u32], age: u64, n: Counts, i: u32) -> 
     if i == places::STATES {
         return n.states as u32;
     }
-    n.boxes as u32
+    if i == places::BOXES {
+        return n.boxes as u32;
+    }
+    part_writer::word_in(words, places::CAP as usize)
 }
 
-pub(crate) fn body_words(numbers: &[f64], words: &[u32], age: u64, n: Counts) -> [u32; 48]
-    ensures { λ r. ⌜ r ≡ listed (bodyWordOf (now (numbers .entry)) (now (words .entry)) age n) 48 0 ⌝ }
+pub(crate) fn body_words(numbers: &[f64], words: &[u32], age: u64, n: Counts) -> [u32; 49]
+    ensures { λ r. ⌜ r ≡ listed (bodyWordOf (now (numbers .entry)) (now (words .entry)) age n) 49 0 ⌝ }
 {
-    let mut body = [0; 48];
+    let mut body = [0; 49];
     let mut i = 0u32;
-    while i < 48 {
+    while i < 49 {
         body[i as usize] = body_word_of(numbers, words, age, n, i);
         i += 1;
     }

@@ -21,11 +21,11 @@ fn numbers(x: f64, width: f64) -> [f64; 19]
     [x, 1.25, 0.5, 0.25, 0.0, 0.0, width, 1.0, 0.0, 0.5, 0.5, 0.5, 0.25, 0.0, 0.5, 0.5, 0.5, 0.5, 0.5]
 }
 
-// A body of no model of its own in the air of state 0, with its flap or without.
-fn words(present: u32) -> [u32; 6]
-    ensures { λ r. ⌜ 6 ≡ length r ⌝ }
+// A body of no model of its own in the air of state 0, with its flap or without, and a cap of 0.
+fn words(present: u32) -> [u32; 7]
+    ensures { λ r. ⌜ 7 ≡ length r ⌝ }
 {
-    [0, 3, 0, 0, present, 0]
+    [0, 3, 0, 0, present, 0, 0]
 }
 
 // State 0 everywhere, and no column loaded: for 129 blocks. The first 15,360 are for 128, and without the last there is a word too few.

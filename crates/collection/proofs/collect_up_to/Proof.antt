@@ -128,19 +128,19 @@ returns-2 c =
 
 mul-b : tie.Need-mul-b Inv-loop4 μ-loop4 Inv-loop3 μ-loop3 Inv-loop2 μ-loop2 Inv-loop μ-loop
 mul-b c = 
-    let p : c .before .before .before .before .before .before .before .before .before .before .before .before .before .before .before .before .before .before .before .before .before .before .before .args .cap ≤ 128 = c .before .before .before .before .before .before .before .before .before .before .before .before .before .before .before .before .before .before .before .before .before .before .before .pre in
+    let p : c .before .before .before .before .before .before .before .before .before .before .before .before .before .before .before .before .before .before .before .before .before .before .before .args .cap ≤ room = c .before .before .before .before .before .before .before .before .before .before .before .before .before .before .before .before .before .before .before .before .before .before .before .pre in
     let i = c .before .before .before .before .before .loop4 .inv .0 .whole in
     omega arith
 
 element-set-from-b : tie.Need-element-set-from-b Inv-loop4 μ-loop4 Inv-loop3 μ-loop3 Inv-loop2 μ-loop2 Inv-loop μ-loop
 element-set-from-b c = 
-    let p : c .before .before .before .before .before .before .before .before .before .before .before .before .before .before .before .before .before .before .before .before .before .before .before .args .cap ≤ 128 = c .before .before .before .before .before .before .before .before .before .before .before .before .before .before .before .before .before .before .before .before .before .before .before .pre in
+    let p : c .before .before .before .before .before .before .before .before .before .before .before .before .before .before .before .before .before .before .before .before .before .before .before .args .cap ≤ room = c .before .before .before .before .before .before .before .before .before .before .before .before .before .before .before .before .before .before .before .before .before .before .before .pre in
     let i = c .before .before .before .before .before .loop4 .inv .0 .whole in
     omega arith
 
 add-list : tie.Need-add-list Inv-loop4 μ-loop4 Inv-loop3 μ-loop3 Inv-loop2 μ-loop2 Inv-loop μ-loop
 add-list c = 
-    let p : c .before .before .before .before .before .before .before .before .before .before .before .before .before .before .before .before .before .before .before .before .before .before .before .args .cap ≤ 128 = c .before .before .before .before .before .before .before .before .before .before .before .before .before .before .before .before .before .before .before .before .before .before .before .pre in
+    let p : c .before .before .before .before .before .before .before .before .before .before .before .before .before .before .before .before .before .before .before .before .before .before .before .args .cap ≤ room = c .before .before .before .before .before .before .before .before .before .before .before .before .before .before .before .before .before .before .before .before .before .before .before .pre in
     let i = c .before .before .before .before .before .loop4 .inv .0 .whole in
     omega arith
 
@@ -154,7 +154,7 @@ loop4-again : tie.Need-loop4-again Inv-loop4 μ-loop4 Inv-loop3 μ-loop3 Inv-loo
 loop4-again c = 
     let start = c .before .before .before .before .before .before .before .before .before .before .before .before .before .before .before .before .before .before .before .before .before .before in
     let cap = start .args .cap in
-    let p : cap ≤ 128 = start .pre in
+    let p : cap ≤ room = start .pre in
     let l = c .before .before .before .before .loop4 .list in
     let m = c .if1 .list in
     let i = c .before .before .before .before .loop4 .inv in

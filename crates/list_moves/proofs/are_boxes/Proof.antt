@@ -16,7 +16,7 @@ Inv-loop list n i₀ i = areBoxes (drop i (listOf list)) ≡ areBoxes (listOf li
 abbrev μ-loop : tie.MeasureT-loop
 μ-loop list n i₀ i = n - i
 
--- the array has its 128 elements
+-- the array has as many elements as there is room
 whole : (c : tie.Start Inv-loop μ-loop) → length (c .args .t1 .boxes) ≡ room
 whole c = sym (length-map (c .args .t1 .boxes) _) ∙ c .good .0 .1 .1 .0 .1 .0 .1
 

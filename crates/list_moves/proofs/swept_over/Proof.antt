@@ -23,7 +23,7 @@ Inv-loop q list n s₀ pass₀ s pass = passesFrom (7 - pass) pass (listOf list)
 abbrev μ-loop : tie.MeasureT-loop
 μ-loop q list n s₀ pass₀ s pass = 7 - pass
 
--- the array has its 128 elements
+-- the array has as many elements as there is room
 whole : (c : tie.Start Inv-loop2 μ-loop2 Inv-loop μ-loop) → length (c .args .t1 .boxes) ≡ room
 whole c = sym (length-map (c .args .t1 .boxes) _) ∙ c .good .0 .1 .1 .0 .1 .0 .1
 

@@ -16,12 +16,12 @@ use Rattle.midnight.proofs.answer_all.Statement.{statement}
 use Rattle.midnight.proofs.answer_all.Tie as tie
 
 abbrev Inv-loop : tie.InvT-loop
-Inv-loop records shapes windows count cells numbers words bodies out₀ checked i₀ out i =
+Inv-loop older records shapes windows count cells numbers words bodies out₀ checked i₀ out i =
     (i ≤ bodies) × (length out ≡ length out₀)
-    × (stored out (i * answerWidth) (rowsOf (lentWith records shapes windows count cells) (listed (rowAt numbers words) (bodies - i) i)) ≡ stored out₀ 0 (rowsOf (lentWith records shapes windows count cells) (bodiesOf numbers words bodies)))
+    × (stored out (i * answerWidth) (rowsOf (lentWith records shapes windows count cells) (listed (rowAt older numbers words) (bodies - i) i)) ≡ stored out₀ 0 (rowsOf (lentWith records shapes windows count cells) (bodiesOf older numbers words bodies)))
 
 abbrev μ-loop : tie.MeasureT-loop
-μ-loop records shapes windows count cells numbers words bodies out₀ checked i₀ out i = bodies - i
+μ-loop older records shapes windows count cells numbers words bodies out₀ checked i₀ out i = bodies - i
 
 check-all-requires : tie.Need-check-all-requires Inv-loop μ-loop
 check-all-requires c κs = search needs
@@ -55,7 +55,7 @@ loop-again c =
     let at-loop = c .before .before .before .before .before .before .before .before .before .loop in
     let a = c .before .before .before .before .before .before .before .before .before .before .before .before .before .before .before .before .before .before .args in
     let lent : Lent = lentWith (a .records .now) (a .shapes .now) (a .windows .now) (a .count) (a .cells .now) in
-    let rows : ℕ → Row = rowAt (a .numbers .now) (a .words .now) in
+    let rows : ℕ → Row = rowAt (a .older) (a .numbers .now) (a .words .now) in
     let said = rw (c .before .before .before .before .before .before .words-at .ensures, c .before .before .before .before .before .before .before .numbers-at .ensures) at (c .before .before .before .before .answer-of .ensures) in (
       search needs,
       rw (c .before .before .put-row .ensures) (stored-length (at-loop .out) _ _ ∙ at-loop .inv .1),

@@ -23,6 +23,9 @@ returns c =
     let checked = rw (c .before .before .before .plain-words .ensures) at (c .before .before .check-direct .ensures) in
     rw (← checked, ne-eqb _ _ (c .before .if1 .taken), ← c .refused-move .ensures)
 
+is-cap-requires : tie.Need-is-cap-requires
+is-cap-requires c κs = search needs
+
 is-step-requires : tie.Need-is-step-requires
 is-step-requires c κs = search needs
 
@@ -44,10 +47,11 @@ returns-2 c =
     let at-is-fit = at-if3 .before in
     let at-if2 = at-is-fit .before in
     let at-is-step = at-if2 .before in
-    let at-if1 = at-is-step .before in
+    let at-is-cap = at-is-step .before in
+    let at-if1 = at-is-cap .before in
     let at-check-direct = at-if1 .before in
     let checked = rw (at-check-direct .before .plain-words .ensures) at (at-check-direct .check-direct .ensures) in
-    rw (← checked, eq-eqb _ _ (at-if1 .if1 .left), ← at-is-step .is-step .ensures, at-if2 .if2 .taken, ← at-is-fit .is-fit .ensures, at-if3 .if3 .taken, ← at-check-summary .check-summary .ensures, ne-eqb _ _ (at-if4 .if4 .taken), ← c .refused-move2 .ensures)
+    rw (← checked, eq-eqb _ _ (at-if1 .if1 .left), ← at-is-cap .is-cap .ensures, ← at-is-step .is-step .ensures, at-if2 .if2 .taken, ← at-is-fit .is-fit .ensures, at-if3 .if3 .taken, ← at-check-summary .check-summary .ensures, ne-eqb _ _ (at-if4 .if4 .taken), ← c .refused-move2 .ensures)
 
 move-through-requires : tie.Need-move-through-requires
 move-through-requires c κs = search needs
@@ -72,11 +76,12 @@ returns-3 c =
     let at-is-fit = at-if3 .before in
     let at-if2 = at-is-fit .before in
     let at-is-step = at-if2 .before in
-    let at-if1 = at-is-step .before in
+    let at-is-cap = at-is-step .before in
+    let at-if1 = at-is-cap .before in
     let at-check-direct = at-if1 .before in
     let checked = rw (at-check-direct .before .plain-words .ensures) at (at-check-direct .check-direct .ensures) in
-    let told = at-move-through .move-through .ensures ∙ past-plain _ _ _ _ (sym (at-check-summary .check-summary .ensures) ∙ at-if4 .if4 .left) _ _ _ _ in
-    rw (← checked, eq-eqb _ _ (at-if1 .if1 .left), ← at-is-step .is-step .ensures, at-if2 .if2 .taken, ← at-is-fit .is-fit .ensures, at-if3 .if3 .taken, ← at-check-summary .check-summary .ensures, eq-eqb _ _ (at-if4 .if4 .left), ← told, at-told .told .given .1, ← c .refused-move3 .ensures)
+    let told = at-move-through .move-through .ensures ∙ past-plain _ _ _ _ _ (sym (at-check-summary .check-summary .ensures) ∙ at-if4 .if4 .left) _ _ _ _ in
+    rw (← checked, eq-eqb _ _ (at-if1 .if1 .left), ← at-is-cap .is-cap .ensures, ← at-is-step .is-step .ensures, at-if2 .if2 .taken, ← at-is-fit .is-fit .ensures, at-if3 .if3 .taken, ← at-check-summary .check-summary .ensures, eq-eqb _ _ (at-if4 .if4 .left), ← told, at-told .told .given .1, ← c .refused-move3 .ensures)
 
 returns-4 : tie.Need-returns-4
 unfolding moveSummed choose
@@ -88,11 +93,12 @@ returns-4 c =
     let at-is-fit = at-if3 .before in
     let at-if2 = at-is-fit .before in
     let at-is-step = at-if2 .before in
-    let at-if1 = at-is-step .before in
+    let at-is-cap = at-is-step .before in
+    let at-if1 = at-is-cap .before in
     let at-check-direct = at-if1 .before in
     let checked = rw (at-check-direct .before .plain-words .ensures) at (at-check-direct .check-direct .ensures) in
-    let told = at-move-through .move-through .ensures ∙ past-plain _ _ _ _ (sym (at-check-summary .check-summary .ensures) ∙ at-if4 .if4 .left) _ _ _ _ in
-    rw (← checked, eq-eqb _ _ (at-if1 .if1 .left), ← at-is-step .is-step .ensures, at-if2 .if2 .taken, ← at-is-fit .is-fit .ensures, at-if3 .if3 .taken, ← at-check-summary .check-summary .ensures, eq-eqb _ _ (at-if4 .if4 .left), ← told, c .before .told2 .given .1)
+    let told = at-move-through .move-through .ensures ∙ past-plain _ _ _ _ _ (sym (at-check-summary .check-summary .ensures) ∙ at-if4 .if4 .left) _ _ _ _ in
+    rw (← checked, eq-eqb _ _ (at-if1 .if1 .left), ← at-is-cap .is-cap .ensures, ← at-is-step .is-step .ensures, at-if2 .if2 .taken, ← at-is-fit .is-fit .ensures, at-if3 .if3 .taken, ← at-check-summary .check-summary .ensures, eq-eqb _ _ (at-if4 .if4 .left), ← told, c .before .told2 .given .1)
 
 refused-move-requires-4 : tie.Need-refused-move-requires-4
 refused-move-requires-4 c κs = search needs
@@ -103,10 +109,11 @@ returns-5 c =
     let at-is-fit = c .before .before in
     let at-if2 = at-is-fit .before in
     let at-is-step = at-if2 .before in
-    let at-if1 = at-is-step .before in
+    let at-is-cap = at-is-step .before in
+    let at-if1 = at-is-cap .before in
     let at-check-direct = at-if1 .before in
     let checked = rw (at-check-direct .before .plain-words .ensures) at (at-check-direct .check-direct .ensures) in
-    rw (← checked, eq-eqb _ _ (at-if1 .if1 .left), ← at-is-step .is-step .ensures, at-if2 .if2 .taken, ← at-is-fit .is-fit .ensures, c .before .if3 .left, ← c .refused-move4 .ensures)
+    rw (← checked, eq-eqb _ _ (at-if1 .if1 .left), ← at-is-cap .is-cap .ensures, ← at-is-step .is-step .ensures, at-if2 .if2 .taken, ← at-is-fit .is-fit .ensures, c .before .if3 .left, ← c .refused-move4 .ensures)
 
 refused-move-requires-5 : tie.Need-refused-move-requires-5
 refused-move-requires-5 c κs = search needs
@@ -115,10 +122,11 @@ returns-6 : tie.Need-returns-6
 unfolding moveSummed choose
 returns-6 c =
     let at-is-step = c .before .before in
-    let at-if1 = at-is-step .before in
+    let at-is-cap = at-is-step .before in
+    let at-if1 = at-is-cap .before in
     let at-check-direct = at-if1 .before in
     let checked = rw (at-check-direct .before .plain-words .ensures) at (at-check-direct .check-direct .ensures) in
-    rw (← checked, eq-eqb _ _ (at-if1 .if1 .left), ← at-is-step .is-step .ensures, c .before .if2 .left, ← c .refused-move5 .ensures)
+    rw (← checked, eq-eqb _ _ (at-if1 .if1 .left), ← at-is-cap .is-cap .ensures, ← at-is-step .is-step .ensures, c .before .if2 .left, ← c .refused-move5 .ensures)
 
 pub move-summed-spec : {M : Type 1} → statement M
 move-summed-spec =
@@ -128,6 +136,7 @@ move-summed-spec =
     check-direct-requires
     refused-move-requires
     returns
+    is-cap-requires
     is-step-requires
     is-fit-requires
     check-summary-requires

@@ -7,7 +7,7 @@ use borrow.Author.Needs.{needs}
 use Rattle.shown.proofs.nth_box.Statement.{statement}
 use Rattle.shown.proofs.nth_box.Tie as tie
 
--- the array has its 128 elements
+-- the array has as many elements as there is room
 whole : (c : tie.Start) → length (c .args .t1 .boxes) ≡ room
 whole c = sym (length-map (c .args .t1 .boxes) _) ∙ c .good .0 .1 .1 .0 .1 .0 .1
 

@@ -14,10 +14,10 @@ ended-requires : tie.Need-ended-requires
 ended-requires c κs = search needs
 
 returns : tie.Need-returns
-returns c = moved-over _ _ _ _ _ _ _ _ _ (c .before .before .before .collect-range .ensures) (c .before .before .if1 .taken) _ (c .before .swept-over .ensures) _ (c .ended .ensures)
+returns c = moved-over _ _ _ _ _ _ _ _ _ _ (c .before .before .before .collect-range .ensures) (c .before .before .if1 .taken) _ (c .before .swept-over .ensures) _ (c .ended .ensures)
 
 returns-2 : tie.Need-returns-2
-returns-2 c = told-refused _ _ _ _ _ _ _ _ _ (c .before .collect-range .ensures) (c .if1 .left)
+returns-2 c = told-refused _ _ _ _ _ _ _ _ _ _ (c .before .collect-range .ensures) (c .if1 .left)
 
 pub crowded-spec : {M : Type 1} → statement M
 crowded-spec = tie.close (tie.spec collect-range-requires swept-over-requires ended-requires returns returns-2)

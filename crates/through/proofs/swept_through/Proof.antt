@@ -7,10 +7,9 @@ use Prim.Native.Nat.{ℕ, _+_, _-_, _<_}
 use native.Mathlib.Omega.{arith}
 use lib.ListN.{take, drop}
 use Rattle.boxes.specs.declared.Aabb.{Aabb}
-
-use Rattle.sweeps.specs.Lists.{room}
+use Rattle.sweeps.specs.Lists.{capOf}
 use Rattle.through.specs.declared.Few.{Few}
-use Rattle.through.specs.Few.{few}
+use Rattle.through.specs.Few.{few, fewOf}
 use Rattle.sweeps.specs.Move.{clipAll}
 use Rattle.sweeps.specs.Passes.{clipAlong, passesFrom, sweepOf}
 use Rattle.sweeps.proofs.Turns.{clip-turn, made, pass-on, pass-over, passes-end}
@@ -25,46 +24,49 @@ use Rattle.through.proofs.swept_through.Statement.{statement}
 use Rattle.through.proofs.swept_through.Tie as tie
 
 abbrev Inv-loop4 : tie.InvT-loop4
-Inv-loop4 records shapes cells w q area r over list₀ y lines x z p part shape n k₀ y-end z-end list k =
-    Room few (list .boxes) (list .count) × (boxesFrom (push room) area (cellsFrom (push room) (lookAt cells w) records shapes area r (passes cells w r) y x (z + 1)) (nthAabb (part .cube) shape p) n k (take (list .count) (list .boxes)) ≡ allPast (push room) (lookAt cells w) records shapes area r (passes cells w r) [])
+Inv-loop4 cap records shapes cells w q area r most over list₀ y lines x z p part shape n k₀ y-end z-end list k =
+    Room few (list .boxes) (list .count) × (boxesFrom (push (capOf cap)) area (cellsFrom (push (capOf cap)) (lookAt cells w) records shapes area r (passes cells w r) y x (z + 1)) (nthAabb (part .cube) shape p) n k (take (list .count) (list .boxes)) ≡ allPast (push (capOf cap)) (lookAt cells w) records shapes area r (passes cells w r) [])
 
 abbrev μ-loop4 : tie.MeasureT-loop4
-μ-loop4 records shapes cells w q area r over list₀ y lines x z p part shape n k₀ y-end z-end list k = n - k
+μ-loop4 cap records shapes cells w q area r most over list₀ y lines x z p part shape n k₀ y-end z-end list k = n - k
 
 abbrev Inv-loop3 : tie.InvT-loop3
-Inv-loop3 records shapes cells w q area r over list₀ y lines x z₀ y-end z-end list z =
-    Room few (list .boxes) (list .count) × (cellsFrom (push room) (lookAt cells w) records shapes area r (passes cells w r) y x z (take (list .count) (list .boxes)) ≡ allPast (push room) (lookAt cells w) records shapes area r (passes cells w r) [])
+Inv-loop3 cap records shapes cells w q area r most over list₀ y lines x z₀ y-end z-end list z =
+    Room few (list .boxes) (list .count) × (cellsFrom (push (capOf cap)) (lookAt cells w) records shapes area r (passes cells w r) y x z (take (list .count) (list .boxes)) ≡ allPast (push (capOf cap)) (lookAt cells w) records shapes area r (passes cells w r) [])
 
 abbrev μ-loop3 : tie.MeasureT-loop3
-μ-loop3 records shapes cells w q area r over list₀ y lines x z₀ y-end z-end list z = z-end - z
+μ-loop3 cap records shapes cells w q area r most over list₀ y lines x z₀ y-end z-end list z = z-end - z
 
 abbrev Inv-loop2 : tie.InvT-loop2
-Inv-loop2 records shapes cells w q area r over list₀ y lines x₀ y-end list x =
-    Room few (list .boxes) (list .count) × (linesFrom (push room) (lookAt cells w) records shapes area r (passes cells w r) y x (take (list .count) (list .boxes)) ≡ allPast (push room) (lookAt cells w) records shapes area r (passes cells w r) [])
+Inv-loop2 cap records shapes cells w q area r most over list₀ y lines x₀ y-end list x =
+    Room few (list .boxes) (list .count) × (linesFrom (push (capOf cap)) (lookAt cells w) records shapes area r (passes cells w r) y x (take (list .count) (list .boxes)) ≡ allPast (push (capOf cap)) (lookAt cells w) records shapes area r (passes cells w r) [])
 
 abbrev μ-loop2 : tie.MeasureT-loop2
-μ-loop2 records shapes cells w q area r over list₀ y lines x₀ y-end list x = lines - x
+μ-loop2 cap records shapes cells w q area r most over list₀ y lines x₀ y-end list x = lines - x
 
 abbrev Inv-loop : tie.InvT-loop
-Inv-loop records shapes cells w q area r over list₀ y₀ y-end list y =
-    Room few (list .boxes) (list .count) × (layersFrom (push room) (lookAt cells w) records shapes area r (passes cells w r) y (take (list .count) (list .boxes)) ≡ allPast (push room) (lookAt cells w) records shapes area r (passes cells w r) [])
+Inv-loop cap records shapes cells w q area r most over list₀ y₀ y-end list y =
+    Room few (list .boxes) (list .count) × (layersFrom (push (capOf cap)) (lookAt cells w) records shapes area r (passes cells w r) y (take (list .count) (list .boxes)) ≡ allPast (push (capOf cap)) (lookAt cells w) records shapes area r (passes cells w r) [])
 
 abbrev μ-loop : tie.MeasureT-loop
-μ-loop records shapes cells w q area r over list₀ y₀ y-end list y = y-end - y
+μ-loop cap records shapes cells w q area r most over list₀ y₀ y-end list y = y-end - y
 
 abbrev Inv-loop6 : tie.InvT-loop6
-Inv-loop6 records shapes cells q list s pass axis now mover d₀ i₀ i-end d i =
+Inv-loop6 cap records shapes cells q most list s pass axis now mover d₀ i₀ i-end d i =
     clipAll (clipAlong axis) (drop i (take (list .count) (list .boxes))) mover d ≡ clipAll (clipAlong axis) (take (list .count) (list .boxes)) mover d₀
 
 abbrev μ-loop6 : tie.MeasureT-loop6
-μ-loop6 records shapes cells q list s pass axis now mover d₀ i₀ i-end d i = i-end - i
+μ-loop6 cap records shapes cells q most list s pass axis now mover d₀ i₀ i-end d i = i-end - i
 
 abbrev Inv-loop5 : tie.InvT-loop5
-Inv-loop5 records shapes cells q list s₀ pass₀ s pass =
+Inv-loop5 cap records shapes cells q most list s₀ pass₀ s pass =
     passesFrom (7 - pass) pass (take (list .count) (list .boxes)) q s ≡ sweepOf (take (list .count) (list .boxes)) q
 
 abbrev μ-loop5 : tie.MeasureT-loop5
-μ-loop5 records shapes cells q list s₀ pass₀ s pass = 7 - pass
+μ-loop5 cap records shapes cells q most list s₀ pass₀ s pass = 7 - pass
+
+few-of-requires : tie.Need-few-of-requires Inv-loop4 μ-loop4 Inv-loop3 μ-loop3 Inv-loop2 μ-loop2 Inv-loop μ-loop Inv-loop6 μ-loop6 Inv-loop5 μ-loop5
+few-of-requires c κs = search needs
 
 reach-in-requires :
     tie.Need-reach-in-requires Inv-loop4 μ-loop4 Inv-loop3 μ-loop3 Inv-loop2 μ-loop2 Inv-loop μ-loop Inv-loop6 μ-loop6 Inv-loop5 μ-loop5
@@ -74,17 +76,17 @@ new-requires : tie.Need-new-requires Inv-loop4 μ-loop4 Inv-loop3 μ-loop3 Inv-l
 new-requires c κs = search needs
 
 loop-holds : tie.Need-loop-holds Inv-loop4 μ-loop4 Inv-loop3 μ-loop3 Inv-loop2 μ-loop2 Inv-loop μ-loop Inv-loop6 μ-loop6 Inv-loop5 μ-loop5
-loop-holds c = let e = empty-few _ (c .new .ensures) in (e .0, walk-begins (push room) _ _ _ _ _ _ _ ∙ ap (allPast (push room) _ _ _ _ _ _) (e .1))
+loop-holds c = let e = empty-few _ (c .new .ensures) in (e .0, walk-begins (push _) _ _ _ _ _ _ _ ∙ ap (allPast (push _) _ _ _ _ _ _) (e .1))
 
 lines-at-requires :
     tie.Need-lines-at-requires Inv-loop4 μ-loop4 Inv-loop3 μ-loop3 Inv-loop2 μ-loop2 Inv-loop μ-loop Inv-loop6 μ-loop6 Inv-loop5 μ-loop5
 lines-at-requires c κs = search needs
 
 loop2-holds : tie.Need-loop2-holds Inv-loop4 μ-loop4 Inv-loop3 μ-loop3 Inv-loop2 μ-loop2 Inv-loop μ-loop Inv-loop6 μ-loop6 Inv-loop5 μ-loop5
-loop2-holds c = let i = c .before .before .loop .inv in (i .0, sym (layer-begins (push room) _ _ _ _ _ _ _ _ (c .before .loop-test .taken)) ∙ i .1)
+loop2-holds c = let i = c .before .before .loop .inv in (i .0, sym (layer-begins (push _) _ _ _ _ _ _ _ _ (c .before .loop-test .taken)) ∙ i .1)
 
 loop3-holds : tie.Need-loop3-holds Inv-loop4 μ-loop4 Inv-loop3 μ-loop3 Inv-loop2 μ-loop2 Inv-loop μ-loop Inv-loop6 μ-loop6 Inv-loop5 μ-loop5
-loop3-holds c = let i = c .before .loop2 .inv in (i .0, sym (line-begins (push room) _ _ _ _ _ _ _ _ _ (on-the-way _ _ _ _ _ _ _ (c .before .before .before .before .before .before .reach-in .ensures) (c .before .before .lines-at .ensures) (c .loop2-test .taken))) ∙ i .1)
+loop3-holds c = let i = c .before .loop2 .inv in (i .0, sym (line-begins (push _) _ _ _ _ _ _ _ _ _ (on-the-way _ _ _ _ _ _ _ (c .before .before .before .before .before .before .reach-in .ensures) (c .before .before .lines-at .ensures) (c .loop2-test .taken))) ∙ i .1)
 
 place-requires : tie.Need-place-requires Inv-loop4 μ-loop4 Inv-loop3 μ-loop3 Inv-loop2 μ-loop2 Inv-loop μ-loop Inv-loop6 μ-loop6 Inv-loop5 μ-loop5
 place-requires c κs = search needs
@@ -101,8 +103,8 @@ returns c =
     let i = c .before .before .before .before .before .before .loop3 .inv in
     let cell = c .before .before .before .before .place .ensures in
     let shape = sym (c .before .before .before .quick-part .ensures) ∙ ap shapeAsked (c .before .n .given .1) in
-    let stop = cell-refused (push room) _ _ _ _ _ _ _ _ (cells-turn (push room) _ _ _ _ _ _ _ _ _ _ (c .before .before .before .before .before .loop3-test .taken) _ cell) (c .before .n .given .0 .0) shape in
-    not-moved _ _ _ _ _ _ _ _ _ (sym stop ∙ i .1)
+    let stop = cell-refused (push _) _ _ _ _ _ _ _ _ (cells-turn (push _) _ _ _ _ _ _ _ _ _ _ (c .before .before .before .before .before .loop3-test .taken) _ cell) (c .before .n .given .0 .0) shape in
+    not-moved _ _ _ _ _ _ _ _ _ _ (sym stop ∙ i .1)
 
 enum-known-s : tie.Need-enum-known-s Inv-loop4 μ-loop4 Inv-loop3 μ-loop3 Inv-loop2 μ-loop2 Inv-loop μ-loop Inv-loop6 μ-loop6 Inv-loop5 μ-loop5
 enum-known-s c = search needs
@@ -120,7 +122,7 @@ loop4-holds c =
     let i = c .before .before .before .before .before .before .before .before .loop3 .inv in
     let cell = c .before .before .before .before .before .before .place .ensures in
     let shape = sym (c .before .before .before .before .before .quick-part .ensures) ∙ ap shapeAsked (c .before .before .before .s .given .1) in
-    let begun = cell-begins (push room) _ _ _ _ _ _ _ _ (cells-turn (push room) _ _ _ _ _ _ _ _ _ _ (c .before .before .before .before .before .before .before .loop3-test .taken) _ cell) (c .before .before .before .s .given .0 .0) _ _ shape (c .before .boxes-at .ensures) (c .count-of .ensures) in
+    let begun = cell-begins (push _) _ _ _ _ _ _ _ _ (cells-turn (push _) _ _ _ _ _ _ _ _ _ _ (c .before .before .before .before .before .before .before .loop3-test .taken) _ cell) (c .before .before .before .s .given .0 .0) _ _ shape (c .before .boxes-at .ensures) (c .count-of .ensures) in
     (i .0, sym begun ∙ i .1)
 
 quick-aabb-requires :
@@ -139,14 +141,14 @@ returns-2 : tie.Need-returns-2 Inv-loop4 μ-loop4 Inv-loop3 μ-loop3 Inv-loop2 �
 returns-2 c = c .crowded .ensures
 
 mul-b : tie.Need-mul-b Inv-loop4 μ-loop4 Inv-loop3 μ-loop3 Inv-loop2 μ-loop2 Inv-loop μ-loop Inv-loop6 μ-loop6 Inv-loop5 μ-loop5
-mul-b c = let i = c .before .before .before .before .before .loop4 .inv .0 .whole in omega arith
+mul-b c = let i = c .before .before .before .before .before .loop4 .inv .0 .whole in let m = c .before .before .before .before .before .before .before .before .before .before .before .before .before .before .before .before .before .before .before .before .before .before .few-of .ensures in omega arith
 
 element-set-from-b :
     tie.Need-element-set-from-b Inv-loop4 μ-loop4 Inv-loop3 μ-loop3 Inv-loop2 μ-loop2 Inv-loop μ-loop Inv-loop6 μ-loop6 Inv-loop5 μ-loop5
-element-set-from-b c = let i = c .before .before .before .before .before .loop4 .inv .0 .whole in omega arith
+element-set-from-b c = let i = c .before .before .before .before .before .loop4 .inv .0 .whole in let m = c .before .before .before .before .before .before .before .before .before .before .before .before .before .before .before .before .before .before .before .before .before .before .few-of .ensures in omega arith
 
 add-list : tie.Need-add-list Inv-loop4 μ-loop4 Inv-loop3 μ-loop3 Inv-loop2 μ-loop2 Inv-loop μ-loop Inv-loop6 μ-loop6 Inv-loop5 μ-loop5
-add-list c = let i = c .before .before .before .before .before .loop4 .inv .0 .whole in omega arith
+add-list c = let i = c .before .before .before .before .before .loop4 .inv .0 .whole in let m = c .before .before .before .before .before .before .before .before .before .before .before .before .before .before .before .before .before .before .before .before .before .before .few-of .ensures in omega arith
 
 add-k : tie.Need-add-k Inv-loop4 μ-loop4 Inv-loop3 μ-loop3 Inv-loop2 μ-loop2 Inv-loop μ-loop Inv-loop6 μ-loop6 Inv-loop5 μ-loop5
 add-k c = omega arith
@@ -156,22 +158,23 @@ loop4-less c = omega arith
 
 loop4-again : tie.Need-loop4-again Inv-loop4 μ-loop4 Inv-loop3 μ-loop3 Inv-loop2 μ-loop2 Inv-loop μ-loop Inv-loop6 μ-loop6 Inv-loop5 μ-loop5
 loop4-again c =
+    let cap = c .before .before .before .before .before .before .before .before .before .before .before .before .before .before .before .before .before .before .before .before .before .before .before .before .before .args .cap in
     let l = c .before .before .before .before .loop4 .list in
     let i = c .before .before .before .before .loop4 .inv in
     let o = sym (c .before .intersects .ensures) in
     let boxes-in : Few → List Aabb = λ x. x .boxes in
     let count-in : Few → ℕ = λ x. x .count in
-    let m = ⊎-elim (λ w. let b : l .count < few = w .1 .left in kept few room _ _ (l .boxes) (c .if1 .list .boxes) (l .count) (c .if1 .list .count) (i .0) (ap boxes-in (w .2)) (ap count-in (w .2)) b (omega arith) (o ∙ w .0 .taken)) (λ w. passed few room _ _ (l .boxes) (c .if1 .list .boxes) (l .count) (c .if1 .list .count) (i .0) (ap boxes-in (w .1)) (ap count-in (w .1)) (o ∙ w .0 .left)) (c .if1 .came) in
-    (m .0, sym (box-next (push room) _ _ _ _ _ _ _ (c .before .before .before .loop4-test .taken) (c .before .before .quick-aabb .ensures) _ (m .1)) ∙ i .1)
+    let m = ⊎-elim (λ w. let b : l .count < fewOf cap = rw (c .before .before .before .before .before .before .before .before .before .before .before .before .before .before .before .before .before .before .before .before .before .few-of .ensures) at (w .1 .left) in kept few (capOf cap) _ _ (l .boxes) (c .if1 .list .boxes) (l .count) (c .if1 .list .count) (i .0) (ap boxes-in (w .2)) (ap count-in (w .2)) (omega arith) (omega arith) (o ∙ w .0 .taken)) (λ w. passed few (capOf cap) _ _ (l .boxes) (c .if1 .list .boxes) (l .count) (c .if1 .list .count) (i .0) (ap boxes-in (w .1)) (ap count-in (w .1)) (o ∙ w .0 .left)) (c .if1 .came) in
+    (m .0, sym (box-next (push _) _ _ _ _ _ _ _ (c .before .before .before .loop4-test .taken) (c .before .before .quick-aabb .ensures) _ (m .1)) ∙ i .1)
 
 add-z : tie.Need-add-z Inv-loop4 μ-loop4 Inv-loop3 μ-loop3 Inv-loop2 μ-loop2 Inv-loop μ-loop Inv-loop6 μ-loop6 Inv-loop5 μ-loop5
-add-z c = let h : c .before .before .before .before .before .before .before .before .before .before .loop3 .z < c .before .before .before .before .before .before .before .before .before .before .before .before .before .before .before .before .before .before .before .before .before .args .r .z .count = c .before .before .before .before .before .before .before .before .before .loop3-test .taken in omega (arith, c .before .before .before .before .before .before .before .before .before .before .before .before .before .before .before .before .before .before .before .before .before .good .1 .1 .1 .1 .1 .1 .0)
+add-z c = let h : c .before .before .before .before .before .before .before .before .before .before .loop3 .z < c .before .before .before .before .before .before .before .before .before .before .before .before .before .before .before .before .before .before .before .before .before .before .args .r .z .count = c .before .before .before .before .before .before .before .before .before .loop3-test .taken in omega (arith, c .before .before .before .before .before .before .before .before .before .before .before .before .before .before .before .before .before .before .before .before .before .before .good .1 .1 .1 .1 .1 .1 .1 .0)
 
 loop3-less : tie.Need-loop3-less Inv-loop4 μ-loop4 Inv-loop3 μ-loop3 Inv-loop2 μ-loop2 Inv-loop μ-loop Inv-loop6 μ-loop6 Inv-loop5 μ-loop5
 loop3-less c = omega arith
 
 loop3-again : tie.Need-loop3-again Inv-loop4 μ-loop4 Inv-loop3 μ-loop3 Inv-loop2 μ-loop2 Inv-loop μ-loop Inv-loop6 μ-loop6 Inv-loop5 μ-loop5
-loop3-again c = let i = c .before .loop4 .inv in (i .0, sym (boxes-end (push room) _ _ _ _ _ _ (c .loop4-test .left)) ∙ i .1)
+loop3-again c = let i = c .before .loop4 .inv in (i .0, sym (boxes-end (push _) _ _ _ _ _ _ (c .loop4-test .left)) ∙ i .1)
 
 add-x : tie.Need-add-x Inv-loop4 μ-loop4 Inv-loop3 μ-loop3 Inv-loop2 μ-loop2 Inv-loop μ-loop Inv-loop6 μ-loop6 Inv-loop5 μ-loop5
 add-x c = let h : c .before .before .before .loop2 .x < c .before .before .before .before .lines-at .result = c .before .before .loop2-test .taken in omega arith
@@ -180,16 +183,16 @@ loop2-less : tie.Need-loop2-less Inv-loop4 μ-loop4 Inv-loop3 μ-loop3 Inv-loop2
 loop2-less c = omega arith
 
 loop2-again : tie.Need-loop2-again Inv-loop4 μ-loop4 Inv-loop3 μ-loop3 Inv-loop2 μ-loop2 Inv-loop μ-loop Inv-loop6 μ-loop6 Inv-loop5 μ-loop5
-loop2-again c = let i = c .before .loop3 .inv in (i .0, sym (cells-end (push room) _ _ _ _ _ _ _ _ _ _ (c .loop3-test .left)) ∙ i .1)
+loop2-again c = let i = c .before .loop3 .inv in (i .0, sym (cells-end (push _) _ _ _ _ _ _ _ _ _ _ (c .loop3-test .left)) ∙ i .1)
 
 add-y : tie.Need-add-y Inv-loop4 μ-loop4 Inv-loop3 μ-loop3 Inv-loop2 μ-loop2 Inv-loop μ-loop Inv-loop6 μ-loop6 Inv-loop5 μ-loop5
-add-y c = let h : c .before .before .before .before .loop .y < c .before .before .before .before .before .before .before .before .before .before .args .r .y .count = c .before .before .before .loop-test .taken in omega (arith, c .before .before .before .before .before .before .before .before .before .before .good .1 .1 .1 .1 .1 .1 .0)
+add-y c = let h : c .before .before .before .before .loop .y < c .before .before .before .before .before .before .before .before .before .before .before .args .r .y .count = c .before .before .before .loop-test .taken in omega (arith, c .before .before .before .before .before .before .before .before .before .before .before .good .1 .1 .1 .1 .1 .1 .1 .0)
 
 loop-less : tie.Need-loop-less Inv-loop4 μ-loop4 Inv-loop3 μ-loop3 Inv-loop2 μ-loop2 Inv-loop μ-loop Inv-loop6 μ-loop6 Inv-loop5 μ-loop5
 loop-less c = omega arith
 
 loop-again : tie.Need-loop-again Inv-loop4 μ-loop4 Inv-loop3 μ-loop3 Inv-loop2 μ-loop2 Inv-loop μ-loop Inv-loop6 μ-loop6 Inv-loop5 μ-loop5
-loop-again c = let i = c .before .loop2 .inv in (i .0, sym (lines-end (push room) _ _ _ _ _ _ _ _ _ (at-the-end _ _ _ _ _ _ _ (c .before .before .before .before .before .before .reach-in .ensures) (c .before .before .lines-at .ensures) (c .loop2-test .left))) ∙ i .1)
+loop-again c = let i = c .before .loop2 .inv in (i .0, sym (lines-end (push _) _ _ _ _ _ _ _ _ _ (at-the-end _ _ _ _ _ _ _ (c .before .before .before .before .before .before .reach-in .ensures) (c .before .before .lines-at .ensures) (c .loop2-test .left))) ∙ i .1)
 
 begun-requires : tie.Need-begun-requires Inv-loop4 μ-loop4 Inv-loop3 μ-loop3 Inv-loop2 μ-loop2 Inv-loop μ-loop Inv-loop6 μ-loop6 Inv-loop5 μ-loop5
 begun-requires c κs = search needs
@@ -254,7 +257,7 @@ returns-3 c =
     let at-loop5 = at-loop5-test .before in
     let at-loop-test = at-loop5 .before .before in
     let at-loop = at-loop-test .before in
-    moved _ _ _ _ _ _ _ _ _ (sym (layers-end (push room) _ _ _ _ _ _ _ _ (at-loop-test .loop-test .left)) ∙ at-loop .loop .inv .1) _ (pass-over _ _ (at-loop5 .loop5 .pass) (at-loop5 .loop5 .s) (at-next .next .result) _ (made (at-loop .loop .list .boxes) (at-loop .loop .list .count) few (at-loop .loop .inv .0 .whole) _ _ (fully few _ _ (at-loop .loop .inv .0)) _ (at-loop5 .loop5 .pass) (at-loop5 .loop5 .s) _ _ _ _ (at-loop6 .loop6 .d) (at-axis-of .axis-of .ensures) (at-wanted .wanted .ensures) (at-loop6-test .loop6-test .left) (at-loop6 .loop6 .inv) (at-gone .gone .ensures) (at-next .next .ensures)) (at-loop5-test .loop5-test .taken) (c .before .if3 .taken) (at-loop5 .loop5 .inv)) _ (c .ended .ensures)
+    moved _ _ _ _ _ _ _ _ _ _ (sym (layers-end (push _) _ _ _ _ _ _ _ _ (at-loop-test .loop-test .left)) ∙ at-loop .loop .inv .1) _ (pass-over _ _ (at-loop5 .loop5 .pass) (at-loop5 .loop5 .s) (at-next .next .result) _ (made (at-loop .loop .list .boxes) (at-loop .loop .list .count) few (at-loop .loop .inv .0 .whole) _ _ (fully few _ _ (at-loop .loop .inv .0)) _ (at-loop5 .loop5 .pass) (at-loop5 .loop5 .s) _ _ _ _ (at-loop6 .loop6 .d) (at-axis-of .axis-of .ensures) (at-wanted .wanted .ensures) (at-loop6-test .loop6-test .left) (at-loop6 .loop6 .inv) (at-gone .gone .ensures) (at-next .next .ensures)) (at-loop5-test .loop5-test .taken) (c .before .if3 .taken) (at-loop5 .loop5 .inv)) _ (c .ended .ensures)
 
 add-pass : tie.Need-add-pass Inv-loop4 μ-loop4 Inv-loop3 μ-loop3 Inv-loop2 μ-loop2 Inv-loop μ-loop Inv-loop6 μ-loop6 Inv-loop5 μ-loop5
 add-pass c = omega arith
@@ -283,7 +286,7 @@ returns-4 c =
     let at-loop5 = c .before .before in
     let at-loop-test = at-loop5 .before .before in
     let at-loop = at-loop-test .before in
-    moved _ _ _ _ _ _ _ _ _ (sym (layers-end (push room) _ _ _ _ _ _ _ _ (at-loop-test .loop-test .left)) ∙ at-loop .loop .inv .1) _ (passes-end _ _ (at-loop5 .loop5 .pass) (at-loop5 .loop5 .s) _ (c .before .loop5-test .left) (at-loop5 .loop5 .inv)) _ (c .ended2 .ensures)
+    moved _ _ _ _ _ _ _ _ _ _ (sym (layers-end (push _) _ _ _ _ _ _ _ _ (at-loop-test .loop-test .left)) ∙ at-loop .loop .inv .1) _ (passes-end _ _ (at-loop5 .loop5 .pass) (at-loop5 .loop5 .s) _ (c .before .loop5-test .left) (at-loop5 .loop5 .inv)) _ (c .ended2 .ensures)
 
 pub swept-through-spec : {M : Type 1} → statement M
 swept-through-spec =
@@ -301,6 +304,7 @@ swept-through-spec =
     μ-loop6
     Inv-loop5
     μ-loop5
+    few-of-requires
     reach-in-requires
     new-requires
     loop-holds

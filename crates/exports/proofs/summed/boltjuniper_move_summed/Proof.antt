@@ -37,7 +37,7 @@ returns c =
     let s = window-at .before .before .before .before .before .before in
     let a = s .args in
     let whole = sym (whole-at .whole-move .ensures) ∙ tested .if1 .taken in
-    rw (asked .move-summed .ensures, window-at .window-of .ensures, wanted .request-of .ensures, toZ-ofZ w32 (a .ox) (s .fits .ox), toZ-ofZ w32 (a .oy) (s .fits .oy), toZ-ofZ w32 (a .oz) (s .fits .oz), toZ-ofZ w32 (a .lowest) (s .fits .lowest), toZ-ofZ w32 (a .highest) (s .fits .highest), summed-whole (a .mover .now) (a .step) (a .ground) (a .records .now) (a .shapes .now) (a .cells .now) (windowOf (a .ox) (a .oy) (a .oz) (a .sx) (a .sy) (a .sz) (a .lowest) (a .highest) (a .air)) (length (a .out .now)) whole) at (c .before .before .move-into .ensures)
+    rw (asked .move-summed .ensures, window-at .window-of .ensures, wanted .request-of .ensures, toZ-ofZ w32 (a .ox) (s .fits .ox), toZ-ofZ w32 (a .oy) (s .fits .oy), toZ-ofZ w32 (a .oz) (s .fits .oz), toZ-ofZ w32 (a .lowest) (s .fits .lowest), toZ-ofZ w32 (a .highest) (s .fits .highest), summed-whole (a .cap) (a .mover .now) (a .step) (a .ground) (a .records .now) (a .shapes .now) (a .cells .now) (windowOf (a .ox) (a .oy) (a .oz) (a .sx) (a .sy) (a .sz) (a .lowest) (a .highest) (a .air)) (length (a .out .now)) whole) at (c .before .before .move-into .ensures)
 
 plain-words-requires : tie.Need-plain-words-requires
 plain-words-requires c κs = search needs
@@ -62,7 +62,7 @@ returns-2 c =
     let s = at-window .before .before .before .before .before .before in
     let a = s .args in
     let first = rw (at-plain .plain-words .ensures, at-window .window-of .ensures, toZ-ofZ w32 (a .ox) (s .fits .ox), toZ-ofZ w32 (a .oy) (s .fits .oy), toZ-ofZ w32 (a .oz) (s .fits .oz), toZ-ofZ w32 (a .lowest) (s .fits .lowest), toZ-ofZ w32 (a .highest) (s .fits .highest)) at (at-first .check-direct .ensures) in
-    short-move (a .mover .now) (a .step) (a .ground) _ _ (a .out .now) _ (sym (at-whole .whole-move .ensures) ∙ at-if1 .if1 .left) (rw (at-early .mover-refusal .ensures, first) at (c .short-of .ensures))
+    short-move (a .cap) (a .mover .now) (a .step) (a .ground) _ _ (a .out .now) _ (sym (at-whole .whole-move .ensures) ∙ at-if1 .if1 .left) (rw (at-early .mover-refusal .ensures, first) at (c .short-of .ensures))
 
 pub boltjuniper-move-summed-spec : {M : Type 1} → statement M
 boltjuniper-move-summed-spec =

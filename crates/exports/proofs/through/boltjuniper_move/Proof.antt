@@ -37,7 +37,7 @@ returns c =
     let s = window-at .before .before .before .before .before .before in
     let a = s .args in
     let whole = sym (whole-at .whole-move .ensures) ∙ tested .if1 .taken in
-    rw (asked .move-window .ensures, window-at .window-of .ensures, wanted .request-of .ensures, toZ-ofZ w32 (s .args .ox) (s .fits .ox), toZ-ofZ w32 (s .args .oy) (s .fits .oy), toZ-ofZ w32 (s .args .oz) (s .fits .oz), toZ-ofZ w32 (s .args .lowest) (s .fits .lowest), toZ-ofZ w32 (s .args .highest) (s .fits .highest), move-whole (a .mover .now) (a .step) (a .ground) (a .records .now) (a .shapes .now) (a .cells .now) (windowOf (a .ox) (a .oy) (a .oz) (a .sx) (a .sy) (a .sz) (a .lowest) (a .highest) (a .air)) (length (a .out .now)) whole) at (c .before .before .move-into .ensures)
+    rw (asked .move-window .ensures, window-at .window-of .ensures, wanted .request-of .ensures, toZ-ofZ w32 (s .args .ox) (s .fits .ox), toZ-ofZ w32 (s .args .oy) (s .fits .oy), toZ-ofZ w32 (s .args .oz) (s .fits .oz), toZ-ofZ w32 (s .args .lowest) (s .fits .lowest), toZ-ofZ w32 (s .args .highest) (s .fits .highest), move-whole (a .cap) (a .mover .now) (a .step) (a .ground) (a .records .now) (a .shapes .now) (a .cells .now) (windowOf (a .ox) (a .oy) (a .oz) (a .sx) (a .sy) (a .sz) (a .lowest) (a .highest) (a .air)) (length (a .out .now)) whole) at (c .before .before .move-into .ensures)
 
 check-direct-requires : tie.Need-check-direct-requires
 check-direct-requires c κs = search needs
@@ -53,7 +53,7 @@ returns-2 c =
     let s = c .before .before .before .before .before .before .before .before .before .before .before in
     let a = s .args in
     let first = rw (c .before .before .before .before .before .window-of .ensures, toZ-ofZ w32 (s .args .ox) (s .fits .ox), toZ-ofZ w32 (s .args .oy) (s .fits .oy), toZ-ofZ w32 (s .args .oz) (s .fits .oz), toZ-ofZ w32 (s .args .lowest) (s .fits .lowest), toZ-ofZ w32 (s .args .highest) (s .fits .highest)) at (c .before .before .check-direct .ensures) in
-    short-move (a .mover .now) (a .step) (a .ground) _ _ (a .out .now) _ (sym (c .before .before .before .before .whole-move .ensures) ∙ c .before .before .before .if1 .left) (rw (c .before .mover-refusal .ensures, first) at (c .short-of .ensures))
+    short-move (a .cap) (a .mover .now) (a .step) (a .ground) _ _ (a .out .now) _ (sym (c .before .before .before .before .whole-move .ensures) ∙ c .before .before .before .if1 .left) (rw (c .before .mover-refusal .ensures, first) at (c .short-of .ensures))
 
 pub boltjuniper-move-spec : {M : Type 1} → statement M
 boltjuniper-move-spec =

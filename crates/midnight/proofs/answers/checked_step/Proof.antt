@@ -7,8 +7,8 @@ use Rattle.midnight.proofs.answers.checked_step.Tie as tie
 scene-words-requires : tie.Need-scene-words-requires
 scene-words-requires c κs = search needs
 
-rules-from-requires : tie.Need-rules-from-requires
-rules-from-requires c κs = search needs
+rules-in-requires : tie.Need-rules-in-requires
+rules-in-requires c κs = search needs
 
 cells-in-requires : tie.Need-cells-in-requires
 cells-in-requires c κs = search needs
@@ -34,15 +34,17 @@ step-falling-checked-requires c κs = search needs
 returns : tie.Need-returns
 unfolding checkedStep
 returns c =
-    let own = rw (c .before .before .before .before .before .before .cells-in .ensures, c .before .before .before .before .before .before .before .rules-from .ensures, c .before .before .before .before .before .before .before .before .scene-words .ensures) at (c .before .before .before .before .before .step-words .ensures) in
-    rw (← own, ← c .before .before .before .before .before .before .before .before .scene-words .ensures, ← c .before .before .before .before .before .before .before .rules-from .ensures, ← c .before .before .before .before .body-from .ensures, ← c .before .before .before .motion-from .ensures, ← c .before .before .age-in .ensures, ← c .before .fall-in .ensures) (c .step-falling-checked .ensures)
+    let at-motion-from = c .before .before .before in
+    let at-step-words = at-motion-from .before .before in
+    let at-rules-in = at-step-words .before .before in
+    rw (c .before .fall-in .ensures, c .before .before .age-in .ensures, at-motion-from .motion-from .ensures, at-motion-from .before .body-from .ensures, at-step-words .step-words .ensures, at-step-words .before .cells-in .ensures, at-rules-in .rules-in .ensures, at-rules-in .before .scene-words .ensures) at (c .step-falling-checked .ensures)
 
 pub checked-step-spec : {M : Type 1} → statement M
 checked-step-spec =
     tie.close
     (tie.spec
     scene-words-requires
-    rules-from-requires
+    rules-in-requires
     cells-in-requires
     step-words-requires
     body-from-requires

@@ -1,12 +1,16 @@
 -- `midnight::answers::is_whole` meets its contract. Assumes nothing.
-use mathlib.Core.Path.{refl}
-use Rattle.midnight.specs.Rows.{isWhole}
+use Rattle.base.specs.Choose.{choose}
+use Rattle.midnight.specs.Rows.{wordWidth, isWhole}
 use Rattle.midnight.proofs.answers.is_whole.Statement.{statement}
 use Rattle.midnight.proofs.answers.is_whole.Tie as tie
 
 returns : tie.Need-returns
-unfolding isWhole
-returns c = refl
+unfolding isWhole wordWidth choose
+returns c = rw (c .if1 .taken)
+
+returns-2 : tie.Need-returns-2
+unfolding isWhole wordWidth choose
+returns-2 c = rw (c .if1 .left)
 
 pub is-whole-spec : {M : Type 1} → statement M
-is-whole-spec = tie.close (tie.spec returns)
+is-whole-spec = tie.close (tie.spec returns returns-2)

@@ -5,11 +5,8 @@ use borrow.Author.Needs.{needs}
 use Rattle.midnight.proofs.answers.wrong_step.Statement.{statement}
 use Rattle.midnight.proofs.answers.wrong_step.Tie as tie
 
-scene-words-requires : tie.Need-scene-words-requires
-scene-words-requires c κs = search needs
-
-rules-from-requires : tie.Need-rules-from-requires
-rules-from-requires c κs = search needs
+rules-in-requires : tie.Need-rules-in-requires
+rules-in-requires c κs = search needs
 
 cells-in-requires : tie.Need-cells-in-requires
 cells-in-requires c κs = search needs
@@ -21,13 +18,13 @@ late-body-requires : tie.Need-late-body-requires
 late-body-requires c κs = search needs
 
 returns : tie.Need-returns
-returns c = c .late-body .ensures ∙ wrong-own _ _ _ _ _ _ (c .before .before .before .before .before .before .before .if1 .taken) (rw (c .before .before .before .last-in .ensures, c .before .before .before .before .cells-in .ensures, c .before .before .before .before .before .rules-from .ensures, c .before .before .before .before .before .before .scene-words .ensures) at (c .before .if2 .taken))
+returns c = c .late-body .ensures ∙ wrong-own _ _ _ _ _ _ (c .before .before .before .before .before .before .if1 .taken) (rw (c .before .before .before .last-in .ensures, c .before .before .before .before .cells-in .ensures, c .before .before .before .before .before .rules-in .ensures) at (c .before .if2 .taken))
 
 checked-step-requires : tie.Need-checked-step-requires
 checked-step-requires c κs = search needs
 
 returns-2 : tie.Need-returns-2
-returns-2 c = c .checked-step .ensures ∙ wrong-other _ _ _ _ _ _ (c .before .before .before .before .before .before .before .if1 .taken) (rw (c .before .before .before .last-in .ensures, c .before .before .before .before .cells-in .ensures, c .before .before .before .before .before .rules-from .ensures, c .before .before .before .before .before .before .scene-words .ensures) at (c .before .if2 .left))
+returns-2 c = c .checked-step .ensures ∙ wrong-other _ _ _ _ _ _ (c .before .before .before .before .before .before .if1 .taken) (rw (c .before .before .before .last-in .ensures, c .before .before .before .before .cells-in .ensures, c .before .before .before .before .before .rules-in .ensures) at (c .before .if2 .left))
 
 refused-body-requires : tie.Need-refused-body-requires
 refused-body-requires c κs = search needs
@@ -39,8 +36,7 @@ pub wrong-step-spec : {M : Type 1} → statement M
 wrong-step-spec =
     tie.close
     (tie.spec
-    scene-words-requires
-    rules-from-requires
+    rules-in-requires
     cells-in-requires
     last-in-requires
     late-body-requires

@@ -9,7 +9,7 @@ use Rattle.replay.proofs.moves.list.Statement.{statement}
 use Rattle.replay.proofs.moves.list.Tie as tie
 
 abbrev Inv-loop : tie.InvT-loop
-Inv-loop line count n list₀ i₀ list i = (length (list .boxes) ≡ 128) × (n ≤ 128) × (i ≤ n)
+Inv-loop line count n list₀ i₀ list i = (length (list .boxes) ≡ 512) × (n ≤ 512) × (i ≤ n)
 
 abbrev μ-loop : tie.MeasureT-loop
 μ-loop line count n list₀ i₀ list i = n - i
@@ -28,7 +28,7 @@ new-requires c κs = search needs
 
 loop-holds : tie.Need-loop-holds Inv-loop μ-loop
 unfolding emptyList
-loop-holds c = (ap (λ (l : BoxList). length (l .boxes)) (c .new .ensures) ∙ length-replicate 128 noBox, search needs, search needs)
+loop-holds c = (ap (λ (l : BoxList). length (l .boxes)) (c .new .ensures) ∙ length-replicate 512 noBox, search needs, search needs)
 
 mul-aabb : tie.Need-mul-aabb Inv-loop μ-loop
 mul-aabb c = search needs

@@ -12,19 +12,25 @@ use Rattle.scene.proofs.numbers.words_in.Statement.{statement}
 use Rattle.scene.proofs.numbers.words_in.Tie as tie
 
 abbrev Inv-loop : tie.InvT-loop
-Inv-loop file words₀ k₀ words k = (k ≤ 6) × (length words ≡ 6) × (take k words ++ listed (lateWord file) (6 - k) k ≡ listed (lateWord file) 6 0)
+Inv-loop file words₀ k₀ words k = (k ≤ 7) × (length words ≡ 7) × (take k words ++ listed (lateWord file) (7 - k) k ≡ listed (lateWord file) 7 0)
 
 abbrev μ-loop : tie.MeasureT-loop
-μ-loop file words₀ k₀ words k = 6 - k
+μ-loop file words₀ k₀ words k = 7 - k
 
 loop-holds : tie.Need-loop-holds Inv-loop μ-loop
 loop-holds c = (search needs, refl, refl)
 
-cast-body-word : tie.Need-cast-body-word Inv-loop μ-loop
-cast-body-word c = search needs
+cast-i : tie.Need-cast-i Inv-loop μ-loop
+cast-i c = search needs
 
 add-body-word : tie.Need-add-body-word Inv-loop μ-loop
 add-body-word c = search needs
+
+mul-body-word : tie.Need-mul-body-word Inv-loop μ-loop
+mul-body-word c = search needs
+
+add-body-word-2 : tie.Need-add-body-word-2 Inv-loop μ-loop
+add-body-word-2 c = search needs
 
 body-word-requires : tie.Need-body-word-requires Inv-loop μ-loop
 body-word-requires c κs = search needs
@@ -48,10 +54,10 @@ loop-again : tie.Need-loop-again Inv-loop μ-loop
 loop-again c =
     let at-loop = c .before .before in
     let start = at-loop .before .before in
-    (search needs, simp length-set (at-loop .loop .inv .1), turn (lateWord (start .args .file .now)) 6 (at-loop .loop .k) (at-loop .loop .words) _ (c .body-word .result) (c .body-word .ensures) (search needs) (search needs) (at-loop .loop .inv .2))
+    (search needs, simp length-set (at-loop .loop .inv .1), turn (lateWord (start .args .file .now)) 7 (at-loop .loop .k) (at-loop .loop .words) _ (c .body-word .result) (c .body-word .ensures) (search needs) (search needs) (at-loop .loop .inv .2))
 
 returns : tie.Need-returns Inv-loop μ-loop
-returns c = filled (lateWord (c .before .before .before .args .file .now)) 6 (c .before .loop .k) (c .before .loop .words) (c .before .loop .inv .1) (c .before .loop .inv .0) (search needs) (c .before .loop .inv .2)
+returns c = filled (lateWord (c .before .before .before .args .file .now)) 7 (c .before .loop .k) (c .before .loop .words) (c .before .loop .inv .1) (c .before .loop .inv .0) (search needs) (c .before .loop .inv .2)
 
 pub words-in-spec : {M : Type 1} → statement M
 words-in-spec =
@@ -60,8 +66,10 @@ words-in-spec =
     Inv-loop
     μ-loop
     loop-holds
-    cast-body-word
+    cast-i
     add-body-word
+    mul-body-word
+    add-body-word-2
     body-word-requires
     cast-words
     mul-words

@@ -61,10 +61,26 @@ cast-result-2 c = search needs
 returns-5 : tie.Need-returns-5
 unfolding bodyWordOf choose
 returns-5 c =
-    let at-if3 = c .before .before in
+    let at-if4 = c .before .before in
+    let at-if3 = at-if4 .before in
     let at-if2 = at-if3 .before in
     let at-if1 = at-if2 .before in
-    rw (le-ltb _ _ (at-if1 .if1 .left), le-ltb _ _ (at-if2 .if2 .left), le-ltb _ _ (at-if3 .if3 .left), ne-eqb _ _ (c .before .if4 .left))
+    rw (le-ltb _ _ (at-if1 .if1 .left), le-ltb _ _ (at-if2 .if2 .left), le-ltb _ _ (at-if3 .if3 .left), ne-eqb _ _ (at-if4 .if4 .left), eq-eqb _ _ (c .before .if5 .taken))
+
+cast-word-in-2 : tie.Need-cast-word-in-2
+cast-word-in-2 c = search needs
+
+word-in-requires-2 : tie.Need-word-in-requires-2
+word-in-requires-2 c κs = search needs
+
+returns-6 : tie.Need-returns-6
+unfolding bodyWordOf choose
+returns-6 c =
+    let at-if4 = c .before .before in
+    let at-if3 = at-if4 .before in
+    let at-if2 = at-if3 .before in
+    let at-if1 = at-if2 .before in
+    rw (le-ltb _ _ (at-if1 .if1 .left), le-ltb _ _ (at-if2 .if2 .left), le-ltb _ _ (at-if3 .if3 .left), ne-eqb _ _ (at-if4 .if4 .left), ne-eqb _ _ (c .before .if5 .left)) (c .word-in2 .ensures)
 
 pub body-word-of-spec : {M : Type 1} → statement M
 body-word-of-spec =
@@ -82,4 +98,7 @@ body-word-of-spec =
     cast-result
     returns-4
     cast-result-2
-    returns-5)
+    returns-5
+    cast-word-in-2
+    word-in-requires-2
+    returns-6)

@@ -13,10 +13,10 @@ use Rattle.writer.proofs.words.body_words.Tie as tie
 
 abbrev Inv-loop : tie.InvT-loop
 Inv-loop numbers words age n body₀ i₀ body i =
-    (i ≤ 48) × (length body ≡ 48) × (take i body ++ listed (bodyWordOf numbers words age n) (48 - i) i ≡ listed (bodyWordOf numbers words age n) 48 0)
+    (i ≤ 49) × (length body ≡ 49) × (take i body ++ listed (bodyWordOf numbers words age n) (49 - i) i ≡ listed (bodyWordOf numbers words age n) 49 0)
 
 abbrev μ-loop : tie.MeasureT-loop
-μ-loop numbers words age n body₀ i₀ body i = 48 - i
+μ-loop numbers words age n body₀ i₀ body i = 49 - i
 
 loop-holds : tie.Need-loop-holds Inv-loop μ-loop
 loop-holds c = (search needs, refl, refl)
@@ -43,12 +43,12 @@ loop-again : tie.Need-loop-again Inv-loop μ-loop
 loop-again c =
     let at-loop = c .before .before in
     let at-start = at-loop .before .before .before in
-    (search needs, simp length-set (at-loop .loop .inv .1), turn (bodyWordOf (at-start .args .numbers .now) (at-start .args .words .now) (at-start .args .age) (at-start .args .n)) 48 (at-loop .loop .i) (at-loop .loop .body) _ (c .body-word-of .result) (c .body-word-of .ensures) (search needs) (search needs) (at-loop .loop .inv .2))
+    (search needs, simp length-set (at-loop .loop .inv .1), turn (bodyWordOf (at-start .args .numbers .now) (at-start .args .words .now) (at-start .args .age) (at-start .args .n)) 49 (at-loop .loop .i) (at-loop .loop .body) _ (c .body-word-of .result) (c .body-word-of .ensures) (search needs) (search needs) (at-loop .loop .inv .2))
 
 returns : tie.Need-returns Inv-loop μ-loop
 returns c =
     let at-start = c .before .before .before .before in
-    filled (bodyWordOf (at-start .args .numbers .now) (at-start .args .words .now) (at-start .args .age) (at-start .args .n)) 48 (c .before .loop .i) (c .before .loop .body) (c .before .loop .inv .1) (c .before .loop .inv .0) (search needs) (c .before .loop .inv .2)
+    filled (bodyWordOf (at-start .args .numbers .now) (at-start .args .words .now) (at-start .args .age) (at-start .args .n)) 49 (c .before .loop .i) (c .before .loop .body) (c .before .loop .inv .1) (c .before .loop .inv .0) (search needs) (c .before .loop .inv .2)
 
 pub body-words-spec : {M : Type 1} → statement M
 body-words-spec =

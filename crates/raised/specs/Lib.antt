@@ -1,0 +1,2 @@
+-- The statement of the theorem of the cap.
+pub mod Raised
