@@ -1,4 +1,4 @@
--- One body's answer: 3 for a row that is not there whole; 10 for naming no window; 2 for what its window is; then the step's own, 3 to 9.
+-- One body's answer: 3 for a row that is not there whole; 10 for naming no window; 2 for what its window is; then the step's own, 3 to 7.
 use mathlib.Core.Bool.{Bool, _&&_}
 use mathlib.Core.List.{List}
 use Prim.Native.Nat.{ℕ, _+_}
