@@ -49,7 +49,7 @@ module _ (records : List ℕ) (shapes : List Float) (fit : tablesFit records sha
 
   -- a registered state has a record
   has-record : (id : ℕ) → isRegistered records id ≡ true → id < stateCount records
-  unfolding isRegistered
+  unfolding isRegistered choose
   has-record id h = go (decLt (id * 20 + 0) (length records))
     where
       places : (id n : ℕ) → n % 20 ≡ 0 → id * 20 + 0 < n → id < n / 20

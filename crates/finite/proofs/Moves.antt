@@ -4,11 +4,11 @@ use mathlib.Core.Path.{_≡_, refl}
 use mathlib.Core.Bool.{Bool, true, false, not, _&&_}
 use mathlib.Core.Logic.{inl, inr}
 use mathlib.Core.List.{List}
-use Prim.Native.Nat.{ℕ, zero, suc, _+_, _*_, _^_, _≤_, _<_}
-use native.Mathlib.Nat.{zero-lt-suc}
+use Prim.Native.Nat.{ℕ, _+_, _*_, _^_, _≤_, _<_}
 use native.Mathlib.Omega.{arith}
 use lib.Dec.{eqb, ltb, lit≤}
 use lib.Ieee.{Float, binary64, ofBits, neg, add, lt}
+use borrow.Author.Tests.{eqb-false}
 use Rattle.base.specs.Choose.{choose}
 use Rattle.base.specs.Ask.{Ask, refused, found, _>>=_, unless}
 use Rattle.base.proofs.Every.{both, and-true}
@@ -226,8 +226,14 @@ Some k = 0 < k
 
 pub checked-some : {A : Type 0} (n : ℕ) (ask : Ask A) → may.Refuses Some ask → may.Refuses Some (unless (not (eqb n 0)) n ask)
 unfolding choose
-checked-some zero ask h = h
-checked-some (suc n) ask h = may.names (suc n) (zero-lt-suc n)
+checked-some {A} n ask h = go (eqb n 0) (eqb-false n 0)
+  where
+    go : (t : Bool) → (t ≡ false → n ≡ 0 → ⊥) → may.Refuses Some (choose (not t) (refused n) ask)
+    go true f = h
+    go false f = may.names n (above n (f refl))
+      where
+        above : (n : ℕ) → (n ≡ 0 → ⊥) → 0 < n
+        above n f = omega arith
 
 answer-near : (aabb : Aabb) (asked : Ask MoveResult) → Finds Bounded asked → may.Refuses Some asked → MoveIsNear (moveAnswer aabb asked)
 answer-near aabb (found m) h g e = bounded-near m (h .each m refl)

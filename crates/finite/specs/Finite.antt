@@ -2,7 +2,7 @@
 -- of the definitions that the program is proved to answer, and how large these numbers get; proofs/Whole.antt shows it. Nothing is assumed but that
 -- the entry refused nothing: its own checks are all the premises there are.
 use mathlib.Core.Path.{_≡_}
-use mathlib.Core.Bool.{Bool, true, _&&_}
+use mathlib.Core.Bool.{Bool, true, false, _&&_}
 use mathlib.Core.List.{List}
 use Prim.Native.Nat.{ℕ, _+_, _^_}
 use lib.IntN.{pos}
