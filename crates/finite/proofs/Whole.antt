@@ -157,11 +157,11 @@ module _ (records : List ℕ) (shapes : List Float) (cells : List ℕ) (w : Wind
   asked-some : may.Refuses Some asked
   asked-some = checked-some (numberRefusal records rules body given) core (may.wider core (λ k h. omega arith) (core-refuses cells (withAir w (rules .air)) records shapes rules (bodyOf body) (motionOf given) age))
 
-  checked-near : tablesFit records shapes ≡ true → StepIsNear (checkedEntry records shapes cells w rules body given age)
+  pub checked-near : tablesFit records shapes ≡ true → StepIsNear (checkedEntry records shapes cells w rules body given age)
   unfolding checkedEntry
   checked-near fit = answer-near given asked (asked-bounded fit) asked-some
 
-  step-near : StepIsNear (stepEntry records shapes cells w rules body given age)
+  pub step-near : StepIsNear (stepEntry records shapes cells w rules body given age)
   unfolding stepEntry
   step-near =
       answer-near given _ (checked (lentRefusal records shapes cells w) asked (λ e. asked-bounded (tables-fit records shapes cells w e)))
