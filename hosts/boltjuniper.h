@@ -127,7 +127,8 @@ uint32_t boltjuniper_tick(const uint8_t *file, size_t file_len, double *out, siz
 /* The move of a box through a window: takes tables, a window, the air state, `mover` (the box x0 y0 z0 x1 y1 z1, then its delta x y z: nine
    numbers), the step height, and whether the body was on the ground (0 or 1). Writes ten numbers to `out`: the box after the move, the way that
    it went x y z, and 1 where it came to stand on the ground, else 0. Returns 0; or 1, 2, 3 (an air state without a registered record, the step
-   height, or a ground above 1), 4 (the box or the delta, or other than nine numbers), 11, then 5 or 6 at the first such event. */
+   height, or a ground above 1), 4 (the box or the delta, or other than nine numbers), 11, then 5 or 6 at the first such event. What is written is
+   finite: on each axis the box within 33,554,560, and the way within 128. */
 uint32_t boltjuniper_move(const uint32_t *records, size_t records_len, const float *shapes, size_t shapes_len, const uint32_t *cells,
                           size_t cells_len, int32_t ox, int32_t oy, int32_t oz, uint32_t sx, uint32_t sy, uint32_t sz, int32_t lowest,
                           int32_t highest, uint32_t air, const double *mover, size_t mover_len, double step, uint32_t ground, double *out,
