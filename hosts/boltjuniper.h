@@ -59,7 +59,8 @@ uint32_t boltjuniper_check_tables(const uint32_t *records, size_t records_len, c
 /* One tick of a body: takes tables, a window, a body and its age in ticks. Writes ten numbers to `out`:
       0  1  2   feet x y z            6   ground, 0 or 1                                   8   what its friction comes from, one of the cases below
       3  4  5   velocity x y z        7   the liquid: 0 none, 1 water, 2 lava              9   the sampled friction, 0 where none was sampled
-   Returns 0; or 1, 2, 3, 4, 11, then 5, 6 or 7 at the first such event, then 9. A step samples the block under the body's feet after its move. Where
+   Returns 0; or 1, 2, 3, 4, 11, then 5, 6 or 7 at the first such event. What is written is finite: on each axis feet within 33,554,534, and velocity
+   within 26,112, whatever is handed in. A step samples the block under the body's feet after its move. Where
    there is no friction to sample it goes on with 0.6, or with the rules' default under a living body, and the case says why: the cell is the air
    state, its column is not loaded, or its state has no registered record. It asks for no sample in the air, at rest, with ground friction none, of a
    living body in liquid, and of a falling block that landed. */
@@ -76,7 +77,9 @@ uint32_t boltjuniper_step(const uint32_t *records, size_t records_len, const flo
                           double *out, size_t out_len);
 
 /* The same for tables and a window that were checked before, once for many bodies: it looks for neither 1 nor 2, and is as safe. With a summary behind
-   the window's words that was checked too, its move passes over what is empty. */
+   the window's words that was checked too, its move passes over what is empty. What it writes is finite where the tables pass
+   boltjuniper_check_tables. Over tables that do not it answers all the same, and nothing is refused for them: a friction that is a NaN comes out as a
+   velocity that is one. */
 uint32_t boltjuniper_step_checked(const uint32_t *records, size_t records_len, const float *shapes, size_t shapes_len, const uint32_t *cells,
                                   size_t cells_len, int32_t ox, int32_t oy, int32_t oz, uint32_t sx, uint32_t sy, uint32_t sz,
                                   int32_t lowest, int32_t highest, const double *numbers, size_t numbers_len, const uint32_t *words,
@@ -144,7 +147,7 @@ uint32_t boltjuniper_step_falling_summed(const uint32_t *records, size_t records
    For each body 13 numbers are written, row i for body i:
       0   its refusal, or 0                         1 to 12   the twelve of boltjuniper_step_falling
    A refused body has its own number there, its motion and fall record as they were handed in, liquid 0 and case 0: 3 for a row that is not there
-   whole, 10 for naming no window, 2 for a window that breaks a limit or whose row or words are not there whole, then 3 to 9 as
+   whole, 10 for naming no window, 2 for a window that breaks a limit or whose row or words are not there whole, then 3 to 7 as
    boltjuniper_step_falling. So one bad row costs its body the tick, and no other.
 
    It takes tables, `windows_count` windows in rows, `cells`, `bodies_count` bodies in rows, and writes bodies_count * 13 numbers to `out`; the rest of
@@ -168,14 +171,15 @@ uint32_t boltjuniper_midnight_capped(const uint32_t *records, size_t records_len
                                      size_t out_len);
 
 /* One tick of the scene in `file` (blocks of 512 bytes of either mark, as onetick reads them; no alignment is asked for). Writes the ten numbers of
-   boltjuniper_step to `out`. Returns 0; or 8 where the file is no scene, 1, 2, 3, 4, 11, then 5, 6 or 7 at the first such event, then 9. It keeps
+   boltjuniper_step to `out`. Returns 0; or 8 where the file is no scene, 1, 2, 3, 4, 11, then 5, 6 or 7 at the first such event. It keeps
    two arrays of 15,744 words of the file on the stack, and reaches 136 KB below its caller (docs/STACK.md): call it from a thread that has them. */
 uint32_t boltjuniper_tick(const uint8_t *file, size_t file_len, double *out, size_t out_len);
 
 /* The move of a box through a window: takes tables, a window, the air state, `mover` (the box x0 y0 z0 x1 y1 z1, then its delta x y z: nine
    numbers), the step height, whether the body was on the ground (0 or 1), and the cap, as in a body's words. Writes ten numbers to `out`: the box
    after the move, the way that it went x y z, and 1 where it came to stand on the ground, else 0. Returns 0; or 1, 2, 3 (an air state without a
-   registered record, the step height, a ground above 1, or a cap above 512), 4 (the box or the delta, or other than nine numbers), 11, then 5 or 6 at the first such event. */
+   registered record, the step height, a ground above 1, or a cap above 512), 4 (the box or the delta, or other than nine numbers), 11, then 5 or 6 at
+   the first such event. What is written is finite: on each axis the box within 33,554,560, and the way within 128. */
 uint32_t boltjuniper_move(const uint32_t *records, size_t records_len, const float *shapes, size_t shapes_len, const uint32_t *cells,
                           size_t cells_len, int32_t ox, int32_t oy, int32_t oz, uint32_t sx, uint32_t sy, uint32_t sz, int32_t lowest,
                           int32_t highest, uint32_t air, const double *mover, size_t mover_len, double step, uint32_t ground,

@@ -32,7 +32,6 @@ SENTENCES = {
     6: "More boxes than the cap lie in the way.",
     7: "The flow test meets a state that is not registered. The original program would have ended there.",
     8: "The file is no scene: a mark, number, check, kind, count or unused word is wrong, both marks are in it, or blocks are missing or left over.",
-    9: "The computed motion is not finite.",
     10: "In the midnight run: the body names no window.",
     11: "In a direct call: the memory lent for the answer is too short.",
     12: "In a direct call that writes a scene: it has more than 128 blocks.",
@@ -299,7 +298,8 @@ def step(tables, window, body):
 
 
 def step_checked(tables, window, body):
-    """The same for tables and a window that were checked before: it looks for neither 1 nor 2, and is as safe."""
+    """The same for tables and a window that were checked before: it looks for neither 1 nor 2, and is as safe. Its motion is finite where the tables
+    pass their check; of others a friction that is a NaN comes out as a velocity that is one."""
     return _judged(_tick(_Lent().tables(tables).window(window).body(body).answer("step_checked", 10)))
 
 

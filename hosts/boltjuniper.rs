@@ -242,7 +242,8 @@ pub fn step(t: Tables, w: Window, b: &Body) -> Result<Tick, Refusal> {
     ticked(refusal, out)
 }
 
-/// The same for tables and a window that were checked before: it looks for neither 1 nor 2, and is as safe.
+/// The same for tables and a window that were checked before: it looks for neither 1 nor 2, and is as safe. Its motion is finite where the tables pass
+/// their check; of others a friction that is a NaN comes out as a velocity that is one.
 pub fn step_checked(t: Tables, w: Window, b: &Body) -> Result<Tick, Refusal> {
     let ([ox, oy, oz], [sx, sy, sz], mut out) = (w.origin, w.sizes, [0.0; 10]);
     let refusal = unsafe {

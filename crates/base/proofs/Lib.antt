@@ -2,6 +2,7 @@
 pub mod Cases
 pub mod Asks
 pub mod Values
+pub mod Bounds
 pub mod Every
 pub mod Fill
 pub mod Listed

@@ -5,7 +5,7 @@ use Prim.Native.Nat.{ℕ}
 use lib.Dec.{ltb}
 use lib.Ieee.{Float, lt}
 use Rattle.base.specs.Choose.{choose}
-use Rattle.floats.specs.Numbers.{zero64, isFinite, isWithin}
+use Rattle.floats.specs.Numbers.{zero64, isWithin}
 use Rattle.boxes.specs.declared.Vec3.{Vec3}
 use Rattle.boxes.specs.Limits.{twoTo, areWithin, isStep}
 use Rattle.sweeps.specs.Lists.{isCap}
@@ -13,7 +13,6 @@ use Rattle.tables.specs.Tables.{isRegistered}
 use Rattle.bodies.specs.declared.BodyNumbers.{BodyNumbers}
 use Rattle.bodies.specs.declared.Rules.{Rules}
 use Rattle.bodies.specs.declared.MotionNumbers.{MotionNumbers}
-use Rattle.bodies.specs.declared.Motion.{Motion}
 
 -- ---- 3: body and rules numbers, unknown enum numbers, a yes or no above 1, an air state without a registered record, a cap above 512
 
@@ -70,11 +69,3 @@ motionFits feet velocity = isPosition feet && isVelocity velocity
 unfoldable pub numberRefusal : List ℕ → Rules → BodyNumbers → MotionNumbers → ℕ
 numberRefusal records rules body given =
     choose (numbersFit records rules body (given .ground)) (choose (motionFits (given .feet) (given .velocity)) 0 4) 3
-
--- ---- 9: a result that is not finite
-
-abbrev pub finiteVec : Vec3 → Bool
-finiteVec v = isFinite (v .x) && isFinite (v .y) && isFinite (v .z)
-
-unfoldable pub isFiniteMotion : Motion → Bool
-isFiniteMotion m = finiteVec (m .feet) && finiteVec (m .velocity)

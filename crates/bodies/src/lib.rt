@@ -7,7 +7,6 @@ ghost use Rattle.bodies.specs.Body.{modelOf, stageOf, frictionOf, isYes,
 mod limits;
 mod numbers;
 
-pub use limits::is_finite_motion;
 pub use limits::is_position;
 pub use limits::number_refusal;
 pub use limits::rules_fit;

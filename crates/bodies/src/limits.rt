@@ -1,11 +1,10 @@
 // The limits on what a host hands in.
 use boxes::Vec3;
 use crate::BodyNumbers;
-use crate::Motion;
 use crate::MotionNumbers;
 use crate::Rules;
 ghost use mathlib.Core.Path.{_≡_};
-ghost use Rattle.bodies.specs.Limits.{isExtent, isSmall, measuresFit, casesFit, rulesFit, numbersFit, isPosition, isVelocity, motionFits, numberRefusal, finiteVec, isFiniteMotion};
+ghost use Rattle.bodies.specs.Limits.{isExtent, isSmall, measuresFit, casesFit, rulesFit, numbersFit, isPosition, isVelocity, motionFits, numberRefusal};
 
 // A width or a height: over 0, at most 16.
 fn is_extent(x: f64) -> bool
@@ -91,17 +90,4 @@ pub fn number_refusal(records: &[u32], rules: Rules, body: BodyNumbers, given: M
         return 4;
     }
     3
-}
-
-fn finite_vec(v: Vec3) -> bool
-    ensures { λ r. ⌜ r ≡ finiteVec v ⌝ }
-{
-    floats::is_finite(v.x) & floats::is_finite(v.y) & floats::is_finite(v.z)
-}
-
-// Whether nothing is a 9.
-pub fn is_finite_motion(m: Motion) -> bool
-    ensures { λ r. ⌜ r ≡ isFiniteMotion m ⌝ }
-{
-    finite_vec(m.feet) & finite_vec(m.velocity)
 }

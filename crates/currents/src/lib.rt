@@ -23,14 +23,14 @@ ghost use Rattle.flow.specs.Answers.{liquidAsked};
 ghost use Rattle.currents.specs.Answers.{gatheredAsked, currentAsked};
 
 // The flows of one kind of liquid, summed, and how many there were: 0, 1, or 2 for more.
-struct Stream {
-    flow: Vec3,
-    count: u32,
+pub struct Stream {
+    pub flow: Vec3,
+    pub count: u32,
 }
 
-struct Streams {
-    water: Stream,
-    lava: Stream,
+pub struct Streams {
+    pub water: Stream,
+    pub lava: Stream,
 }
 
 enum Gathered {

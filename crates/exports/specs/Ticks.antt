@@ -8,7 +8,7 @@ use lib.IntN.{pos}
 use lib.Ieee.{Float, binary64, ofInt}
 use Rattle.base.specs.Loop.{stored}
 use Rattle.base.specs.Choose.{choose}
-use Rattle.base.specs.Ask.{Ask, _>>=_}
+use Rattle.base.specs.Ask.{Ask}
 use Rattle.bodies.specs.Body.{bodyOf, motionOf}
 use Rattle.bodies.specs.Numbers.{lengthsFit}
 pub use Rattle.bodies.specs.Lent.{motionAt, bodyAt, rulesAt}
@@ -20,7 +20,7 @@ use Rattle.window.specs.Look.{lookAt}
 use Rattle.window.specs.Numbers.{withAir}
 use Rattle.step.specs.declared.StepAnswer.{StepAnswer}
 use Rattle.ticks.specs.declared.Tick.{Tick}
-use Rattle.step.specs.Answers.{finiteTick, stepAnswer}
+use Rattle.step.specs.Answers.{stepAnswer}
 use Rattle.ticks.specs.Step.{stepBodySensed, stepBodyPast}
 use Rattle.exports.specs.Room.{roomy}
 use Rattle.lent_steps.specs.Steps.{stepPlaces, stepNumbers}
@@ -31,11 +31,11 @@ use Rattle.lent_steps.specs.Steps.{stepPlaces, stepNumbers}
 abbrev pub wholeBody : List Float → List ℕ → ℕ → Bool
 wholeBody numbers words places = lengthsFit numbers words && leb stepPlaces places
 
--- ---- the step: 1 and 2 (`lent`), 3, 4 and 11 in order, before any cell is asked for; then 5, 6 or 7 at the first such event; then 9
+-- ---- the step: 1 and 2 (`lent`), 3, 4 and 11 in order, before any cell is asked for; then 5, 6 or 7 at the first such event
 
 abbrev pub tickAt : List ℕ → List Float → List ℕ → Window → List Float → List ℕ → ℕ → Ask Tick
 tickAt records shapes cells w numbers words age =
-    stepBodySensed (lookAt cells (withAir w (rulesAt numbers words .air))) records shapes (rulesAt numbers words) (bodyOf (bodyAt numbers words)) (motionOf (motionAt numbers words)) age >>= finiteTick
+    stepBodySensed (lookAt cells (withAir w (rulesAt numbers words .air))) records shapes (rulesAt numbers words) (bodyOf (bodyAt numbers words)) (motionOf (motionAt numbers words)) age
 
 -- where this tick is asked for
 unfoldable pub steppedBy : ℕ → Ask Tick → List ℕ → List Float → List ℕ → ℕ → StepAnswer
@@ -49,7 +49,7 @@ stepAt records shapes cells w numbers words age places =
 -- over tables and a window that were checked before, by the summary behind the window's words, where there is one
 abbrev pub pastAt : List ℕ → List Float → List ℕ → Window → List Float → List ℕ → ℕ → Ask Tick
 pastAt records shapes cells w numbers words age =
-    stepBodyPast cells (withAir w (rulesAt numbers words .air)) records shapes (rulesAt numbers words) (bodyOf (bodyAt numbers words)) (motionOf (motionAt numbers words)) age >>= finiteTick
+    stepBodyPast cells (withAir w (rulesAt numbers words .air)) records shapes (rulesAt numbers words) (bodyOf (bodyAt numbers words)) (motionOf (motionAt numbers words)) age
 
 abbrev pub checkedAt : List ℕ → List Float → List ℕ → Window → List Float → List ℕ → ℕ → ℕ → StepAnswer
 checkedAt records shapes cells w numbers words age places = steppedBy 0 (pastAt records shapes cells w numbers words age) records numbers words places

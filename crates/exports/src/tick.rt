@@ -49,7 +49,8 @@ pub extern "C" fn boltjuniper_step(
     short_of(lent::check_lent(records, shapes, cells, w), early)
 }
 
-// The same over tables and a window that were checked before, once for many bodies.
+// The same over tables and a window that were checked before, once for many bodies. That what it writes is finite is promised of tables that pass
+// the check, and of no others.
 #[no_mangle]
 pub extern "C" fn boltjuniper_step_checked(
     records: &[u32], shapes: &[f32], cells: &[u32],

@@ -102,7 +102,7 @@ record Computed : Type 0 where
   fourth : Goes (between bareColumn 565 545) record { old = hundredths 565; new = low; ground = false; liquid = None }
 
 computed : Computed
-unfolding C.choose LS.isCap LS.capOf LO.listed A.asking A.turning N.sizeOf H.floorSize H.floorInt H.cellOf M.clipAll M.clipSequence M.steppedUp M.moveOver G.spanOf G.onFrom GC.cellHolding D.line D.layer D.walk B.isRegistered B.blocksMotion B.frictionAt B.kindOf B.liquidOf B.liquidAt B.boxesAt W.isVoid W.indexOf W.columnIndexOf K.lookAt J.connectKind J.connectedState SH.connectedShape SH.shapeOf SH.cellShape CO.offerAll CO.visit CO.collectBlockBoxes MA.moveAabb Q.liquidHeld U.surfaceAt Y.shrunk Y.cellsOf Y.surfaceOf Y.wetIn Y.livingTurn Y.livingLiquid BB.modelOf BB.stageOf BB.frictionOf BB.isYes BB.yesNumber BB.flapOf BB.bodyOf BB.motionOf BL.isExtent BL.isSmall BL.measuresFit BL.casesFit BL.rulesFit BL.numbersFit BL.isPosition BL.isVelocity BL.motionFits BL.numberRefusal BL.isFiniteMotion DR.sunk DR.flapped DR.damped DR.floated DR.restsNow DR.pulled DR.unlessStopped SA.sampleOfState SA.told SA.sampled SA.livingSample SA.livingSupport SA.supportAfter TS.tickAfter TS.afterMove TS.moveOnBy TS.tickBegins TS.senses TS.stepBodyBy TS.stepBodySensed SE.finiteTick P.off P.on P.fence P.wall P.rows P.records P.shapes I.toBits I.ofBits I.ofInt I.round I.add I.sub I.mul I.div I.neg I.lt I.le I.eq I.ne
+unfolding C.choose LS.isCap LS.capOf LO.listed A.asking A.turning N.sizeOf H.floorSize H.floorInt H.cellOf M.clipAll M.clipSequence M.steppedUp M.moveOver G.spanOf G.onFrom GC.cellHolding D.line D.layer D.walk B.isRegistered B.blocksMotion B.frictionAt B.kindOf B.liquidOf B.liquidAt B.boxesAt W.isVoid W.indexOf W.columnIndexOf K.lookAt J.connectKind J.connectedState SH.connectedShape SH.shapeOf SH.cellShape CO.offerAll CO.visit CO.collectBlockBoxes MA.moveAabb Q.liquidHeld U.surfaceAt Y.shrunk Y.cellsOf Y.surfaceOf Y.wetIn Y.livingTurn Y.livingLiquid BB.modelOf BB.stageOf BB.frictionOf BB.isYes BB.yesNumber BB.flapOf BB.bodyOf BB.motionOf BL.isExtent BL.isSmall BL.measuresFit BL.casesFit BL.rulesFit BL.numbersFit BL.isPosition BL.isVelocity BL.motionFits BL.numberRefusal DR.sunk DR.flapped DR.damped DR.floated DR.restsNow DR.pulled DR.unlessStopped SA.sampleOfState SA.told SA.sampled SA.livingSample SA.livingSupport SA.supportAfter TS.tickAfter TS.afterMove TS.moveOnBy TS.tickBegins TS.senses TS.stepBodyBy TS.stepBodySensed P.off P.on P.fence P.wall P.rows P.records P.shapes I.toBits I.ofBits I.ofInt I.round I.add I.sub I.mul I.div I.neg I.lt I.le I.eq I.ne
 computed =
     record {
       first = record { accepted = refl; moved = refl };

@@ -12,8 +12,8 @@ use lib.Ieee.Exact.{HasValue}
 use lib.Ieee.Back.{round-whole}
 use lib.Ieee.Order.{round-mono}
 use lib.Ieee.Positive.{above, positive-of-value, above-of-le, values-of-le}
+use Rattle.base.proofs.Bounds.{neg-round}
 use Rattle.floats.specs.Numbers.{one64}
-use Rattle.wholes.proofs.Rounding.{neg-round}
 use Rattle.boxes.specs.declared.Aabb.{Aabb}
 use Rattle.boxes.specs.Boxes.{offsetBy, meet, overlap}
 use Rattle.window.specs.declared.Pos.{Pos}

@@ -1,4 +1,4 @@
--- One body's answer: 3 for a row that is not there whole; 10 for naming no window; 2 for what its window is; then the step's own, 3 to 9, with 13 of
+-- One body's answer: 3 for a row that is not there whole; 10 for naming no window; 2 for what its window is; then the step's own, 3 to 7, with 13 of
 -- the window's summary after 4.
 use mathlib.Core.Bool.{Bool, _&&_}
 use mathlib.Core.List.{List}

@@ -37,7 +37,7 @@ use Rattle.through.specs.Through.{moveAabb}
 use Rattle.ticks.specs.declared.Tick.{Tick}
 use Rattle.ticks.specs.Step.{tickAfter, afterMove, moveOnBy, tickBegins, senses, stepBodyBy, stepBodySensed}
 use Rattle.step.specs.declared.StepAnswer.{StepAnswer}
-use Rattle.step.specs.Answers.{finiteTick, stepAnswer, fitting, checkedAsked, stepEntry, summedAsked, stepSummed}
+use Rattle.step.specs.Answers.{stepAnswer, fitting, checkedAsked, stepEntry, summedAsked, stepSummed}
 use Rattle.falls.specs.declared.Fall.{Fall}
 use Rattle.falls.specs.declared.FallingAnswer.{FallingAnswer}
 use Rattle.falls.specs.Rule.{fallFits}
@@ -116,10 +116,8 @@ module _ (rules : Rules) (c d : ℕ) (raise : Raised c d) (records : List ℕ) (
       let look : Pos → Ask Block = lookAt cells (withAir w (rules .air)) in
       rw same-refusal
       (chosen _ (refused (numberRefusal records (withCap rules d) body given)) _ _
-      (before _ _ _ _
       (ticks rules c d look records shapes
-      (move-raised records shapes cells (withAir w (rules .air)) (capOf c) (capOf d) (raise .above)) (bodyOf body) (motionOf given) age)
-      (λ t. refl)))
+      (move-raised records shapes cells (withAir w (rules .air)) (capOf c) (capOf d) (raise .above)) (bodyOf body) (motionOf given) age))
 
   pub stepped : Alters6 (stepEntry records shapes cells w (withCap rules c) body given age .refusal) (stepEntry records shapes cells w (withCap rules c) body given age) (stepEntry records shapes cells w (withCap rules d) body given age)
   unfolding stepEntry

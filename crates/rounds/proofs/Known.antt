@@ -14,15 +14,12 @@ use Rattle.floats.specs.Numbers.{zero64, isFinite, isWithin, sizeOf}
 use Rattle.boxes.specs.declared.Vec3.{Vec3}
 use Rattle.boxes.specs.Limits.{twoTo, areWithin, isStep}
 use Rattle.cover.specs.Cover.{boxCount, boxNumber}
-use Rattle.tables.specs.Tables.{isRegistered}
 use Rattle.tables.proofs.Lists.{getD-any}
 use Rattle.table_check.specs.Check.{four, sideFits, boxFits}
-use Rattle.bodies.specs.declared.BodyNumbers.{BodyNumbers}
-use Rattle.bodies.specs.declared.Rules.{Rules}
 use Rattle.bodies.specs.Numbers.{numberAt}
-use Rattle.sweeps.specs.Lists.{isCap}
-use Rattle.bodies.specs.Limits.{isExtent, isSmall, measuresFit, casesFit, rulesFit, numbersFit, isPosition, isVelocity, motionFits}
+use Rattle.bodies.specs.Limits.{isExtent, isSmall, isPosition, isVelocity, motionFits}
 use Rattle.bodies.specs.Lent.{motionAt, bodyAt, rulesAt}
+use Rattle.bodies.proofs.Fits.{fitted}
 use Rattle.files.specs.Contents.{Contents}
 use Rattle.rounds.proofs.Passed.{Passed}
 
@@ -58,90 +55,24 @@ extent : (x : Float) → isExtent x ≡ true → isNan x ≡ false
 unfolding isExtent
 extent x h = within x (twoTo 4) (both (isWithin x (twoTo 4)) (lt zero64 x) h .one)
 
-record Measures (b : BodyNumbers) : Type 0 where
-  width-known : isNan (b .width) ≡ false
-  height-known : isNan (b .height) ≡ false
-  offset-known : isNan (b .offset) ≡ false
-  gravity-known : isNan (b .gravity) ≡ false
-  vertical-known : isNan (b .vertical) ≡ false
-  horizontal-known : isNan (b .horizontal) ≡ false
-  flap-known : isNan (b .flap) ≡ false
-  step-known : isNan (b .step) ≡ false
-
-measures : (b : BodyNumbers) → measuresFit b ≡ true → Measures b
-unfolding measuresFit
-measures b h =
-    let w = isExtent (b .width) in
-    let t = isExtent (b .height) in
-    let o = isSmall (b .offset) in
-    let g = isSmall (b .gravity) in
-    let v = isSmall (b .vertical) in
-    let z = isSmall (b .horizontal) in
-    let f = isSmall (b .flap) in
-    let h₁ = both (w && t && o && g && v && z && f) (isStep (b .step)) h in
-    let h₂ = both (w && t && o && g && v && z) f (h₁ .one) in
-    let h₃ = both (w && t && o && g && v) z (h₂ .one) in
-    let h₄ = both (w && t && o && g) v (h₃ .one) in
-    let h₅ = both (w && t && o) g (h₄ .one) in
-    let h₆ = both (w && t) o (h₅ .one) in
-    let h₇ = both w t (h₆ .one) in
-    record {
-      width-known = extent (b .width) (h₇ .one);
-      height-known = extent (b .height) (h₇ .two);
-      offset-known = small (b .offset) (h₆ .two);
-      gravity-known = small (b .gravity) (h₅ .two);
-      vertical-known = small (b .vertical) (h₄ .two);
-      horizontal-known = small (b .horizontal) (h₃ .two);
-      flap-known = small (b .flap) (h₂ .two);
-      step-known = within (b .step) (twoTo 2) (both (isWithin (b .step) (twoTo 2)) (le zero64 (b .step)) (h₁ .two) .one);
-    }
-
-record Ruled (r : Rules) : Type 0 where
-  friction-known : isNan (r .friction) ≡ false
-  depth-known : isNan (r .depth) ≡ false
-  gravity-known : isNan (r .gravity) ≡ false
-  water-known : isNan (r .water) ≡ false
-  lava-known : isNan (r .lava) ≡ false
-
-ruled : (records : List ℕ) (r : Rules) → rulesFit records r ≡ true → Ruled r
-unfolding rulesFit
-ruled records r h =
-    let f = isSmall (r .friction) in
-    let d = isSmall (r .depth) in
-    let g = isSmall (r .gravity) in
-    let w = isSmall (r .water) in
-    let l = isSmall (r .lava) in
-    let a = isRegistered records (r .air) in
-    let h₀ = both (f && d && g && w && l && a) (isCap (r .cap)) h in
-    let h₁ = both (f && d && g && w && l) a (h₀ .one) in
-    let h₂ = both (f && d && g && w) l (h₁ .one) in
-    let h₃ = both (f && d && g) w (h₂ .one) in
-    let h₄ = both (f && d) g (h₃ .one) in
-    let h₅ = both f d (h₄ .one) in
-    record {
-      friction-known = small (r .friction) (h₅ .one);
-      depth-known = small (r .depth) (h₅ .two);
-      gravity-known = small (r .gravity) (h₄ .two);
-      water-known = small (r .water) (h₃ .two);
-      lava-known = small (r .lava) (h₂ .two);
-    }
+step : (x : Float) → isStep x ≡ true → isNan x ≡ false
+step x h = within x (twoTo 2) (both (isWithin x (twoTo 2)) (le zero64 x) h .one)
 
 module _ (c : Contents) (p : Passed c) where
   pub number-known : (k : ℕ) → k < 19 → isNan (numberAt (c .numbers) k) ≡ false
-  unfolding numbersFit motionFits isPosition isVelocity every
+  unfolding motionFits isPosition isVelocity every
   number-known k h =
       let b = bodyAt (c .numbers) (c .words) in
       let r = rulesAt (c .numbers) (c .words) in
       let g = motionAt (c .numbers) (c .words) in
-      let t₁ = both (measuresFit b && casesFit b && rulesFit (c .records) r) _ (p .numbers-fit) in
-      let t₂ = both (measuresFit b && casesFit b) (rulesFit (c .records) r) (t₁ .one) in
-      let m = measures b (both (measuresFit b) (casesFit b) (t₂ .one) .one) in
-      let u = ruled (c .records) r (t₂ .two) in
+      let f = fitted (c .records) r b (g .ground) (p .numbers-fit) in
+      let m = f .body in
+      let u = f .rules in
       let s = both (areWithin (g .feet) (twoTo 25)) (areWithin (g .velocity) (twoTo 6)) (p .motion-fits) in
       let x = vector (g .feet) (twoTo 25) (s .one) in
       let v = vector (g .velocity) (twoTo 6) (s .two) in
       let all : every 19 (λ k. not (isNan (numberAt (c .numbers) k))) ≡ true =
-          rw (x .x-known, x .y-known, x .z-known, v .x-known, v .y-known, v .z-known, m .width-known, m .height-known, m .offset-known, m .gravity-known, m .vertical-known, m .horizontal-known, m .flap-known, m .step-known, u .friction-known, u .depth-known, u .gravity-known, u .water-known, u .lava-known) in
+          rw (x .x-known, x .y-known, x .z-known, v .x-known, v .y-known, v .z-known, extent _ (m .width), extent _ (m .height), small _ (m .offset), small _ (m .gravity), small _ (m .vertical), small _ (m .horizontal), small _ (m .flap), step _ (m .step), small _ (u .friction), small _ (u .depth), small _ (u .gravity), small _ (u .water), small _ (u .lava)) in
       turned (isNan (numberAt (c .numbers) k)) (every-at 19 (λ k. not (isNan (numberAt (c .numbers) k))) all k h)
     where
       turned : (t : Bool) → not t ≡ true → t ≡ false

@@ -1,4 +1,4 @@
--- What a file's tick can be refused by: 1 to 9, so that a refusal is written whole; and 8 where the file is no scene. Assumes nothing.
+-- What a file's tick can be refused by: 1 to 8, so that a refusal is written whole; and 8 where the file is no scene. Assumes nothing.
 use mathlib.Core.Path.{_≡_, refl}
 use mathlib.Core.Bool.{Bool, true, false}
 use mathlib.Core.Logic.{_⊎_, inl, inr}
@@ -13,20 +13,20 @@ use Rattle.files.specs.Files.{isScene, countsOf}
 use Rattle.scene.specs.Scene.{malformed, stepIn, tickOf}
 use Rattle.scene.specs.Rewritten.{rewriteAnswer}
 
-within : (n : ℕ) → (n ≡ 0) ⊎ Named n → n ≤ 9
+within : (n : ℕ) → (n ≡ 0) ⊎ Named n → n ≤ 8
 within n (inl e) = omega arith
 within n (inr k) = omega arith
 
-step-within : (file : List ℕ) (n : Counts) → stepIn file n .refusal ≤ 9
+step-within : (file : List ℕ) (n : Counts) → stepIn file n .refusal ≤ 8
 unfolding stepIn
 step-within file n = within _ (step-refusal _ _ _ _ _ _ _ _)
 
-chosen : (t : Bool) (a : StepAnswer) → a .refusal ≤ 9 → choose t a malformed .refusal ≤ 9
+chosen : (t : Bool) (a : StepAnswer) → a .refusal ≤ 8 → choose t a malformed .refusal ≤ 8
 unfolding choose
 chosen true a h = h
 chosen false a h = omega arith
 
-pub tick-within : (file : List ℕ) → tickOf file .refusal ≤ 9
+pub tick-within : (file : List ℕ) → tickOf file .refusal ≤ 8
 unfolding tickOf
 tick-within file = chosen (isScene file) (stepIn file (countsOf file)) (step-within file (countsOf file))
 

@@ -22,7 +22,7 @@ use Rattle.ticks.specs.declared.Tick.{Tick}
 use Rattle.ticks.specs.Step.{stepBodySensed, stepBodyPast}
 use Rattle.ticks.proofs.Past.{step-with, step-without}
 use Rattle.step.specs.declared.StepAnswer.{StepAnswer}
-use Rattle.step.specs.Answers.{finiteTick, stepAnswer, fitting, checkedAsked, pastAsked, checkedEntry, stepAsked, stepEntry}
+use Rattle.step.specs.Answers.{stepAnswer, fitting, checkedAsked, pastAsked, checkedEntry, stepAsked, stepEntry}
 
 answer-hands-back : (given : MotionNumbers) (asked : Ask Tick) → 0 < stepAnswer given asked .refusal
     → (stepAnswer given asked .motion ≡ given) × (stepAnswer given asked .liquid ≡ None) × (stepAnswer given asked .support ≡ NotAsked)
@@ -46,7 +46,7 @@ module _ (records : List ℕ) (shapes : List Float) (cells : List ℕ) (w : Wind
   -- where the tick by the summary is the plain one, what is asked is the same
   asked-alike : stepBodyPast cells (withAir w (rules .air)) records shapes rules (bodyOf body) (motionOf given) age ≡ stepBodySensed (lookAt cells (withAir w (rules .air))) records shapes rules (bodyOf body) (motionOf given) age
       → pastAsked records shapes cells w rules body given age ≡ checkedAsked records shapes cells w rules body given age
-  asked-alike e = ap (λ (t : Ask Tick). fitting records rules body given (t >>= finiteTick)) e
+  asked-alike e = ap (λ (t : Ask Tick). fitting records rules body given t) e
 
   -- with a true summary
   pub past-with : Kept records cells (withAir w (rules .air)) → pastAsked records shapes cells w rules body given age ≡ checkedAsked records shapes cells w rules body given age

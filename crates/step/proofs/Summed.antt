@@ -24,7 +24,7 @@ use Rattle.bodies.specs.Body.{bodyOf, motionOf}
 use Rattle.bodies.specs.Limits.{numberRefusal}
 use Rattle.ticks.specs.declared.Tick.{Tick}
 use Rattle.ticks.specs.Step.{stepBodySensed}
-use Rattle.step.specs.Answers.{finiteTick, stepAnswer, fitting, checkedAsked, pastAsked, checkedEntry, summedAsked, stepSummed, stepEntry}
+use Rattle.step.specs.Answers.{stepAnswer, fitting, checkedAsked, pastAsked, checkedEntry, summedAsked, stepSummed, stepEntry}
 use Rattle.step.proofs.Laws.{past-with}
 
 module _ (records : List ℕ) (shapes : List Float) (words : List ℕ) (w : Window) (rules : Rules) (body : BodyNumbers) (given : MotionNumbers) (age : ℕ) where
@@ -37,7 +37,7 @@ module _ (records : List ℕ) (shapes : List Float) (words : List ℕ) (w : Wind
     pub past-plain : pastAsked records shapes words w rules body given age ≡ checkedAsked records shapes (plain words w) w rules body given age
     past-plain =
         past-with records shapes words w rules body given age (kept records words (withAir w (rules .air)) h)
-        ∙ ap (λ (look : Pos → Ask Block). fitting records rules body given (stepBodySensed look records shapes rules (bodyOf body) (motionOf given) age >>= finiteTick)) (λ i p. look-alike p i)
+        ∙ ap (λ (look : Pos → Ask Block). fitting records rules body given (stepBodySensed look records shapes rules (bodyOf body) (motionOf given) age)) (λ i p. look-alike p i)
 
     -- of the checked step: over the words with the summary, and over those of cells and columns
     pub checked-summed : checkedEntry records shapes words w rules body given age ≡ stepAnswer given (checkedAsked records shapes (plain words w) w rules body given age)
@@ -53,7 +53,7 @@ module _ (records : List ℕ) (shapes : List Float) (words : List ℕ) (w : Wind
     unfolding choose
     asked-summed =
         let n = numberRefusal records rules body given in
-        (rw h) ∙ twice (not (eqb n 0)) n (stepBodySensed (lookAt (plain words w) (withAir w (rules .air))) records shapes rules (bodyOf body) (motionOf given) age >>= finiteTick)
+        (rw h) ∙ twice (not (eqb n 0)) n (stepBodySensed (lookAt (plain words w) (withAir w (rules .air))) records shapes rules (bodyOf body) (motionOf given) age)
 
     -- of the step: with it and without
     pub summed-alike : stepSummed records shapes words w rules body given age ≡ stepEntry records shapes (plain words w) w rules body given age

@@ -20,10 +20,10 @@ use Rattle.bodies.specs.declared.MotionNumbers.{MotionNumbers}
 use Rattle.bodies.specs.Body.{isYes, yesNumber, bodyOf, motionOf}
 use Rattle.samples.specs.Samples.{isAsked}
 use Rattle.ticks.specs.declared.Tick.{Tick}
-use Rattle.ticks.specs.Step.{stepBodySensed, tellsSample}
-use Rattle.ticks.proofs.Tells.{Finds, nothing, one, by, either, tick-tells}
+use Rattle.ticks.specs.Step.{tellsSample}
+use Rattle.ticks.proofs.Tells.{Finds, nothing, either, tick-tells}
 use Rattle.step.specs.declared.StepAnswer.{StepAnswer}
-use Rattle.step.specs.Answers.{finiteTick, stepAnswer, stepAsked, stepEntry}
+use Rattle.step.specs.Answers.{stepAnswer, stepAsked, stepEntry}
 use Rattle.step.proofs.Refuses.{Named, step-refuses}
 
 yes-back : (b : Bool) → isYes (yesNumber b) ≡ b
@@ -42,13 +42,9 @@ module _ (records : List ℕ) (shapes : List Float) (cells : List ℕ) (w : Wind
       ≡ (eqb (a .refusal) 0 && tellsSample (lookAt cells (withAir w (rules .air))) records (bodyOf body) (motionOf given) age (a .liquid) (isYes (a .motion .ground)))
 
   asked-tells : Finds Told (stepAsked records shapes cells w rules body given age)
-  unfolding finiteTick
   asked-tells =
       either _ _ _ (nothing _)
-      (either _ _ _ (nothing _)
-      (by (stepBodySensed (lookAt cells (withAir w (rules .air))) records shapes rules (bodyOf body) (motionOf given) age) finiteTick
-      (tick-tells (lookAt cells (withAir w (rules .air))) records rules (bodyOf body) shapes (motionOf given) age)
-      (λ t h. either _ _ _ (nothing 9) (one t h))))
+      (either _ _ _ (nothing _) (tick-tells (lookAt cells (withAir w (rules .air))) records rules (bodyOf body) shapes (motionOf given) age))
 
   answer-tells : (m : Ask Tick) → Refuses Named m → Finds Told m → Tells (stepAnswer given m)
   answer-tells (refused n) h f = rw (ne-eqb n 0 (λ e. let k = h .only n refl in omega arith))

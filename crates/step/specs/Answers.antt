@@ -4,7 +4,7 @@ use mathlib.Core.List.{List}
 use Prim.Native.Nat.{ℕ}
 use lib.Dec.{eqb}
 use lib.Ieee.{Float}
-use Rattle.base.specs.Ask.{Ask, refused, found, _>>=_}
+use Rattle.base.specs.Ask.{Ask, refused, found}
 use Rattle.floats.specs.declared.Answer.{Answer}
 use Rattle.floats.specs.Numbers.{zero64}
 use Rattle.boxes.specs.declared.Vec3.{Vec3}
@@ -22,16 +22,12 @@ use Rattle.step.specs.declared.StepAnswer.{StepAnswer}
 use Rattle.step.specs.declared.MotionAnswer.{MotionAnswer}
 use Rattle.step.specs.declared.FrictionAnswer.{FrictionAnswer}
 use Rattle.bodies.specs.Body.{yesNumber, bodyOf, motionOf}
-use Rattle.bodies.specs.Limits.{rulesFit, isPosition, numberRefusal, isFiniteMotion}
+use Rattle.bodies.specs.Limits.{rulesFit, isPosition, numberRefusal}
 use Rattle.drags.specs.declared.Sample.{Sample}
 use Rattle.drags.specs.declared.Support.the-variants.{Asked, NotAsked}
 use Rattle.drags.specs.Cases.{sampleOr}
 use Rattle.samples.specs.Samples.{livingSample, livingBlockFriction}
 use Rattle.ticks.specs.Step.{stepBodySensed, stepBodyPast}
-
--- 9 comes last: a result that is not finite
-unfoldable pub finiteTick : Tick → Ask Tick
-finiteTick t = unless (not (isFiniteMotion (t .motion))) 9 (found t)
 
 -- a refused step returns position, velocity and ground flag as given, and liquid none; "where it is refused .. it carries a fifth case, not asked"
 abbrev pub stepAnswer : MotionNumbers → Ask Tick → StepAnswer
@@ -49,17 +45,17 @@ abbrev pub fitting : {A : Type 0} → List ℕ → Rules → BodyNumbers → Mot
 fitting records rules body given ask =
     unless (not (eqb (numberRefusal records rules body given) 0)) (numberRefusal records rules body given) ask
 
--- then 5, 6 or 7 at the first such event; then 9
+-- then 5, 6 or 7 at the first such event
 abbrev pub checkedAsked : List ℕ → List Float → List ℕ → Window → Rules → BodyNumbers → MotionNumbers → ℕ → Ask Tick
 checkedAsked records shapes cells w rules body given age =
     fitting records rules body given
-    (stepBodySensed (lookAt cells (withAir w (rules .air))) records shapes rules (bodyOf body) (motionOf given) age >>= finiteTick)
+    (stepBodySensed (lookAt cells (withAir w (rules .air))) records shapes rules (bodyOf body) (motionOf given) age)
 
 -- the same where the move goes by the summary behind the words; over a window that has none, or a true one, it is the same (proofs/Laws.antt)
 abbrev pub pastAsked : List ℕ → List Float → List ℕ → Window → Rules → BodyNumbers → MotionNumbers → ℕ → Ask Tick
 pastAsked records shapes words w rules body given age =
     fitting records rules body given
-    (stepBodyPast words (withAir w (rules .air)) records shapes rules (bodyOf body) (motionOf given) age >>= finiteTick)
+    (stepBodyPast words (withAir w (rules .air)) records shapes rules (bodyOf body) (motionOf given) age)
 
 -- step_checked: over tables and a window that were checked before, and so was its summary, where there is one
 unfoldable pub checkedEntry : List ℕ → List Float → List ℕ → Window → Rules → BodyNumbers → MotionNumbers → ℕ → StepAnswer

@@ -1,9 +1,8 @@
-// Module 8, the step as a host calls it: 1, 2, 3 and 4 in order, before any cell is asked for; then 5, 6 and 7 as they come; 9 last.
+// Module 8, the step as a host calls it: 1, 2, 3 and 4 in order, before any cell is asked for; then 5, 6 and 7 as they come.
 use bodies::BodyNumbers;
 use bodies::MotionNumbers;
 use bodies::Rules;
 use bodies::body_of;
-use bodies::is_finite_motion;
 use bodies::is_position;
 use bodies::motion_of;
 use bodies::number_refusal;
@@ -21,7 +20,7 @@ use ticks::step_through;
 use window::Window;
 ghost use mathlib.Core.Path.{_≡_};
 ghost use Rattle.base.specs.Ask.{refused, found};
-ghost use Rattle.step.specs.Answers.{finiteTick, stepAnswer, checkedEntry, stepEntry, stepSummed, motionAlone, refusedFriction, frictionAnswer, frictionEntry};
+ghost use Rattle.step.specs.Answers.{stepAnswer, checkedEntry, stepEntry, stepSummed, motionAlone, refusedFriction, frictionAnswer, frictionEntry};
 
 // What a host is handed: refusal 0, the motion after the step, the liquid and the sample; or a refusal, the motion as given, none, and not asked.
 pub struct StepAnswer {
@@ -82,18 +81,8 @@ fn step_to(given: MotionNumbers, t: Tick) -> StepAnswer
     }
 }
 
-// 9 where the step is not finite.
-fn finite_step(given: MotionNumbers, t: Tick) -> StepAnswer
-    ensures { λ r. ⌜ r ≡ stepAnswer given (finiteTick t) ⌝ }
-{
-    let m = t.motion;
-    if is_finite_motion(m) {
-        return step_to(given, t);
-    }
-    refused_step(9, given)
-}
-
-// For hosts that checked tables and window before, once for many bodies: 3 and 4, then 5, 6 and 7 as they come; 9 last.
+// For hosts that checked tables and window before, once for many bodies: 3 and 4, then 5, 6 and 7 as they come. That what it hands back is
+// finite is promised of tables that pass the check, and of no others.
 pub fn step_checked(
     records: &[u32],
     shapes: &[f32],
@@ -122,7 +111,7 @@ pub fn step_checked(
     );
     match told {
         AskedTick::Refused(n) => refused_step(n, given),
-        AskedTick::To(t) => finite_step(given, t),
+        AskedTick::To(t) => step_to(given, t),
     }
 }
 

@@ -22,7 +22,7 @@ use Rattle.ranges.specs.Ranges.{trimmed}
 use Rattle.passing.specs.declared.Reach.{Reach}
 use Rattle.passing.specs.Passing.{reachIn, linesBy, passes}
 use Rattle.collection.specs.Collect.{push, rangeOf, sweptArea}
-use Rattle.collection.specs.Past.{collectInPast}
+use Rattle.collection.specs.Past.{collectInPast, collectPast}
 use Rattle.collection.specs.Answers.{heldAsked}
 use Rattle.through.specs.Through.{moveAabb, moveAabbPast}
 use Rattle.through.specs.Few.{few, emptyFew, moveFrom}
@@ -75,6 +75,10 @@ module _ (words : List ℕ) (w : Window) (r : Range) (k : Reach) (y lines x : �
 pub move-refuses : (cap : ℕ) (cells : List ℕ) (w : Window) (records : List ℕ) (shapes : List Float) (aabb : Aabb) (delta : Vec3) (step : Float) (ground : Bool) → Refuses FiveOrSix (moveAabb cap (lookAt cells w) records shapes aabb delta step ground)
 unfolding moveAabb
 move-refuses cap cells w records shapes aabb delta step ground = after _ _ (collect-refuses cap cells w records shapes _) (λ bs. finds _)
+
+pub move-past-refuses : (cap : ℕ) (over : Range → ℕ → Bool) (cells : List ℕ) (w : Window) (records : List ℕ) (shapes : List Float) (aabb : Aabb) (delta : Vec3) (step : Float) (ground : Bool) → Refuses FiveOrSix (moveAabbPast cap over (lookAt cells w) records shapes aabb delta step ground)
+unfolding moveAabbPast collectPast
+move-past-refuses cap over cells w records shapes aabb delta step ground = after _ _ (past-refuses _ cap cells w records shapes _ _) (λ bs. finds _)
 
 pub empty-few : (l : Few) → l ≡ emptyFew → Room few (l .boxes) (l .count) × (take (l .count) (l .boxes) ≡ [])
 unfolding emptyFew

@@ -16,10 +16,12 @@ use Rattle.tables.specs.declared.LiquidState.{LiquidState}
 use Rattle.window.specs.declared.Pos.{Pos}
 use Rattle.window.specs.declared.Window.{Window}
 use Rattle.window.specs.Look.{Block, none, some, lookAt}
+use Rattle.passing.specs.Passing.{passes}
+use Rattle.sweeps.specs.declared.MoveResult.{MoveResult}
 use Rattle.collection.proofs.Refuses.{Refuses, FiveOrSix, wider, finds, names, either, after, walks, asks, resumes, look-refuses}
 use Rattle.sweeps.specs.Lists.{capOf}
 use Rattle.through.specs.Through.{moveAabb}
-use Rattle.through.proofs.Moved.{move-refuses}
+use Rattle.through.proofs.Moved.{move-refuses, move-past-refuses}
 use Rattle.flow.specs.Liquid.{liquidHeld, stopsFlow, blocksLiquidFlow}
 use Rattle.flow.specs.Flow.{FlowSoFar, difference, walledBy, sideFlow, liquidFlow}
 use Rattle.currents.specs.Current.{liquidKnown, currentTurn, itemCurrent}
@@ -32,7 +34,7 @@ use Rattle.bodies.specs.declared.Rules.{Rules}
 use Rattle.bodies.specs.declared.Motion.{Motion}
 use Rattle.drags.specs.Drags.{pulled}
 use Rattle.samples.specs.Samples.{sampled, supportingFriction, livingSample, livingBlockFriction, told, livingSupport, groundSupport, supportAfter}
-use Rattle.ticks.specs.Step.{afterMove, moveOnBy, itemBegins, tickBegins, senses, stepBodyBy, stepBodySensed}
+use Rattle.ticks.specs.Step.{afterMove, moveOnBy, itemBegins, tickBegins, senses, stepBodyBy, stepBodySensed, movePast, stepBodyPast}
 
 -- ---- what asks for cells, where a look-up refuses by P
 module _ {P : ℕ → Type 0} (look : Pos → Ask Block) (h : (p : Pos) → Refuses P (look p)) (records : List ℕ) where
@@ -156,16 +158,26 @@ module _ (cells : List ℕ) (w : Window) (records : List ℕ) where
   looks : (p : Pos) → Refuses FiveToSeven (lookAt cells w p)
   looks p = wider _ five (look-refuses cells w p)
 
-  module _ (shapes : List Float) (rules : Rules) (body : Body) where
-    on-refuses : (aabb : Aabb) (onGround : Bool) (flotation liquid : LiquidKind) (v : Vec3) → Refuses FiveToSeven (moveOnBy (moveAabb (capOf (rules .cap)) (lookAt cells w) records shapes) (lookAt cells w) records rules body aabb onGround flotation liquid v)
+  -- by a mover that refuses 5 and 6 alone
+  module _ (move : Aabb → Vec3 → Float → Bool → Ask MoveResult) (refuses : (aabb : Aabb) (v : Vec3) (step : Float) (onGround : Bool) → Refuses FiveOrSix (move aabb v step onGround)) (rules : Rules) (body : Body) where
+    on-refuses : (aabb : Aabb) (onGround : Bool) (flotation liquid : LiquidKind) (v : Vec3) → Refuses FiveToSeven (moveOnBy move (lookAt cells w) records rules body aabb onGround flotation liquid v)
     unfolding moveOnBy
     on-refuses aabb onGround flotation liquid v =
-        after _ _ (wider _ five-or-six (move-refuses _ cells w records shapes aabb (pulled body flotation v) (body .step) onGround)) (λ m.
+        after _ _ (wider _ five-or-six (refuses aabb (pulled body flotation v) (body .step) onGround)) (λ m.
         after-refuses (lookAt cells w) looks records rules _ body liquid _ _)
 
-    pub core-refuses : (motion : Motion) (age : ℕ) → Refuses FiveToSeven (stepBodySensed (lookAt cells w) records shapes rules body motion age)
-    unfolding stepBodySensed stepBodyBy senses
-    core-refuses motion age =
+    by-refuses : (motion : Motion) (age : ℕ) → Refuses FiveToSeven (stepBodyBy move (lookAt cells w) records rules body motion age)
+    unfolding stepBodyBy senses
+    by-refuses motion age =
         after _ _ (begins-refuses (lookAt cells w) looks records (omega arith, omega arith) (omega arith, omega arith) body _ motion age) (λ b.
         either _ _ _ (finds _)
         (after _ _ (either _ _ _ (living-refuses (lookAt cells w) looks records _) (finds _)) (λ l. on-refuses _ _ _ l _)))
+
+  module _ (shapes : List Float) (rules : Rules) (body : Body) where
+    pub core-refuses : (motion : Motion) (age : ℕ) → Refuses FiveToSeven (stepBodySensed (lookAt cells w) records shapes rules body motion age)
+    unfolding stepBodySensed
+    core-refuses = by-refuses (moveAabb (capOf (rules .cap)) (lookAt cells w) records shapes) (move-refuses (capOf (rules .cap)) cells w records shapes) rules body
+
+    -- and by the summary behind the window's words
+    pub past-refuses : (motion : Motion) (age : ℕ) → Refuses FiveToSeven (stepBodyPast cells w records shapes rules body motion age)
+    past-refuses = by-refuses (movePast (rules .cap) cells w records shapes) (move-past-refuses (capOf (rules .cap)) (passes cells w) cells w records shapes) rules body

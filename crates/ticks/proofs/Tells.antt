@@ -51,7 +51,7 @@ unfolding choose
 either true a b h g = h
 either false a b h g = g
 
-after : {A B : Type 0} {P : B → Type 0} (m : Ask A) (k : A → Ask B) → ((a : A) → Finds P (k a)) → Finds P (m >>= k)
+pub after : {A B : Type 0} {P : B → Type 0} (m : Ask A) (k : A → Ask B) → ((a : A) → Finds P (k a)) → Finds P (m >>= k)
 after (refused n) k g = nothing n
 after (found a) k g = g a
 

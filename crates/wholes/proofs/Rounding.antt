@@ -1,13 +1,13 @@
 -- The steps of `far_floor`, on plain values: a is m * up e and c is down e, so that the size of x is a / c. Assumes nothing.
 use mathlib.Core.Path.{_≡_, refl, sym, ap, _∙_, subst}
-use Prim.Native.Nat.{ℕ, zero, suc, _+_, _-_, _*_, _/_, _%_, _^_, _≤_, _<_, compare}
+use Prim.Native.Nat.{ℕ, zero, suc, _+_, _-_, _*_, _/_, _%_, _^_, _≤_, _<_}
 use native.Mathlib.Nat.{le-of-eq, le-trans, le-of-lt, lt-of-le-of-lt, zero-lt-suc, add-zero, mul-one, one-mul, zero-mul, mod-le, mod-lt, mod-one, div-le-self, div-add-mod', mul-add-div-right, div-eq-of-lt, eq-of-mul-eq-mul-right, add-mul}
 use native.Mathlib.Omega.{arith}
 use mathlib.Core.Bool.{Bool, true, false, not, _&&_, cond, true≢false, false≢true}
 use lib.IntN.{ℤ, pos, negsuc}
 use lib.Dec.{T, ltb}
 use lib.Pow.{pow-pos}
-use lib.Ieee.{Float, nan, inf, fin, Format, binary64, prec, emax, low, up, down, size, nearest, odd, units, round, neg, sub, sum, rem, eq, lt, fits}
+use lib.Ieee.{Float, nan, inf, fin, Format, binary64, prec, low, up, down, round, neg, sub, sum, rem, eq, lt, fits}
 use lib.Ieee.Fits.{down-pos}
 use lib.Ieee.Exact.{HasValue}
 use lib.Ieee.Back.{round-whole}
@@ -15,6 +15,7 @@ use lib.Ieee.Scale.{round-same}
 use borrow.Author.Tests.{ltb-false, le-ltb}
 use Rattle.floats.specs.Numbers.{isFinite}
 use Rattle.floats.proofs.Zeros.{zeroF, is-zero, not-zero, below-zero, not-below-zero}
+use Rattle.base.proofs.Bounds.{neg-round}
 use Rattle.wholes.specs.Whole.{floorSize, floorOf, ceilOf}
 use Rattle.base.proofs.Values.{fitting, zero-exp, round-small, round-back, sub-common}
 
@@ -155,39 +156,6 @@ high-floor (fin true m e) i t h l =
     (not-zero (rem binary64 (fin true m e) oneF) true (m * up e % down e) (down e) (down-pos e) (rem-val binary64 true m e t) h)))
 
 -- ---- `ceil`: the floor of -x, turned round
-neg-odd : (d : ℕ) (s : Bool) (q k l : ℕ) → neg (odd d (not s) q k l) ≡ odd d s q k l
-unfolding neg odd
-neg-odd d true zero k l = refl
-neg-odd d false zero k l = refl
-neg-odd d true (suc q) k l = refl
-neg-odd d false (suc q) k l = refl
-
-neg-inf : (s : Bool) → neg (inf (not s)) ≡ inf s
-unfolding neg
-neg-inf true = refl
-neg-inf false = refl
-
-neg-cond : (b : Bool) (x y : Float) → neg (cond b x y) ≡ cond b (neg x) (neg y)
-neg-cond true x y = refl
-neg-cond false x y = refl
-
-neg-units : (f : Format) (s : Bool) (q k : ℕ) → neg (units f (not s) q k) ≡ units f s q k
-unfolding units
-neg-units f s q k =
-    let b = ltb (q * 2 ^ k) (2 ^ (low f + suc (emax f))) in
-    neg-cond b (odd (suc (prec f)) (not s) q k (low f)) (inf (not s))
-    ∙ ap (λ (x : Float). cond b x (neg (inf (not s)))) (neg-odd (suc (prec f)) s q k (low f))
-    ∙ ap (λ (x : Float). cond b (odd (suc (prec f)) s q k (low f)) x) (neg-inf s)
-
--- rounding is the same on either side of zero
-pub neg-round : (f : Format) (s : Bool) (num den : ℕ) → neg (round f (not s) num den) ≡ round f s num den
-unfolding round
-neg-round f s num den =
-    let n = num * 2 ^ low f in
-    let k = size (n / den) - prec f in
-    let u = den * 2 ^ k in
-    neg-units f s (nearest (n / u) (compare (n % u * 2) u)) k
-
 pub neg-finite : (x : Float) → isFinite (neg x) ≡ isFinite x
 unfolding neg
 neg-finite nan = refl

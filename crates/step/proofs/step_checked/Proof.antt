@@ -10,7 +10,7 @@ use Rattle.step.proofs.step_checked.Lts as lts
 use Rattle.bodies.proofs.body_of.Reads as body-of-reads
 use Rattle.bodies.proofs.number_refusal.Reads as number-refusal-reads
 use Rattle.bodies.proofs.motion_of.Reads as motion-of-reads
-use Rattle.step.proofs.finite_step.Reads as finite-step-reads
+use Rattle.step.proofs.step_to.Reads as step-to-reads
 use Rattle.step.proofs.refused_step.Reads as refused-step-reads
 use Rattle.ticks.proofs.step_through.Reads as step-through-reads
 use Rattle.window.proofs.with_air.Reads as with-air-reads
@@ -57,8 +57,8 @@ enum-known-told-2 : tie.Need-enum-known-told-2
 enum-known-told-2 c = search needs
 
 -- src/lib.rt:112:29
-finite-step-requires : tie.Need-finite-step-requires
-finite-step-requires c κs = search needs
+step-to-requires : tie.Need-step-to-requires
+step-to-requires c κs = search needs
 
 -- src/lib.rt:84:1
 returns-2 : tie.Need-returns-2
@@ -68,7 +68,7 @@ returns-2 c = rw (← c .before .before .before .before .before .before .before 
 -- src/lib.rt:84:1
 returns-3 : tie.Need-returns-3
 unfolding checkedEntry choose
-returns-3 c = rw (← c .before .before .before .before .before .before .before .before .before .number-refusal .ensures, eq-eqb _ _ (c .before .before .before .before .before .before .before .before .if1 .left), ← c .before .before .before .before .before .before .before .with-air .ensures, ← c .before .before .before .before .before .before .body-of .ensures, ← c .before .before .before .before .before .motion-of .ensures, ← c .before .before .before .before .step-through .ensures, c .before .before .told2 .given .1, ← c .finite-step .ensures)
+returns-3 c = rw (← c .before .before .before .before .before .before .before .before .before .number-refusal .ensures, eq-eqb _ _ (c .before .before .before .before .before .before .before .before .if1 .left), ← c .before .before .before .before .before .before .before .with-air .ensures, ← c .before .before .before .before .before .before .body-of .ensures, ← c .before .before .before .before .before .motion-of .ensures, ← c .before .before .before .before .step-through .ensures, c .before .before .told2 .given .1, ← c .step-to .ensures)
 
 pub step-checked-spec : {M : Type 1} → statement M
 step-checked-spec =
@@ -84,6 +84,6 @@ step-checked-spec =
     enum-known-told
     refused-step-requires-2
     enum-known-told-2
-    finite-step-requires
+    step-to-requires
     returns-2
     returns-3)

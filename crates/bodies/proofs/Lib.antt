@@ -1,0 +1,2 @@
+-- The laws of bodies.
+pub mod Fits

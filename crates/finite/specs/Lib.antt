@@ -1,0 +1,3 @@
+-- Request Eleven, and computed steps beside it.
+pub mod Finite
+pub mod Samples
