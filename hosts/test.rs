@@ -148,7 +148,8 @@ fn nights(count: &mut Count, name: &str, t: Tables, w: Window, body: &Body, thei
     let party = |from: usize| Party { windows: std::slice::from_ref(&row), cells: w.cells, numbers: &numbers[from..], words: &words[from..] };
     let pair = midnight_two(t, party(0), party(1), &mut both);
     let mut rest = out;
-    rest.copy_within(1..3, 0), rest[2] = [7.0; 13];
+    rest.copy_within(1..3, 0);
+    rest[2] = [7.0; 13];
     let alone = [out.as_flattened(), rest.as_flattened(), &[7.0]].concat();
     count.add(name, &format!("{pair:?} {}", bits(&both)), &format!("{:?} {}", Refusals { first: told, second: told }, bits(&alone)));
     if theirs == "refused 1" {
