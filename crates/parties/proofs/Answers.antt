@@ -1,24 +1,24 @@
 -- What each party has of the midnight call: where it is not refused its half is what that call alone writes, so that each answer is the single
 -- step's; where it is, its half is as it was. Assumes nothing.
-use mathlib.Core.Path.{_≡_, refl, sym, ap, _∙_, subst}
+use mathlib.Core.Path.{_≡_, refl, ap, _∙_}
 use mathlib.Core.Bool.{Bool, true, false, not, _||_}
 use mathlib.Core.List.{List}
 use Prim.Native.Nat.{ℕ, _*_, _≤_, _<_}
 use native.Mathlib.Omega.{arith}
-use lib.Dec.{T, ltb, eqb, eqb→eq, nltb→le}
+use lib.Dec.{T, ltb, eqb, nltb→le}
 use lib.ListN.{length}
 use lib.Ieee.{Float}
 use borrow.Author.Tests.{ne-eqb, le-ltb}
 use Rattle.base.specs.Choose.{choose}
 use Rattle.base.specs.Loop.{stored}
 use Rattle.table_check.specs.Check.{tableRefusal}
-use Rattle.midnight.specs.Rows.{Row, rowOf, rowAt, windowAt, isWhole, namedIn, answerWidth, answerNumbers}
-use Rattle.midnight.specs.Answers.{Lent, refusedBody, singleStep}
-use Rattle.midnight.specs.Run.{countRefusal, runRefusal, bodiesOf, rowsOf, checkedWritten, runWritten}
+use Rattle.midnight.specs.Rows.{rowOf, rowAt, windowAt, isWhole, namedIn, answerWidth, answerNumbers}
+use Rattle.midnight.specs.Answers.{refusedBody, singleStep}
+use Rattle.midnight.specs.Run.{countRefusal, runRefusal, rowsOf, checkedWritten, runWritten}
 use Rattle.midnight.proofs.Parts.{listed-length}
 use Rattle.midnight.proofs.Bodies.{Named, no-window}
 use Rattle.midnight.proofs.Orders as midnight
-use Rattle.parties.specs.Parties.{Party, Call, Who, partyOf, lentTo, bodiesIn, halfLength, halfOf, partyRefusal, refusalOf, partyWritten, halfAfter, callWritten}
+use Rattle.parties.specs.Parties.{Call, Who, partyOf, lentTo, bodiesIn, halfLength, halfOf, partyRefusal, refusalOf, partyWritten, halfAfter, callWritten}
 use Rattle.parties.proofs.Halves.{half-length, own-half}
 
 -- ---- the limits, in the words of the request: "14 for more than 2,048 bodies or 16 windows, then 11 for its half"

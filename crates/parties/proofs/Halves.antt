@@ -1,21 +1,21 @@
 -- The two halves of a buffer, and what each holds after the call. Assumes nothing.
 use mathlib.Core.Path.{_≡_, refl, sym, ap, _∙_}
-use mathlib.Core.Bool.{Bool, true, false, _||_}
+use mathlib.Core.Bool.{Bool, true, false}
 use mathlib.Core.List.{List, _++_}
-use Prim.Native.Nat.{ℕ, _+_, _-_, _*_, _/_, _≤_, _<_}
+use Prim.Native.Nat.{ℕ, _+_, _/_, _≤_}
 use native.Mathlib.Omega.{arith}
-use lib.Dec.{T, ltb, eqb}
+use lib.Dec.{ltb, eqb}
 use lib.ListN.{length, take, drop, length-append, length-drop}
 use lib.Ieee.{Float}
-use lib.Seq.{length-take-le, take-at, drop-at, drop-append-add, drop-drop}
+use lib.Seq.{length-take-le, take-at, drop-at, drop-drop}
 use Rattle.base.specs.Choose.{choose}
 use Rattle.base.specs.Loop.{stored}
 use Rattle.table_check.specs.Check.{tableRefusal}
-use Rattle.midnight.specs.Rows.{Row, answerWidth}
+use Rattle.midnight.specs.Rows.{Row}
 use Rattle.midnight.specs.Answers.{Lent}
 use Rattle.midnight.specs.Run.{countRefusal, checkedWritten, rowsOf}
 use Rattle.midnight.proofs.Parts.{stored-length}
-use Rattle.parties.specs.Parties.{Call, Who, first, second, partyOf, lentTo, bodiesIn, halfLength, placeOf, halfOf, nobodys, partyRefusal, refusalOf, partyWritten, halfAfter, callWritten}
+use Rattle.parties.specs.Parties.{Call, Who, first, second, lentTo, bodiesIn, halfLength, placeOf, halfOf, nobodys, partyWritten, halfAfter, callWritten}
 
 -- ---- a buffer and its halves
 

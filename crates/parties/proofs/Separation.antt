@@ -9,8 +9,8 @@ use Rattle.base.specs.Choose.{choose}
 use Rattle.table_check.specs.Check.{tableRefusal}
 use Rattle.midnight.specs.Answers.{lentWith}
 use Rattle.midnight.specs.Run.{bodiesOf, answersIn}
-use Rattle.parties.specs.Parties.{Party, Call, Who, first, second, partyOf, halfLength, halfOf, partyRefusal, refusalOf, callRefusals, partyWritten, halfAfter, callWritten, toldTo, answersFor}
-use Rattle.parties.specs.Separation.{Agree, Unaltered, Separation}
+use Rattle.parties.specs.Parties.{Party, Call, Who, first, second, partyOf, halfOf, partyRefusal, refusalOf, callRefusals, partyWritten, halfAfter, callWritten, toldTo}
+use Rattle.parties.specs.Separation.{Agree, Separation}
 use Rattle.parties.proofs.Halves.{own-half}
 
 -- ---- what a party is told, and its half after the call, of what is its own: the tables, its windows and bodies, and its half

@@ -1,7 +1,7 @@
 -- A midnight call for two parties over the same tables. Each has its own windows, its own bodies, which name those alone, and its own half of the
 -- buffer; a refusal of the one is no business of the other.
 use mathlib.Core.List.{List, _++_}
-use Prim.Native.Nat.{ℕ, _+_, _-_, _/_}
+use Prim.Native.Nat.{ℕ, _+_, _/_}
 use lib.Dec.{ltb, eqb}
 use lib.ListN.{length, take, drop}
 use lib.Ieee.{Float}
