@@ -1,5 +1,6 @@
 //! The midnight run: 4,096 bodies over 16 windows in one call, against as many calls of the entry, of the step over tables that were checked before, and
-//! the original Rust's loop over the same bodies; in one thread, and in two by the host. Every answer is compared bit for bit first.
+//! the original Rust's loop over the same bodies; in one thread, in two by the host, and as two parties with half of the bodies each. Every answer
+//! is compared bit for bit first.
 use std::hint::black_box;
 use std::time::Instant;
 
@@ -19,6 +20,12 @@ unsafe extern "C" {
         cells: *const u32, cells_len: usize, numbers: *const f64, numbers_len: usize, words: *const u32, words_len: usize, bodies_count: u32,
         out: *mut f64, out_len: usize,
     ) -> u32;
+    fn boltjuniper_midnight_two(
+        records: *const u32, records_len: usize, shapes: *const f32, shapes_len: usize, windows1: *const u32, windows1_len: usize, windows1_count: u32,
+        cells1: *const u32, cells1_len: usize, numbers1: *const f64, numbers1_len: usize, words1: *const u32, words1_len: usize, bodies1_count: u32,
+        windows2: *const u32, windows2_len: usize, windows2_count: u32, cells2: *const u32, cells2_len: usize, numbers2: *const f64, numbers2_len: usize,
+        words2: *const u32, words2_len: usize, bodies2_count: u32, out: *mut f64, out_len: usize,
+    ) -> u64;
 }
 
 const WINDOWS: usize = 16;
@@ -41,6 +48,21 @@ fn night(t: &Lent, numbers: &[[f64; 21]], words: &[[u32; 10]], out: &mut [[f64; 
         boltjuniper_midnight_capped(
             t.records.as_ptr(), t.records.len(), t.shapes.as_ptr(), t.shapes.len(), t.windows.as_ptr(), t.windows.len(), WINDOWS as u32,
             t.cells.as_ptr(), t.cells.len(), n.as_ptr(), n.len(), w.as_ptr(), w.len(), numbers.len() as u32, o.as_mut_ptr(), o.len(),
+        )
+    }
+}
+
+/// Two parties, each with all windows and half of the bodies.
+#[inline(never)]
+fn pair(t: &Lent, numbers: &[[f64; 21]], words: &[[u32; 10]], out: &mut [[f64; 13]]) -> u64 {
+    let half = numbers.len() / 2;
+    let [(n, w), (m, v)] = [0..half, half..numbers.len()].map(|part| (numbers[part.clone()].as_flattened(), words[part].as_flattened()));
+    let o = out.as_flattened_mut();
+    unsafe {
+        boltjuniper_midnight_two(
+            t.records.as_ptr(), t.records.len(), t.shapes.as_ptr(), t.shapes.len(), t.windows.as_ptr(), t.windows.len(), WINDOWS as u32,
+            t.cells.as_ptr(), t.cells.len(), n.as_ptr(), n.len(), w.as_ptr(), w.len(), half as u32, t.windows.as_ptr(), t.windows.len(), WINDOWS as u32,
+            t.cells.as_ptr(), t.cells.len(), m.as_ptr(), m.len(), v.as_ptr(), v.len(), half as u32, o.as_mut_ptr(), o.len(),
         )
     }
 }
@@ -95,11 +117,15 @@ fn main() {
         assert_eq!(bits(&one), bits(b));
         assert_eq!((one[8], one[9].to_bits()), (a[11], a[12].to_bits()));
     }
+    let mut both = vec![[9.0; 13]; BODIES];
+    assert_eq!(pair(&lent, &numbers, &words, &mut both), 0);
+    assert!(both.as_flattened().iter().zip(out.as_flattened()).all(|(a, b)| a.to_bits() == b.to_bits()));
     println!("{BODIES} bodies over {WINDOWS} windows, a table of {} states; the least of {PASSES} passes", lent.records.len() / 20);
 
-    let [mut whole, mut two, mut checked, mut entry, mut rust] = [f64::MAX; 5];
+    let [mut whole, mut two, mut parties, mut checked, mut entry, mut rust] = [f64::MAX; 6];
     for n in 0..PASSES {
         timed(&mut whole, || assert_eq!(night(black_box(&lent), &numbers, &words, &mut out), 0));
+        timed(&mut parties, || assert_eq!(pair(black_box(&lent), &numbers, &words, &mut both), 0));
         timed(&mut checked, || {
             for (_, c) in &calls {
                 black_box(ours(boltjuniper_step_checked, &lent.records, &lent.shapes, black_box(c), &mut one));
@@ -130,6 +156,7 @@ fn main() {
     println!("step_checked, each   {:8.1} ns a body   one call is {:.2} of it", body(checked), whole / checked);
     println!("the entry, each      {:8.1} ns a body   one call is {:.1} times less", body(entry), entry / whole);
     println!("Rust's loop          {:8.1} ns a body   one call is {:.2} of it", body(rust), whole / rust);
+    println!("two parties          {:8.1} ns a body   {:.2} of one call", body(parties), parties / whole);
     println!("two threads          {:8.1} ns a body   one thread takes {:.2} of it", body(two), whole / two);
 
     // the checks apart: what a call without a body takes

@@ -27,7 +27,7 @@ static size_t listed, file_bytes;
 static uint64_t age;
 static uint32_t file[FILE_BYTES / 4 + 128];
 static uint32_t night_window[BOLTJUNIPER_WINDOW_WORDS], night_words[BOLTJUNIPER_CAPPED_WORDS];
-static double night_numbers[BOLTJUNIPER_BODY_NUMBERS], out[16];
+static double night_numbers[BOLTJUNIPER_BODY_NUMBERS], out[2 * BOLTJUNIPER_ANSWER_NUMBERS];
 static uint8_t recorded[FILE_BYTES];
 
 static size_t cells_len(void) { return (size_t)sizes[0] * sizes[2] * (sizes[1] + 1); }
@@ -53,6 +53,10 @@ CALL(midnight, boltjuniper_midnight(TABLES, night_window, BOLTJUNIPER_WINDOW_WOR
                                     night_words, BOLTJUNIPER_BODY_WORDS, 1, out, BOLTJUNIPER_ANSWER_NUMBERS))
 CALL(midnight_capped, boltjuniper_midnight_capped(TABLES, night_window, BOLTJUNIPER_WINDOW_WORDS, 1, cells, cells_len(), night_numbers,
                                                   BOLTJUNIPER_BODY_NUMBERS, night_words, BOLTJUNIPER_CAPPED_WORDS, 1, out, BOLTJUNIPER_ANSWER_NUMBERS))
+CALL(midnight_two, (uint32_t)boltjuniper_midnight_two(TABLES, night_window, BOLTJUNIPER_WINDOW_WORDS, 1, cells, cells_len(), night_numbers,
+                                                     BOLTJUNIPER_BODY_NUMBERS, night_words, BOLTJUNIPER_CAPPED_WORDS, 1, night_window,
+                                                     BOLTJUNIPER_WINDOW_WORDS, 1, cells, cells_len(), night_numbers, BOLTJUNIPER_BODY_NUMBERS,
+                                                     night_words, BOLTJUNIPER_CAPPED_WORDS, 1, out, 2 * BOLTJUNIPER_ANSWER_NUMBERS))
 CALL(tick, boltjuniper_tick((const uint8_t *)file, file_bytes, out, 10))
 CALL(move, boltjuniper_move(TABLES, WINDOW, air, mover, 9, numbers[13], words[0], words[6], out, 10))
 CALL(move_over_list, boltjuniper_move_over_list(list, 6 * listed, mover, 9, numbers[13], words[0], words[6], out, 10))
@@ -88,6 +92,7 @@ static struct row rows[] = {
     {"boltjuniper_step_falling", step_falling, PARTS, 0, 0, 0, 0, 0},
     {"boltjuniper_midnight", midnight, PARTS, 0, 0, 0, 0, 0},
     {"boltjuniper_midnight_capped", midnight_capped, PARTS, 0, 0, 0, 0, 0},
+    {"boltjuniper_midnight_two", midnight_two, PARTS, 0, 0, 0, 0, 0},
     {"boltjuniper_move", move, PARTS, 0, 0, 0, 0, 0},
     {"boltjuniper_move_over_list", move_over_list, A_LIST, 0, 0, 0, 0, 0},
     {"boltjuniper_collected", collected, PARTS, 0, 0, 0, 0, 0},

@@ -1,6 +1,7 @@
-/* Boltjuniper for hosts in C: the functions of crates/exports that a host calls, and those of crates/shown, crates/recorder and crates/classroom. Link
-   target/staticlib/libexports.a (`rt staticlib exports`) and libm; for boltjuniper_collected also target/staticlib/libshown.a (`rt staticlib
-   shown`), and for the classroom palette target/staticlib/libclassroom.a (`rt staticlib classroom`). A recorder needs
+/* Boltjuniper for hosts in C: the functions of crates/exports that a host calls, and those of crates/shown, crates/recorder, crates/classroom and
+   crates/servers. Link target/staticlib/libexports.a (`rt staticlib exports`) and libm; for boltjuniper_collected also
+   target/staticlib/libshown.a (`rt staticlib shown`), for the classroom palette target/staticlib/libclassroom.a (`rt staticlib classroom`), and for
+   the midnight run of two parties target/staticlib/libservers.a (`rt staticlib servers`). A recorder needs
    target/staticlib/librecorder.a alone (`rt staticlib recorder`), and libm.
 
    A slice is a pointer and its number of elements, aligned as its type asks. Nothing beyond that number is read or written, what is handed
@@ -170,9 +171,31 @@ uint32_t boltjuniper_midnight_capped(const uint32_t *records, size_t records_len
                                      size_t numbers_len, const uint32_t *words, size_t words_len, uint32_t bodies_count, double *out,
                                      size_t out_len);
 
+/* The midnight run of two parties, who share one table and nothing else: two servers, each with its own windows, its own bodies and its own half of
+   `out`. What each hands in stands in the rows of boltjuniper_midnight_capped: up to 16 windows over `cells` of its own, and up to 2,048 bodies, whose word 0 is
+   the number of a window of their own party; there is no number for a window of the other's. With h = out_len / 2, rounded down, the first party's
+   answers go to out[0] to out[h - 1], the second's to out[h] to out[2h - 1], body i of each to row i of its half; the rest of a half stays, and so does
+   a last odd place, which is nobody's.
+
+   Returns both parties' refusals, which boltjuniper_refusals_of takes apart: 1 for both; else for each alone 14 (more than 2,048 bodies or 16
+   windows), then 11 (its half is too short for its bodies), or 0. A party that is refused has its half as it was. Whatever the other party hands in, and
+   whatever it is told, alters neither this party's refusal nor its half. */
+struct boltjuniper_refusals { uint32_t first, second; };
+uint64_t boltjuniper_midnight_two(const uint32_t *records, size_t records_len, const float *shapes, size_t shapes_len,
+                                  const uint32_t *first_windows, size_t first_windows_len, uint32_t first_windows_count, const uint32_t *first_cells,
+                                  size_t first_cells_len, const double *first_numbers, size_t first_numbers_len, const uint32_t *first_words,
+                                  size_t first_words_len, uint32_t first_bodies_count,
+                                  const uint32_t *second_windows, size_t second_windows_len, uint32_t second_windows_count, const uint32_t *second_cells,
+                                  size_t second_cells_len, const double *second_numbers, size_t second_numbers_len, const uint32_t *second_words,
+                                  size_t second_words_len, uint32_t second_bodies_count, double *out, size_t out_len);
+static inline struct boltjuniper_refusals boltjuniper_refusals_of(uint64_t told) {
+    struct boltjuniper_refusals r = {(uint32_t)told, (uint32_t)(told >> 32)};
+    return r;
+}
+
 /* One tick of the scene in `file` (blocks of 512 bytes of either mark, as onetick reads them; no alignment is asked for). Writes the ten numbers of
    boltjuniper_step to `out`. Returns 0; or 8 where the file is no scene, 1, 2, 3, 4, 11, then 5, 6 or 7 at the first such event. It keeps
-   two arrays of 15,744 words of the file on the stack, and reaches 136 KB below its caller (docs/STACK.md): call it from a thread that has them. */
+   two arrays of 15,744 words of the file on the stack, and reaches 207 KB below its caller (docs/STACK.md): call it from a thread that has them. */
 uint32_t boltjuniper_tick(const uint8_t *file, size_t file_len, double *out, size_t out_len);
 
 /* The move of a box through a window: takes tables, a window, the air state, `mover` (the box x0 y0 z0 x1 y1 z1, then its delta x y z: nine

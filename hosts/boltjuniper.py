@@ -7,6 +7,7 @@
     b.step_falling(tables, window, body, b.Fall())              # the Tick, and the fall record after it
     b.steps(tables, window, bodies)                             # a list: for each body its Tick, or its Refused as a value
     b.midnight_capped(tables, *b.window_rows(windows), *b.body_rows(bodies, named, falls))     # thousands of bodies over up to 16 windows, in one call
+    b.midnight_two(tables, b.Party(*b.window_rows(..), *b.body_rows(..)), b.Party(..))  # two parties over one table: for each its rows, or its Refused
 
 An array of the type that is asked for (numpy's uint32, float32 and float64; array.array's I, f and d) is lent as it is, without a copy, and is only
 read; it must not be changed by another thread while the call runs. A list or a tuple of numbers is copied. Another type of array is a TypeError and
@@ -33,9 +34,11 @@ SENTENCES = {
     7: "The flow test meets a state that is not registered. The original program would have ended there.",
     8: "The file is no scene: a mark, number, check, kind, count or unused word is wrong, both marks are in it, or blocks are missing or left over.",
     10: "In the midnight run: the body names no window.",
-    11: "In a direct call: the memory lent for the answer is too short.",
+    11: "In a direct call: the memory lent for the answer is too short; or, in a call over a summary, there are not as many words behind cells and "
+        "columns as the window has groups.",
     12: "In a direct call that writes a scene: it has more than 128 blocks.",
-    14: "In the midnight run: more than 16 windows, or more than 4,096 bodies.",
+    13: "In a call over a summary, and in the midnight run for a body of its air state: the word of a group disagrees with its cells.",
+    14: "In the midnight run: more than 16 windows, or more than 4,096 bodies (2,048 of each of two parties).",
 }
 
 
@@ -135,6 +138,7 @@ DECLARED = {
     "step_falling_summed": TABLES + WINDOW + BODY + [ctypes.c_double] * 2 + SLICE,
     "midnight": TABLES + SLICE + [ctypes.c_uint32] + SLICE * 3 + [ctypes.c_uint32] + SLICE,
     "midnight_capped": TABLES + SLICE + [ctypes.c_uint32] + SLICE * 3 + [ctypes.c_uint32] + SLICE,
+    "midnight_two": TABLES + (SLICE + [ctypes.c_uint32] + SLICE * 3 + [ctypes.c_uint32]) * 2 + SLICE,
     "move": TABLES + WINDOW + AIR + SLICE + STEP + SLICE,
     "move_over_list": SLICE * 2 + STEP + SLICE,
     "collected": TABLES + WINDOW + AIR + SLICE + STEP + SLICE,
@@ -143,6 +147,7 @@ DECLARED = {
     "palette_records": SLICE,
     "palette_boxes": SLICE,
 }
+WIDE = ("write_scene", "midnight_two")  # what returns 64 bits
 SCENE_BYTES, BLOCK = 65536, 512  # 128 blocks: every scene has room in it
 PALETTE = (("palette_records", "I", 4240), ("palette_boxes", "f", 3948))  # of the classroom palette: the words, and the numbers of its boxes
 
@@ -160,7 +165,7 @@ def load(path=None):
     for name, arguments in DECLARED.items():
         function = getattr(library, "boltjuniper_" + name, None)
         if function is not None:
-            function.argtypes, function.restype = arguments, ctypes.c_uint64 if name == "write_scene" else ctypes.c_uint32
+            function.argtypes, function.restype = arguments, ctypes.c_uint64 if name in WIDE else ctypes.c_uint32
             _loaded[name] = function
 
 
@@ -463,21 +468,55 @@ def midnight(tables, windows, cells, numbers, words, out=None):
 
 
 def _run(name, width, tables, windows, cells, numbers, words, out):
-    lent = _Lent().tables(tables).slice("windows", windows, "I")
+    lent = _Lent().tables(tables)
+    bodies = _lend_rows(lent, width, windows, cells, numbers, words)
+    mine = _lend_out(lent, out, bodies)
+    refusal = _function(name)(*lent.arguments)
+    if refusal:
+        raise Refused(refusal)
+    return _rows(mine[:ANSWER_NUMBERS * bodies], bodies)
+
+
+class Party(NamedTuple):
+    """One of two parties: its own windows in rows over its own cells, and its own bodies in rows, which name those windows alone."""
+    windows: object
+    cells: object
+    numbers: object
+    words: object
+
+
+def midnight_two(tables, first, second, out=None):
+    """The midnight run of two parties over one table: for each what `midnight_capped` answers, or its Refused as a value, with its half as it was. Each
+    has half of `out`, rounded down; without it each half has room for the more bodies of the two. Nothing of the other party alters this one's part."""
+    lent = _Lent().tables(tables)
+    bodies = [_lend_rows(lent, CAPPED_WORDS, *party) for party in (first, second)]
+    mine = _lend_out(lent, out, 2 * max(bodies))
+    told, h = _function("midnight_two")(*lent.arguments), len(mine) // 2
+    return tuple(Refused(refusal) if refusal else _rows(mine[at:at + ANSWER_NUMBERS * count], count)
+                 for refusal, at, count in zip((told % 2**32, told >> 32), (0, h), bodies))
+
+
+def _lend_rows(lent, width, windows, cells, numbers, words):
+    """Lends windows and bodies in rows, and returns how many bodies there are."""
+    lent.slice("windows", windows, "I")
     lent.arguments.append(lent.arguments[-1] // WINDOW_WORDS)
     lent.slice("cells", cells, "I").slice("numbers", numbers, "d").slice("words", words, "I")
-    bodies = lent.arguments[-1] // width
-    lent.arguments.append(bodies)
+    lent.arguments.append(lent.arguments[-1] // width)
+    return lent.arguments[-1]
+
+
+def _lend_out(lent, out, bodies):
+    """Lends `out`, or a new buffer for so many answers, and returns its numbers."""
     mine = out if out is not None else array.array("d", bytes(8 * ANSWER_NUMBERS * bodies))
     if memoryview(mine).readonly:
         raise ValueError("out: the array may only be read")
     lent.slice("out", mine, "d")
     if lent.arguments[-1] and lent.arguments[-2] != _address(memoryview(mine)):
         raise ValueError("out: the array is not aligned")
-    refusal = _function(name)(*lent.arguments)
-    if refusal:
-        raise Refused(refusal)
-    numbers = memoryview(mine).cast("B").cast("d")[:ANSWER_NUMBERS * bodies]
+    return memoryview(mine).cast("B").cast("d")
+
+
+def _rows(numbers, bodies):
     try:
         import numpy
     except ImportError:

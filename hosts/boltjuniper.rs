@@ -1,5 +1,6 @@
-//! Boltjuniper for hosts in Rust: safe wrappers around what hosts/boltjuniper.h declares of crates/exports, crates/recorder and crates/classroom. Link
-//! target/staticlib/libexports.a, for the classroom palette target/staticlib/libclassroom.a, and a recorder target/staticlib/librecorder.a.
+//! Boltjuniper for hosts in Rust: safe wrappers around what hosts/boltjuniper.h declares of crates/exports, crates/recorder, crates/classroom and
+//! crates/servers. Link target/staticlib/libexports.a, for the classroom palette target/staticlib/libclassroom.a, for the midnight run of two parties
+//! target/staticlib/libservers.a, and a recorder target/staticlib/librecorder.a.
 //! An answer is what was written, or the number of the refusal (docs/REFUSALS.md). The lengths of bodies, movers and answers, and flags, are right
 //! by their types, so neither they nor 11 are ever the reason (but 11 of the midnight run, whose buffer is the host's); those of tables and windows are for the library to refuse.
 
@@ -58,6 +59,13 @@ mod linked {
             windows_count: u32, cells: *const u32, cells_len: usize, numbers: *const f64, numbers_len: usize, words: *const u32, words_len: usize,
             bodies_count: u32, out: *mut f64, out_len: usize,
         ) -> u32;
+        pub fn boltjuniper_midnight_two(
+            records: *const u32, records_len: usize, shapes: *const f32, shapes_len: usize, first_windows: *const u32, first_windows_len: usize,
+            first_windows_count: u32, first_cells: *const u32, first_cells_len: usize, first_numbers: *const f64, first_numbers_len: usize,
+            first_words: *const u32, first_words_len: usize, first_bodies_count: u32, second_windows: *const u32, second_windows_len: usize,
+            second_windows_count: u32, second_cells: *const u32, second_cells_len: usize, second_numbers: *const f64, second_numbers_len: usize,
+            second_words: *const u32, second_words_len: usize, second_bodies_count: u32, out: *mut f64, out_len: usize,
+        ) -> u64;
         pub fn boltjuniper_tick(file: *const u8, file_len: usize, out: *mut f64, out_len: usize) -> u32;
         pub fn boltjuniper_move(
             records: *const u32, records_len: usize, shapes: *const f32, shapes_len: usize, cells: *const u32, cells_len: usize, ox: i32, oy: i32,
@@ -169,6 +177,22 @@ pub const OLDER_CAP: u32 = 128;
 
 /// What is written for a body: its refusal, then its tick with its fall record, as hosts/boltjuniper.h has them.
 pub type AnswerNumbers = [f64; 13];
+
+/// A party of the midnight run of two: its own windows over its own words, and its own bodies, which name those windows alone.
+#[derive(Clone, Copy)]
+pub struct Party<'a> {
+    pub windows: &'a [WindowRow],
+    pub cells: &'a [u32],
+    pub numbers: &'a [BodyNumbers],
+    pub words: &'a [CappedWords],
+}
+
+/// What each of two parties is told: Err is 1, 14 or 11, and its half is as it was.
+#[derive(Clone, Copy, Debug, PartialEq)]
+pub struct Refusals {
+    pub first: Result<(), Refusal>,
+    pub second: Result<(), Refusal>,
+}
 
 /// A box, min x y z and max x y z, with its delta, the step height, whether the body was on the ground, and how many boxes it may meet: 1 to 512, and 0
 /// stands for 512.
@@ -283,13 +307,17 @@ pub fn answered(row: &AnswerNumbers) -> (Result<Tick, Refusal>, Fall) {
     fallen(row[0] as u32, std::array::from_fn(|k| row[k + 1]))
 }
 
+// As many as a call can be told of: more are refused all the same.
+fn count(n: usize) -> u32 {
+    u32::try_from(n).unwrap_or(u32::MAX)
+}
+
 /// The midnight run: one tick of each body, its answer in the row of its own number; rows of `out` beyond the bodies stay. `numbers` has a row for
 /// each body, and so has `words`: a body without its words is refused with 3 in its own answer. Err is 1, 14 or 11, and nothing is written.
 /// Several threads may share tables, windows and cells, each with its own part of the bodies and of `out`.
 pub fn midnight_capped(
     t: Tables, windows: &[WindowRow], cells: &[u32], numbers: &[BodyNumbers], words: &[CappedWords], out: &mut [AnswerNumbers],
 ) -> Result<(), Refusal> {
-    let count = |n: usize| u32::try_from(n).unwrap_or(u32::MAX);
     let (n, w, o) = (numbers.as_flattened(), words.as_flattened(), out.as_flattened_mut());
     let refusal = unsafe {
         linked::boltjuniper_midnight_capped(
@@ -304,7 +332,6 @@ pub fn midnight_capped(
 pub fn midnight(
     t: Tables, windows: &[WindowRow], cells: &[u32], numbers: &[BodyNumbers], words: &[BodyWords], out: &mut [AnswerNumbers],
 ) -> Result<(), Refusal> {
-    let count = |n: usize| u32::try_from(n).unwrap_or(u32::MAX);
     let (n, w, o) = (numbers.as_flattened(), words.as_flattened(), out.as_flattened_mut());
     let refusal = unsafe {
         linked::boltjuniper_midnight(
@@ -313,6 +340,21 @@ pub fn midnight(
         )
     };
     judged(refusal)
+}
+
+/// The midnight run of two parties over one table. The first party's answers go to the first half of `out`, row by row, the second's to the second; a
+/// half is half the length, rounded down. Nothing that the other party hands in alters this party's refusal or its half.
+pub fn midnight_two(t: Tables, first: Party, second: Party, out: &mut [f64]) -> Refusals {
+    let [(n, w), (m, v)] = [first, second].map(|p| (p.numbers.as_flattened(), p.words.as_flattened()));
+    let told = unsafe {
+        linked::boltjuniper_midnight_two(
+            t.records.as_ptr(), t.records.len(), t.shapes.as_ptr(), t.shapes.len(), first.windows.as_ptr().cast(), first.windows.len() * 10,
+            count(first.windows.len()), first.cells.as_ptr(), first.cells.len(), n.as_ptr(), n.len(), w.as_ptr(), w.len(), count(first.numbers.len()),
+            second.windows.as_ptr().cast(), second.windows.len() * 10, count(second.windows.len()), second.cells.as_ptr(), second.cells.len(), m.as_ptr(),
+            m.len(), v.as_ptr(), v.len(), count(second.numbers.len()), out.as_mut_ptr(), out.len(),
+        )
+    };
+    Refusals { first: judged(told as u32), second: judged((told >> 32) as u32) }
 }
 
 /// How many words the summary of a window of these sizes has: they stand behind those of its cells and columns.
@@ -391,7 +433,7 @@ pub fn step_falling_summed(t: Tables, w: Window, b: &Body, fall: Fall) -> Result
     tick.map(|tick| (tick, fall))
 }
 
-/// The tick of a scene file. It reaches 136 KB below its caller, with the words of the file: call it from a thread that has them.
+/// The tick of a scene file. It reaches 207 KB below its caller, with the words of the file: call it from a thread that has them.
 pub fn tick(file: &[u8]) -> Result<Tick, Refusal> {
     let mut out = [0.0; 10];
     let refusal = unsafe { linked::boltjuniper_tick(file.as_ptr(), file.len(), out.as_mut_ptr(), out.len()) };

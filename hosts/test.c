@@ -17,7 +17,7 @@ struct count { const char *what; int agree, differ; };
 static struct count ticks = {"tick", 0, 0}, steps = {"step", 0, 0}, checked = {"step_checked", 0, 0}, tables = {"check_tables", 0, 0},
                     moves = {"move", 0, 0}, lists = {"move_over_list", 0, 0}, collects = {"collected", 0, 0},
                     lengths = {"lengths, ground and room", 0, 0}, windows = {"heights, columns and air", 0, 0},
-                    falling = {"step_falling", 0, 0}, records_kept = {"fall records", 0, 0}, nights = {"midnight", 0, 0},
+                    falling = {"step_falling", 0, 0}, records_kept = {"fall records", 0, 0}, nights = {"midnight", 0, 0}, pairs = {"midnight_two", 0, 0},
                     writes = {"write_scene", 0, 0}, rewrites = {"write_checked", 0, 0}, palettes = {"classroom palette", 0, 0};
 
 static void add(struct count *c, const char *ours, const char *theirs) {
@@ -169,6 +169,20 @@ static void step_with_fall(struct count *c, int record, const char *theirs) {
 /* The scene's body three times, the second time in a window that is not there: the others' answers are as alone, and a refusal hands back. */
 enum { N = BOLTJUNIPER_BODY_NUMBERS, W = BOLTJUNIPER_CAPPED_WORDS, A = BOLTJUNIPER_ANSWER_NUMBERS };
 
+/* The first party has all three bodies, the second the last two: both halves are as the call alone answered, and what lies beyond is kept. */
+static void midnight_two(uint32_t refusal, const uint32_t *row, const double *numbers, const uint32_t *words, const double *alone) {
+    double out[6 * A + 1], theirs[6 * A + 1];
+    char a[64], b[64];
+    for (int k = 0; k <= 6 * A; k++) out[k] = theirs[k] = -1;
+    if (!refusal) memcpy(theirs, alone, 3 * A * sizeof *out), memcpy(theirs + 3 * A, alone + A, 2 * A * sizeof *out);
+    struct boltjuniper_refusals told = boltjuniper_refusals_of(boltjuniper_midnight_two(
+        records, 20 * (size_t)body[46], shapes, 6 * (size_t)body[47], row, 10, 1, cells, cells_len(), numbers, 3 * N, words, 3 * W, 3, row, 10, 1, cells,
+        cells_len(), numbers + N, 2 * N, words + W, 2 * W, 2, out, 6 * A + 1));
+    sprintf(a, "%" PRIu32 " %" PRIu32 " %s", told.first, told.second, memcmp(out, theirs, sizeof out) ? "other bits" : "the same bits");
+    sprintf(b, "%" PRIu32 " %" PRIu32 " the same bits", refusal, refusal);
+    add(&pairs, a, b);
+}
+
 static void midnight(const char *theirs) {
     double numbers[3 * N] = {0}, out[3 * A + 1];
     uint32_t words[3 * W], row[BOLTJUNIPER_WINDOW_WORDS] = {0};
@@ -183,6 +197,7 @@ static void midnight(const char *theirs) {
     for (int k = 0; k <= 3 * A; k++) out[k] = -1;
     uint32_t refusal = boltjuniper_midnight_capped(records, 20 * (size_t)body[46], shapes, 6 * (size_t)body[47], row, 10, 1, cells, cells_len(), numbers,
                                                    3 * N, words, 3 * W, 3, out, 3 * A);
+    midnight_two(refusal, row, numbers, words, out);
     if (refusal) {
         tick_text(ours, refusal, out, out + 10);
         add(&nights, ours, theirs);
@@ -462,19 +477,24 @@ static void all_records(void) {
 }
 
 /* Case A's body many times over: calls that are refused whole write nothing. */
-static void a_night(uint32_t theirs, size_t state_words, uint32_t windows_count, uint32_t bodies_count, size_t room) {
-    static double numbers[4097 * N], out[4097 * A];
-    static uint32_t words[4097 * W], rows[17 * BOLTJUNIPER_WINDOW_WORDS];
+static double many[4097 * N], answers[4097 * A];
+static uint32_t many_words[4097 * W], rows[17 * BOLTJUNIPER_WINDOW_WORDS];
+
+static void set_nights(void) {
     static const double one[12] = {0.5, 1.25, 0.5, 0.25, 0, 0, 1, 1, 0, 0.5, 0.5, 0.5};
     static const uint32_t row[BOLTJUNIPER_WINDOW_WORDS] = {0, UINT32_MAX, 0, 2, 4, 2, (uint32_t)-64, 319, 0, 20};
+    for (size_t k = 0; k < 17; k++) memcpy(rows + k * BOLTJUNIPER_WINDOW_WORDS, row, sizeof row);
+    for (size_t k = 0; k < 4097; k++) memcpy(many + k * N, one, sizeof one), many_words[k * W] = k % 16, many_words[k * W + 4] = 3;
+    for (size_t k = 0; k < 4097 * A; k++) answers[k] = -1;
+}
+
+static void a_night(uint32_t theirs, size_t state_words, uint32_t windows_count, uint32_t bodies_count, size_t room) {
     char a[64], b[64];
     int kept = 1;
-    for (size_t k = 0; k < 17; k++) memcpy(rows + k * BOLTJUNIPER_WINDOW_WORDS, row, sizeof row);
-    for (size_t k = 0; k < 4097; k++) memcpy(numbers + k * N, one, sizeof one), words[k * W] = k % 16, words[k * W + 4] = 3;
-    for (size_t k = 0; k < 4097 * A; k++) out[k] = -1;
-    uint32_t ours = boltjuniper_midnight_capped(states, state_words, cube, 6, rows, 17 * BOLTJUNIPER_WINDOW_WORDS, windows_count, ground, 20, numbers,
-                                                4097 * N, words, 4097 * W, bodies_count, out, room);
-    for (size_t k = 0; k < 4097 * A; k++) kept &= out[k] == -1;
+    set_nights();
+    uint32_t ours = boltjuniper_midnight_capped(states, state_words, cube, 6, rows, 17 * BOLTJUNIPER_WINDOW_WORDS, windows_count, ground, 20, many,
+                                                4097 * N, many_words, 4097 * W, bodies_count, answers, room);
+    for (size_t k = 0; k < 4097 * A; k++) kept &= answers[k] == -1;
     sprintf(a, "refused %" PRIu32 ", kept %d", ours, kept), sprintf(b, "refused %" PRIu32 ", kept %d", theirs, theirs != 0 || bodies_count == 0);
     add(&nights, a, b);
 }
@@ -482,6 +502,38 @@ static void a_night(uint32_t theirs, size_t state_words, uint32_t windows_count,
 static void all_nights(void) {
     a_night(0, 40, 16, 4096, 4096 * A), a_night(0, 40, 0, 0, 0), a_night(14, 40, 16, 4097, 4097 * A), a_night(14, 40, 17, 4096, 4096 * A);
     a_night(11, 40, 16, 4096, 4096 * A - 1), a_night(14, 40, 17, 4096, 0), a_night(1, 39, 16, 4096, 4096 * A), a_night(1, 39, 17, 4097, 0);
+}
+
+/* The same for two parties, each with so many windows and bodies: a party that is not refused has the answer of the body alone in each of its rows, and
+   all else is kept. */
+struct side { uint32_t refusal, windows, bodies; };
+
+static void a_pair(struct side one, struct side two, size_t state_words, size_t room) {
+    double alone[A];
+    char a[64], b[64];
+    int fine = 1;
+    set_nights();
+    boltjuniper_midnight(states, 40, cube, 6, rows, sizeof rows / 4, 16, ground, 20, many, N, many_words, W, 1, alone, A);
+    struct boltjuniper_refusals told = boltjuniper_refusals_of(boltjuniper_midnight_two(
+        states, state_words, cube, 6, rows, sizeof rows / 4, one.windows, ground, 20, many, 4097 * N, many_words, 4097 * W, one.bodies, rows,
+        sizeof rows / 4, two.windows, ground, 20, many, 4097 * N, many_words, 4097 * W, two.bodies, answers, room));
+    for (size_t k = 0; k < 4097 * A; k++) {
+        size_t h = room / 2, place = k < h ? k : k - h;
+        struct side s = k < h ? one : two;
+        fine &= answers[k] == (k < 2 * h && !s.refusal && place < (size_t)s.bodies * A ? alone[place % A] : -1);
+    }
+    sprintf(a, "refused %" PRIu32 " and %" PRIu32 ", fine %d", told.first, told.second, fine);
+    sprintf(b, "refused %" PRIu32 " and %" PRIu32 ", fine 1", one.refusal, two.refusal);
+    add(&pairs, a, b);
+}
+
+static void all_pairs(void) {
+    const struct side full = {0, 16, 2048}, none = {0, 0, 0}, some = {0, 16, 3};
+    a_pair(full, full, 40, 4096 * A + 1), a_pair(full, full, 40, 4096 * A), a_pair(none, none, 40, 0), a_pair(none, none, 40, 1);
+    a_pair((struct side){14, 16, 2049}, full, 40, 4096 * A), a_pair(full, (struct side){14, 17, 1}, 40, 4096 * A + 1);
+    a_pair((struct side){11, 16, 2048}, (struct side){0, 16, 2047}, 40, 4096 * A - 1), a_pair(some, (struct side){11, 16, 4}, 40, 7 * A);
+    a_pair((struct side){14, 17, 9}, (struct side){11, 16, 9}, 40, 17 * A), a_pair(some, none, 40, 7 * A), a_pair(none, some, 40, 7 * A);
+    a_pair((struct side){1, 17, 3}, (struct side){1, 16, 2049}, 39, 7 * A), a_pair((struct side){1, 0, 0}, (struct side){1, 0, 0}, 39, 0);
 }
 
 /* Adds a number to two sums, of the numbers and of the first sum after each, as crates/palette_runs has them. */
@@ -543,9 +595,10 @@ int main(void) {
     beyond(-100.75);
     all_records();
     all_nights();
+    all_pairs();
     classroom();
     const struct count *all[] = {&ticks, &steps, &checked, &tables, &moves, &lists, &collects, &lengths, &windows, &falling, &records_kept,
-                                 &nights, &writes, &rewrites, &palettes};
+                                 &nights, &pairs, &writes, &rewrites, &palettes};
     int bad = 0;
     for (size_t k = 0; k < sizeof all / sizeof *all; k++) bad |= tell(all[k]);
     return bad;

@@ -86,7 +86,7 @@ COUNTS = {name: Count(name) for name in ("tick", "ticks", "step", "step_checked"
                                          "write_scene", "write_scene beside tools/scene",
                                          "move over what it collects", "step of numpy's arrays", "heights, columns and air", "two ticks at a door",
                                          "arrays as they are", "step_falling", "fall records", "midnight", "midnight of older rows", "midnight's refusals",
-                                         "classroom palette", "caps", "summaries")}
+                                         "midnight_two", "classroom palette", "caps", "summaries")}
 
 
 def one_scene(name, theirs):
@@ -128,6 +128,9 @@ def one_midnight(name, tables, window, body, theirs):
     if theirs == "refused 1":
         COUNTS["midnight"].add(name, rows, b.Refused(1))
         return
+    # the first party has all three, the second the last two: both have the rows of the call alone
+    pair = b.midnight_two(tables, *(b.Party(*b.window_rows([window]), *b.body_rows([body] * len(named), named)) for named in ([0, 1, 0], [1, 0])))
+    COUNTS["midnight_two"].add(name, [bits(numbers_in(row)) for part in pair for row in part], [bits(numbers_in(rows[k])) for k in (0, 1, 2, 1, 2)])
     answers = [b.answered(row) for row in rows]
     COUNTS["midnight"].add(name, [tick_text(tick, theirs) for tick, _ in answers], [theirs, "refused 10", theirs])
     given = bits([*body.numbers[:6], float(body.words[0]), 0.0, 0.0, 0.0, 0.0, 0.0])
@@ -339,6 +342,39 @@ def caps():
         COUNTS["caps"].add("%d boxes under %d" % (count, cap), ours.number if isinstance(ours, b.Refused) else 0, theirs)
 
 
+def two_parties():
+    """Case A for two parties: one that is refused has its half as it was, and the other the answers of the body alone."""
+    count = COUNTS["midnight_two"]
+    tables, window, body = parts(example("case-a"))
+    rows, cells = b.window_rows([window] * 17)
+    numbers, words = b.body_rows([body] * 2049, [k % 16 for k in range(2049)])
+    alone = numbers_in(b.midnight_capped(tables, rows[:10], cells, numbers[:21], words[:10])[0])
+    wrong = array.array("I", tables.records)
+    wrong[39] = 14
+
+    def called(what, room, *sides, records=tables.records):
+        out, theirs = array.array("d", [7.0]) * room, array.array("d", [7.0]) * room
+        for k, (_, bodies, refusal) in enumerate(sides):
+            if not refusal:
+                theirs[k * (room // 2):k * (room // 2) + bodies * 13] = array.array("d", alone * bodies)
+        lent = (b.Party(rows[:windows * 10], cells, numbers[:bodies * 21], words[:bodies * 10]) for windows, bodies, _ in sides)
+        told = b.midnight_two(b.Tables(records, tables.shapes), *lent, out)
+        fine = [b.Refused(refusal) if refusal else bodies for _, bodies, refusal in sides]
+        count.add(what, ([t if isinstance(t, b.Refused) else len(t) for t in told], out == theirs), (fine, True))
+
+    full, none, three = (16, 2048, 0), (0, 0, 0), (16, 3, 0)
+    called("2,048 bodies each", 4096 * 13 + 1, full, full)
+    called("2,049 bodies and 2,048", 4096 * 13, (16, 2049, 14), full)
+    called("2,048 bodies and 17 windows", 4096 * 13 + 1, full, (17, 1, 14))
+    called("a half that is short for one", 7 * 13, (16, 4, 11), three)
+    called("14 before 11", 7 * 13, three, (17, 2049, 14))
+    called("three bodies and nothing", 7 * 13, three, none)
+    called("nothing at all", 1, none, none)
+    called("a wrong word, for both", 7 * 13, (17, 3, 1), (0, 0, 1), records=wrong)
+    told = b.midnight_two(tables, b.Party(rows[:10], cells, numbers[:42], words[:20]), b.Party([], [], [], []))
+    count.add("a buffer of its own", [len(t) for t in told], [2, 0])
+
+
 def palette():
     """The classroom palette against the tables that tools/scenepalette.py works out by itself; and the tick of a yard."""
     count, tables = COUNTS["classroom palette"], b.palette()
@@ -439,6 +475,7 @@ def main():
     records()
     midnight()
     caps()
+    two_parties()
     palette()
     doors()
     arrays()

@@ -143,6 +143,15 @@ fn nights(count: &mut Count, name: &str, t: Tables, w: Window, body: &Body, thei
     let (numbers, words): (Vec<_>, Vec<_>) = [0, 1, 0].iter().map(|&k| body.row(fall, k)).unzip();
     let mut out = [[7.0; 13]; 4];
     let told = midnight_capped(t, &[row], w.cells, &numbers, &words, &mut out);
+    // the first party has all three, the second the last two: both halves are as the call alone answered, and what lies beyond is kept
+    let mut both = [7.0; 105];
+    let party = |from: usize| Party { windows: std::slice::from_ref(&row), cells: w.cells, numbers: &numbers[from..], words: &words[from..] };
+    let pair = midnight_two(t, party(0), party(1), &mut both);
+    let mut rest = out;
+    rest.copy_within(1..3, 0);
+    rest[2] = [7.0; 13];
+    let alone = [out.as_flattened(), rest.as_flattened(), &[7.0]].concat();
+    count.add(name, &format!("{pair:?} {}", bits(&both)), &format!("{:?} {}", Refusals { first: told, second: told }, bits(&alone)));
     if theirs == "refused 1" {
         count.add(name, &format!("{told:?} {}", out == [[7.0; 13]; 4]), "Err(1) true");
         return;
@@ -200,6 +209,32 @@ fn whole_nights(count: &mut Count) {
     refused("a wrong word", &wrong, 16, 4096, 4096, Err(1));
     refused("1 before 14", &wrong, 17, 4097, 0, Err(1));
     refused("nothing at all", &records, 0, 0, 1, Ok(()));
+
+    // two parties, each with so many windows and bodies: a party that is not refused has the answer of the body alone in each of its rows
+    let mut alone = [[7.0; 13]];
+    let t = Tables { records: &records, shapes: &shapes };
+    count.add("alone", &format!("{:?}", midnight_capped(t, &[row], &cells, &[numbers], &[words], &mut alone)), "Ok(())");
+    let mut pair = |what: &str, records: &[u32], sides: [(usize, usize, Result<(), Refusal>); 2], room: usize| {
+        let (mut out, mut theirs) = (vec![7.0; room], vec![7.0; room]);
+        for (k, (_, bodies, told)) in sides.iter().enumerate() {
+            if told.is_ok() {
+                theirs[k * (room / 2)..][..bodies * 13].copy_from_slice(alone.repeat(*bodies).as_flattened());
+            }
+        }
+        let rows = sides.map(|(windows, bodies, _)| (vec![row; windows], vec![numbers; bodies], vec![words; bodies]));
+        let [a, b] = [0, 1].map(|k| Party { windows: &rows[k].0, cells: &cells, numbers: &rows[k].1, words: &rows[k].2 });
+        let told = midnight_two(Tables { records, shapes: &shapes }, a, b, &mut out);
+        let fine = Refusals { first: sides[0].2, second: sides[1].2 };
+        count.add(what, &format!("{told:?} {}", out == theirs), &format!("{fine:?} true"));
+    };
+    let (full, none) = ((16, 2048, Ok(())), (0, 0, Ok(())));
+    pair("2,048 bodies each", &records, [full, full], 4096 * 13 + 1);
+    pair("2,049 bodies and 2,048", &records, [(16, 2049, Err(14)), full], 4096 * 13);
+    pair("2,048 bodies and 17 windows", &records, [full, (17, 1, Err(14))], 4096 * 13 + 1);
+    pair("a half that is short for one", &records, [(16, 4, Err(11)), (16, 3, Ok(()))], 7 * 13);
+    pair("14 before 11", &records, [(1, 3, Ok(())), (17, 2049, Err(14))], 7 * 13);
+    pair("nothing and three bodies", &records, [none, (1, 3, Ok(()))], 7 * 13);
+    pair("a wrong word, for both", &wrong, [(17, 1, Err(1)), (0, 0, Err(1))], 7 * 13);
 }
 
 // Case A of the requirements: what its step does to the box; its window with other words, sizes, heights and air; and its body beyond the world.

@@ -16,9 +16,9 @@ use Rattle.base.specs.Loop.{listed, stored}
 use Rattle.table_check.specs.Check.{tableRefusal}
 use Rattle.midnight.specs.Rows.{Row, rowOf, rowAt, windowAt, namedIn, answerWidth, answerNumbers}
 use Rattle.midnight.specs.Answers.{Lent, singleStep, answerOf}
-use Rattle.midnight.specs.Run.{countRefusal, runRefusal, bodiesOf, answerRow, rowsOf, runWritten, answersIn}
 use Rattle.base.proofs.Stored.{stored-first}
 use Rattle.base.proofs.Listed.{listed-length, listed-at, map-listed}
+use Rattle.midnight.specs.Run.{countRefusal, runRefusal, bodiesOf, answerRow, rowsOf, checkedWritten, runWritten, answersIn}
 use Rattle.midnight.proofs.Bodies.{Named, single}
 
 -- ---- what a call that is not refused passed
@@ -125,19 +125,43 @@ module _ (older : Bool) (lent : Lent) (numbers : List Float) (words : List ℕ) 
 
 -- ---- by what the program returns
 
-module _ (older : Bool) (lent : Lent) (numbers : List Float) (words : List ℕ) (bodies : ℕ) (out : List Float) (r : ℕ) (told : r ≡ runRefusal lent bodies (length out)) where
-  pub refused-run : (r ≡ 0 → ⊥) → out ≡ runWritten lent (bodiesOf older numbers words bodies) out
-  refused-run not = sym (unwritten older lent numbers words bodies out (λ z. not (told ∙ z)))
+module _ (older : Bool) (lent : Lent) (numbers : List Float) (words : List ℕ) (bodies : ℕ) (out : List Float) where
+  module _ (r : ℕ) (told : r ≡ countRefusal (lent .count) bodies (length out)) where
+    pub refused-run : (r ≡ 0 → ⊥) → out ≡ checkedWritten lent (bodiesOf older numbers words bodies) out
+    unfolding checkedWritten choose
+    refused-run not = rw (listed-length (rowAt older numbers words) bodies 0, ne-eqb (countRefusal (lent .count) bodies (length out)) 0 (λ z. not (told ∙ z)))
 
-  module _ (none : r ≡ 0) where
-    pub few-windows : lent .count ≤ 16
-    few-windows = passed lent bodies (length out) (sym told ∙ none) .windows
+    module _ (none : r ≡ 0) where
+      pub few-windows : lent .count ≤ 16
+      unfolding countRefusal choose
+      few-windows =
+          nltb→le 16 (lent .count)
+          (subst (λ (b : Bool). T (not b)) (sym (all-passed true (ltb 16 (lent .count)) (ltb 4096 bodies) (ltb (length out) (bodies * answerWidth)) (sym told ∙ none) .1)) tt)
 
-    pub zero-told : 0 ≡ runRefusal lent bodies (length out)
-    zero-told = sym none ∙ told
+      pub zero-told : 0 ≡ countRefusal (lent .count) bodies (length out)
+      zero-told = sym none ∙ told
 
-    pub accepted-run : (l : List Float) → l ≡ stored out 0 (rowsOf lent (bodiesOf older numbers words bodies)) → l ≡ runWritten lent (bodiesOf older numbers words bodies) out
-    accepted-run l e = e ∙ stored-all older lent numbers words bodies out (sym told ∙ none)
+      pub accepted-run : (l : List Float) → l ≡ stored out 0 (rowsOf lent (bodiesOf older numbers words bodies)) → l ≡ checkedWritten lent (bodiesOf older numbers words bodies) out
+      unfolding checkedWritten choose
+      accepted-run l e = rw (listed-length (rowAt older numbers words) bodies 0, ← zero-told) e
+
+  -- over tables that pass, the call is the one over checked tables; over others it is refused
+  module _ (sound : tableRefusal (lent .records) (lent .shapes) ≡ 0) where
+    pub counts-alone : countRefusal (lent .count) bodies (length out) ≡ runRefusal lent bodies (length out)
+    unfolding runRefusal choose
+    counts-alone = rw sound
+
+    pub checked-run : checkedWritten lent (bodiesOf older numbers words bodies) out ≡ after older lent numbers words bodies out
+    unfolding checkedWritten runWritten runRefusal choose
+    checked-run = rw sound
+
+  module _ (bad : tableRefusal (lent .records) (lent .shapes) ≡ 0 → ⊥) where
+    pub tables-refused : 1 ≡ runRefusal lent bodies (length out)
+    unfolding runRefusal choose
+    tables-refused = rw (ne-eqb (tableRefusal (lent .records) (lent .shapes)) 0 bad)
+
+    pub tables-unwritten : out ≡ after older lent numbers words bodies out
+    tables-unwritten = sym (unwritten older lent numbers words bodies out (λ z. let no : 1 ≡ 0 = tables-refused ∙ z in absurd (omega (arith, no))))
 
 -- ---- any order
 

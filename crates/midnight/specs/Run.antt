@@ -42,6 +42,12 @@ unfoldable pub rowsOf : Lent → List Row → List Float
 rowsOf lent [] = []
 rowsOf lent (row ∷ rows) = answerRow lent row ++ rowsOf lent rows
 
+-- 14 and 11 write nothing
+unfoldable pub checkedWritten : Lent → List Row → List Float → List Float
+checkedWritten lent rows out =
+    choose (eqb (countRefusal (lent .count) (length rows) (length out)) 0) (stored out 0 (rowsOf lent rows)) out
+
+-- nor does 1
 unfoldable pub runWritten : Lent → List Row → List Float → List Float
 runWritten lent rows out =
     choose (eqb (runRefusal lent (length rows) (length out)) 0) (stored out 0 (rowsOf lent rows)) out

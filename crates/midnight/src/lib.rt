@@ -11,13 +11,10 @@ use window::Window;
 ghost use mathlib.Core.Bool.{true, false};
 ghost use mathlib.Core.Path.{_≡_};
 ghost use Prim.Native.Nat.{_≤_};
-ghost use lib.Dec.{eqb};
 ghost use lib.ListN.{length};
-ghost use Rattle.base.specs.Choose.{choose};
 ghost use Rattle.base.specs.Loop.{stored};
-ghost use Rattle.table_check.specs.Check.{tableRefusal};
 ghost use Rattle.midnight.specs.Answers.{lentWith};
-ghost use Rattle.midnight.specs.Run.{countRefusal, runRefusal, bodiesOf, rowsOf, runWritten};
+ghost use Rattle.midnight.specs.Run.{countRefusal, runRefusal, bodiesOf, rowsOf, checkedWritten, runWritten};
 
 // A window, and where its own words begin among those of all windows, and how many they are.
 pub struct WindowRow {
@@ -40,16 +37,6 @@ fn count_refusal(windows: u32, bodies: u32, room: usize) -> u32
         return 11;
     }
     0
-}
-
-// 1, then 14, then 11, or 0.
-fn run_refusal(records: &[u32], shapes: &[f32], windows: u32, bodies: u32, room: usize) -> u32
-    ensures { λ r. ⌜ r ≡ choose (eqb (tableRefusal (now (records .entry)) (now (shapes .entry))) 0) (countRefusal windows bodies room) 1 ⌝ }
-{
-    if table_check::check_tables(records, shapes) != 0 {
-        return 1;
-    }
-    count_refusal(windows, bodies, room)
 }
 
 // The answers of so many bodies, each in its row.
@@ -89,8 +76,9 @@ fn answer_all(
     }
 }
 
-// The call whole. It returns 0; or 1, 14 or 11, and writes nothing.
-fn run_rows(
+// The call over tables that passed their check before, once for several calls; `older` where the rows are an older caller's, who names no cap. It
+// returns 0; or 14 or 11, and writes nothing.
+pub fn run_checked(
     older: bool,
     records: &[u32],
     shapes: &[f32],
@@ -102,10 +90,10 @@ fn run_rows(
     bodies: u32,
     out: &mut [f64],
 ) -> u32
-    ensures { λ r. ⌜ r ≡ runRefusal (lentWith (now (records .entry)) (now (shapes .entry)) (now (windows .entry)) count (now (cells .entry))) bodies (length (now (out .entry))) ⌝ }
-    ensures { λ _. ⌜ now (out .exit) ≡ runWritten (lentWith (now (records .entry)) (now (shapes .entry)) (now (windows .entry)) count (now (cells .entry))) (bodiesOf older (now (numbers .entry)) (now (words .entry)) bodies) (now (out .entry)) ⌝ }
+    ensures { λ r. ⌜ r ≡ countRefusal count bodies (length (now (out .entry))) ⌝ }
+    ensures { λ _. ⌜ now (out .exit) ≡ checkedWritten (lentWith (now (records .entry)) (now (shapes .entry)) (now (windows .entry)) count (now (cells .entry))) (bodiesOf older (now (numbers .entry)) (now (words .entry)) bodies) (now (out .entry)) ⌝ }
 {
-    let refusal = run_refusal(records, shapes, count, bodies, out.len());
+    let refusal = count_refusal(count, bodies, out.len());
     if refusal != 0 {
         return refusal;
     }
@@ -122,6 +110,39 @@ fn run_rows(
         out,
     );
     0
+}
+
+// The call whole. It returns 0; or 1, 14 or 11, and writes nothing.
+fn run_rows(
+    older: bool,
+    records: &[u32],
+    shapes: &[f32],
+    windows: &[u32],
+    count: u32,
+    cells: &[u32],
+    numbers: &[f64],
+    words: &[u32],
+    bodies: u32,
+    out: &mut [f64],
+) -> u32
+    ensures { λ r. ⌜ r ≡ runRefusal (lentWith (now (records .entry)) (now (shapes .entry)) (now (windows .entry)) count (now (cells .entry))) bodies (length (now (out .entry))) ⌝ }
+    ensures { λ _. ⌜ now (out .exit) ≡ runWritten (lentWith (now (records .entry)) (now (shapes .entry)) (now (windows .entry)) count (now (cells .entry))) (bodiesOf older (now (numbers .entry)) (now (words .entry)) bodies) (now (out .entry)) ⌝ }
+{
+    if table_check::check_tables(records, shapes) != 0 {
+        return 1;
+    }
+    run_checked(
+        older,
+        records,
+        shapes,
+        windows,
+        count,
+        cells,
+        numbers,
+        words,
+        bodies,
+        out,
+    )
 }
 
 // For hosts. Tables as ever; `windows` has ten words for each of `count` windows, over the words `cells` of all of them; `numbers` has 21 numbers

@@ -1,6 +1,8 @@
 // The midnight run, run: bad rows among good ones, the same rows in reverse, and calls that are refused whole. A line for each body has its
-// refusal, and whether its row has the bits of the single step, or of what was given. The buffer holds 7s before each call.
+// refusal, and whether its row has the bits of the single step, or of what was given. The buffer holds 7s before each call. two.rt runs the call
+// for two parties.
 mod rows;
+mod two;
 
 use falls::Fall;
 use falls::FallingAnswer;
@@ -295,4 +297,5 @@ fn main() {
     whole(b"a wrong word in the tables", 16, 4096, 14, 53248);
     whole(b"a wrong word, 17 windows, and no room", 17, 4096, 14, 0);
     whole(b"no window, no body, and no room", 0, 0, 15, 0);
+    two::run();
 }

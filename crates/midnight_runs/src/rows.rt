@@ -119,3 +119,19 @@ pub(crate) fn fill_words(words: &mut [u32], back: bool) {
         i += 1;
     }
 }
+
+// The word of a row that has a cap behind the nine: 128.
+fn capped_word(body: usize, k: usize) -> u32 {
+    if k == 9 {
+        return 128;
+    }
+    word_of(body, k)
+}
+
+pub(crate) fn fill_capped(words: &mut [u32], back: bool) {
+    let mut i = 0;
+    while i < words.len() {
+        words[i] = capped_word(body_in(i / 10, back), i % 10);
+        i += 1;
+    }
+}
