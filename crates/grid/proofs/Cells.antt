@@ -110,7 +110,7 @@ pub record Held (a : Axis) (c : ℤ) : Type 0 where
   pub below : index < a .count
   pub is : onFrom (a .first) index ≡ c
 
-held : (f g : ℤ) (l h n : ℕ) → f ≡ numbered l → g ≡ numbered h → l ≤ n → n ≤ h → h < l + 2 ^ 30 → h ≤ 2 ^ 28 + 2 ^ 26 → Held record { first = f; count = spanOf f g } (numbered n)
+pub held : (f g : ℤ) (l h n : ℕ) → f ≡ numbered l → g ≡ numbered h → l ≤ n → n ≤ h → h < l + 2 ^ 30 → h ≤ 2 ^ 28 + 2 ^ 26 → Held record { first = f; count = spanOf f g } (numbered n)
 held f g l h n F G low high near small =
     let e : spanOf f g ≡ h - l + 1 = ap (λ (z : ℤ). spanOf z g) F ∙ ap (λ (z : ℤ). spanOf (numbered l) z) G ∙ span-is l h (omega arith) near in
     let k = n - l in

@@ -1,0 +1,10 @@
+pub mod Counts
+pub mod Rounding
+pub mod Scaled
+pub mod Axis
+pub mod Passes
+pub mod Sequence
+pub mod Sweep
+pub mod Whole
+pub mod Starts
+pub mod OverList
