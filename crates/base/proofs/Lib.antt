@@ -7,3 +7,6 @@ pub mod Fill
 pub mod Tests
 pub mod Differences
 pub mod Members
+pub mod Counts
+pub mod Rounding
+pub mod Scaled

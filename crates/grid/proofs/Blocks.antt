@@ -8,7 +8,7 @@ use Prim.Native.Nat.{ℕ, _+_, _-_, _*_, _^_, _≤_, _<_}
 use native.Mathlib.Omega.{arith}
 use lib.IntN.{ℤ, pos, negsuc, natAbs, _+ℤ_, _-ℤ_, +ℤ-comm, -ℤ-+ℤ-cancel}
 use lib.Signed.{leZ, ltZ}
-use lib.Dec.{T, ltb, leb, ltb→lt, leb→le, nleb→lt}
+use lib.Dec.{T, ltb, leb, ltb→lt, leb→le, nleb→lt, lit<}
 use lib.Ieee.{Float, binary64, ofBits, ofInt, add, lt, le}
 use lib.Ieee.Fits.{and-l, and-r}
 use borrow.Author.Tests.{ltb-true, leb-true}
@@ -208,7 +208,7 @@ far-in p h b t =
     let u : 0 + r .minus ≤ r .plus + 0 = leb→le (0 + r .minus) (r .plus + 0) (subst T (le-at zero64 (b .min .y) 0 0 (r .plus) (r .minus) (zero-at 0) (r .at)) (s .low .y)) in
     let v : q .plus + 0 ≤ 6144 + q .minus = leb→le (q .plus + 0) (6144 + q .minus) (subst T (le-at (b .max .y) cellAndHalf (q .plus) (q .minus) 6144 0 (q .at) half-at) (s .high .y)) in
     let t : r .plus + q .minus < q .plus + r .minus = ltb→lt (r .plus + q .minus) (q .plus + r .minus) (subst T (lt-at (b .min .y) (b .max .y) (r .plus) (r .minus) (q .plus) (q .minus) (r .at) (q .at)) (s .proper .solid .y)) in
-    far-shape p b h (slight (b .min .y) (r .plus) (r .minus) (r .at) (omega arith) (omega arith)) (slight (b .max .y) (q .plus) (q .minus) (q .at) (omega arith) (omega arith))
+    far-shape p b h (slight 4096 (lit< tt) (b .min .y) (r .plus) (r .minus) (r .at) (omega arith) (omega arith)) (slight 4096 (lit< tt) (b .max .y) (q .plus) (q .minus) (q .at) (omega arith) (omega arith))
 
 -- ---- a cell that is settled lies in a column of the window
 no : {A : Type 0} → _≡_ {A = ℕ} 0 1 → A

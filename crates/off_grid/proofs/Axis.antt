@@ -13,7 +13,7 @@ use Rattle.floats.specs.Numbers.{zero64, leastOf, greatestOf}
 use Rattle.boxes.specs.declared.Aabb.{Aabb}
 use Rattle.boxes.specs.Boxes.{stopAt}
 use Rattle.sweeps.specs.Move.{clipAll}
-use Rattle.off_grid.proofs.Scaled.{over, under, Real, Within, Sum, sum-is, lt-is, le-is, zero-real, zero-over, zero-under, neg-over, neg-under, neg-within}
+use Rattle.base.proofs.Scaled.{over, under, Real, Within, Sum, sum-is, lt-is, le-is, zero-real, zero-over, zero-under, neg-over, neg-under, neg-within}
 
 -- half of the last place of a number from 2 ^ 25 to 2 ^ 26, which is 2 ^ -28
 unfoldable pub unit : ℕ

@@ -1,6 +1,4 @@
-pub mod Counts
-pub mod Rounding
-pub mod Scaled
+-- Change request Thirteen over a list: `off-grid-accepted` and `off-grid-accepted-tight` in OverList; `from-start` in Starts, over any list, is what they come from.
 pub mod Axis
 pub mod Passes
 pub mod Sequence

@@ -8,7 +8,7 @@ use Rattle.floats.specs.Numbers.{zero64}
 use Rattle.boxes.specs.declared.Vec3.{Vec3}
 use Rattle.boxes.specs.declared.Aabb.{Aabb}
 use Rattle.boxes.specs.Boxes.{vec, offsetBy, meet, overlap, apart}
-use Rattle.off_grid.proofs.Scaled.{over, under, Real, Within, widen, Sum}
+use Rattle.base.proofs.Scaled.{over, under, Real, Within, widen, Sum}
 use Rattle.off_grid.proofs.Axis.{unit, sum-near, Stops, le→, nlt→, Short, before, beyond, weaken, land, zeros, stay}
 
 -- ---- a box whose ends are of size at most r

@@ -13,7 +13,7 @@ use Rattle.boxes.specs.declared.Aabb.{Aabb}
 use Rattle.sweeps.specs.declared.Swept.{Swept}
 use Rattle.boxes.specs.Boxes.{vec, offsetBy, clipX, clipY, clipZ}
 use Rattle.sweeps.specs.Move.{clipAll, clipSequence, steppedUp, flatSquare, triesStep, moveOver}
-use Rattle.off_grid.proofs.Scaled.{over, under, Real, Within, zero-in, neg-over, neg-under, neg-within}
+use Rattle.base.proofs.Scaled.{over, under, Real, Within, zero-in, neg-over, neg-under, neg-within}
 use Rattle.off_grid.proofs.Axis.{unit, Way, fore, back, Stops, All, all-map, all-map3, Course, clips, land, rise, sink}
 use Rattle.off_grid.proofs.Passes.{Trail, trail, BoxIn, Offset, VecIn, offset, offset-in, ShortY, Clear, besideX, besideY, besideZ, pass-x, pass-y, pass-z}
 

@@ -18,7 +18,7 @@ use Rattle.boxes.specs.Limits.{twoTo, areWithin, sidesOf, isBox, isDelta, isSte
 use Rattle.sweeps.specs.Move.{moveOver}
 use Rattle.off_grid.specs.Scaled.{isSlight}
 use Rattle.off_grid.specs.Demand.{vecF64, boxF64, TypedMove}
-use Rattle.off_grid.proofs.Scaled.{scaledSize, over, under, Real, Within, widen, zero-real, zero-over, zero-under}
+use Rattle.base.proofs.Scaled.{scaledSize, over, under, Real, Within, widen, zero-real, zero-over, zero-under}
 use Rattle.off_grid.proofs.Axis.{unit, le→, All}
 use Rattle.off_grid.proofs.Passes.{BoxIn, VecIn, Clear}
 use Rattle.off_grid.proofs.Sequence.{moved}

@@ -14,7 +14,7 @@ use Rattle.boxes.specs.declared.Aabb.{Aabb}
 use Rattle.sweeps.specs.declared.Swept.{Swept}
 use Rattle.boxes.specs.Boxes.{vec, below0, above0, expandTowards}
 use Rattle.sweeps.specs.Move.{clipSequence, steppedUp, flatSquare, triesStep, moveOver}
-use Rattle.off_grid.proofs.Scaled.{over, under, Within, Sum, zero-real, zero-over, zero-under, zero-in, neg-over, neg-under, neg-within}
+use Rattle.base.proofs.Scaled.{over, under, Within, Sum, zero-real, zero-over, zero-under, zero-in, neg-over, neg-under, neg-within}
 use Rattle.off_grid.proofs.Axis.{unit, sum-near, Way, fore, back, le→, nle→, zeros, All, Short, before, beyond}
 use Rattle.off_grid.proofs.Passes.{Gone, BoxIn, VecIn, Clear, onX, onY, onZ, sum-in, BoxReal}
 use Rattle.off_grid.proofs.Sequence.{Done, passed-y, off-y, plain, upward, not-down, not-up}

@@ -12,7 +12,7 @@ use Rattle.base.specs.Choose.{choose}
 use Rattle.base.proofs.Differences.{subℕ-pos, subℕ-neg, subℕ-sub, subℕ-lt, subℕ-leZ}
 use Rattle.boxes.specs.declared.Aabb.{Aabb}
 use Rattle.off_grid.specs.Scaled.{scaled, leastZ, reachOn, slightOn, slightAxes, isSlight}
-use Rattle.off_grid.proofs.Scaled.{scaledSize, over, under}
+use Rattle.base.proofs.Scaled.{scaledSize, over, under}
 use Rattle.off_grid.proofs.Axis.{unit, Short, before, beyond}
 use Rattle.off_grid.proofs.Passes.{ShortX, ShortY, ShortZ, Clear, onX, onY, onZ}
 

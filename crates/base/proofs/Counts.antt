@@ -3,14 +3,14 @@
 use mathlib.Core.Path.{_≡_, sym, ap, _∙_, subst}
 use mathlib.Core.Bool.{Bool, true, false, not, _&&_, _||_, cond, and-true}
 use Prim.Native.Nat.{ℕ, _+_, _-_, _*_, _≤_, _<_}
-use native.Mathlib.Nat.{eq-of-mul-eq-mul-right}
+use native.Mathlib.Nat.{eq-of-mul-eq-mul-right, mul-assoc, mul-right-comm, add-mul}
 use native.Mathlib.Omega.{arith}
 use lib.Dec.{T, ltb, leb, eqb, ltb→lt, nltb→le, eqb→eq}
-use lib.Ieee.{Float, nan, inf, fin, Format, down, round, sum, add, neg, lt, le, eq, below, level}
+use lib.Ieee.{Float, nan, inf, fin, Format, up, down, round, sum, add, neg, lt, le, eq, below, level}
 use lib.Ieee.Fits.{down-pos, eq→eqb}
 use lib.Ieee.Exact.{HasValue}
 use Rattle.base.proofs.Values.{add-common, lt-common, eq-common}
 use Rattle.base.proofs.Tests.{bool-iff, ltb-iff, eqb-iff, ltb-no, leb-split}
 
 -- k units with the sign s: p - n units
 abbrev pub Signed : Bool → ℕ → ℕ → ℕ → Type 0
@@ -30,6 +30,22 @@ at-same p n p' n' e h = record { sign = h .sign; size = h .size; value = h .valu
     go : (s : Bool) (k : ℕ) → Signed s k p n → Signed s k p' n'
     go false k u = omega arith
     go true k u = omega arith
+
+-- in units that are k times smaller
+pub at-times : (c k : ℕ) (x : Float) (p n : ℕ) → At c x p n → At (c * k) x (p * k) (n * k)
+at-times c k nan p n h = absurd (h .value)
+at-times c k (inf s) p n h = absurd (h .value)
+at-times c k (fin s m e) p n h =
+    record {
+      sign = h .sign;
+      size = h .size * k;
+      value = (h .value .0, sym (mul-assoc (m * up e) c k) ∙ ap (λ (z : ℕ). z * k) (h .value .1) ∙ mul-right-comm (h .size) (down e) k);
+      units = go (h .sign) (h .size) (h .units);
+    }
+  where
+    go : (s : Bool) (i : ℕ) → Signed s i p n → Signed s (i * k) (p * k) (n * k)
+    go false i u = sym (add-mul i n k) ∙ ap (λ (z : ℕ). z * k) u
+    go true i u = sym (add-mul i p k) ∙ ap (λ (z : ℕ). z * k) u
 
 pub at-unique : (c : ℕ) (x : Float) (p n q m : ℕ) → At c x p n → At c x q m → p + m ≡ q + n
 at-unique c nan p n q m h j = absurd (h .value)

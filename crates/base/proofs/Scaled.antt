@@ -14,9 +14,9 @@ use lib.Ieee.{Float, nan, inf, fin, binary64, up, down, round, add, neg, lt, le,
 use lib.Ieee.Fits.{down-pos, add-fits, neg-fits}
 use lib.Ieee.Exact.{HasValue}
 use lib.Ieee.Scale.{overflow}
 use Rattle.base.proofs.Values.{fitting, zero-exp, divides}
-use Rattle.off_grid.proofs.Counts.{Signed, At, at-unique, neg-at, add-by, lt-at, le-at}
-use Rattle.off_grid.proofs.Rounding.{near, near-high, near-low, near-under, near-value, near-mono, near-own, near-zero}
+use Rattle.base.proofs.Counts.{Signed, At, at-unique, neg-at, add-by, lt-at, le-at}
+use Rattle.base.proofs.Rounding.{near, near-high, near-low, near-under, near-value, near-mono, near-own, near-zero}
 
 -- The size of x, and x itself as the difference of two whole numbers, over x less under x, one of which is 0. An infinity counts as 2 ^ 1024.
 unfoldable pub scaledSize : Float → ℕ
