@@ -102,25 +102,27 @@ impl Seen {
 
 /// A whole number: near 0, at some distance, or within a few blocks of 2^25.
 fn middle(random: &mut Random) -> i32 {
-    let far = random.of(&[0, 0, 100, 4000, 1 << 20, (1 << 24) - 3, (1 << 25) - 20, (1 << 25) - 20]);
+    let far = random.of(&[0, 0, 100, 4000, 1 << 20, (1 << 24) - 8, (1 << 25) - 14, (1 << 25) - 14]);
     let n = far + random.below(12) as i32;
     if random.below(2) == 0 { n } else { -n }
 }
 
-/// A share of a delta: none, a body's fall or walk, or up to 3 blocks.
-fn share(random: &mut Random) -> f64 {
-    match random.below(6) {
+/// A share of a delta: none, a body's fall or walk, up to 3 blocks, or up to `most`.
+fn share(random: &mut Random, most: f64) -> f64 {
+    match random.below(7) {
         0 => 0.0,
         1 => -0.08,
         2 => (random.unit() - 0.5) * 1e-6,
         3 | 4 => (random.unit() - 0.5) * 0.9,
-        _ => (random.unit() - 0.5) * 6.0,
+        5 => (random.unit() - 0.5) * 6.0,
+        _ => (random.unit() - 0.5) * 2.0 * most,
     }
 }
 
 /// A body around these feet: its sides are those of real bodies, or any.
 fn body(random: &mut Random, feet: [f64; 3]) -> Box6 {
-    let (wide, tall) = random.of(&[(0.6, 1.8), (0.6, 1.8), (0.25, 0.25), (0.98, 0.98), (1.4, 1.6), (0.3 + random.unit(), 0.2 + random.unit())]);
+    let any = (0.3 + random.unit(), 0.2 + random.unit());
+    let (wide, tall) = random.of(&[(0.6, 1.8), (0.6, 1.8), (0.25, 0.25), (0.25, 0.25), (0.98, 0.98), (1.4, 1.6), any]);
     let half = wide / 2.0;
     [feet[0] - half, feet[1], feet[2] - half, feet[0] + half, feet[1] + tall, feet[2] + half]
 }
@@ -135,18 +137,18 @@ fn over_lists(random: &mut Random, moves: u64) -> Seen {
     while seen.moves < moves {
         let feet = [0; 3].map(|_: i32| f64::from(middle(random)) + random.unit());
         let a = body(random, feet);
-        let delta = [share(random), share(random), share(random)];
+        let delta = [0; 3].map(|_: i32| share(random, 128.0));
         let mut boxes: Vec<Box6> = Vec::new();
         for _ in 0..1 + random.below(5) {
             // of each axis: it lies ahead of the body within the delta's reach, or behind, or across it; now and then it touches
             let mut b = [0.0; 6];
             for k in 0..3 {
-                let gap = random.of(&[0.0, 0.05, 0.4, 2.0]) * random.unit();
+                let gap = random.of(&[0.0, 0.05, 0.4, 2.0, 100.0]) * random.unit();
                 let long = 0.05 + random.unit();
                 (b[k], b[k + 3]) = match random.below(4) {
                     0 => (a[k + 3] + gap, a[k + 3] + gap + long),
                     1 => (a[k] - gap - long, a[k] - gap),
-                    _ => (a[k] - gap, a[k + 3] + long),
+                    _ => (a[k] - gap.min(2.0), a[k + 3] + long),
                 };
             }
             if within_limits(&b) && !overlaps(&a, &b) {
@@ -184,8 +186,12 @@ fn tables(random: &mut Random) -> Tables {
             (0..1 + k % 2)
                 .map(|_| {
                     let (x, y, z) = (side(random, 1.0), side(random, 1.5), side(random, 1.0));
-                    // one in three is a slab of some height, which is stood upon and stepped on
-                    if k % 3 == 0 { [0.0, 0.0, 0.0, 0.99, y.1, 0.99] } else { [x.0, y.0, z.0, x.1, y.1, z.1] }
+                    // one in three is a slab of some height, which is stood upon and stepped on, and another a rail, which is stepped over
+                    match k % 3 {
+                        0 => [0.0, 0.0, 0.0, 0.99, y.1, 0.99],
+                        1 => [x.0, 0.0, 0.0, x.0 + 0.02, 0.05 + y.0 / 3.0, 1.0],
+                        _ => [x.0, y.0, z.0, x.1, y.1, z.1],
+                    }
                 })
                 .collect(),
         );
@@ -204,6 +210,8 @@ fn tables(random: &mut Random) -> Tables {
 }
 
 const SIZE: i32 = 8;
+/// The world's lowest and highest cell.
+const WORLD: i32 = 33_554_432;
 
 fn through_windows(random: &mut Random, moves: u64) -> (Seen, u64) {
     let (mut seen, mut refused) = (Seen::default(), 0);
@@ -213,13 +221,20 @@ fn through_windows(random: &mut Random, moves: u64) -> (Seen, u64) {
         if random.below(500) == 0 {
             t = tables(random);
         }
-        let origin = [0; 3].map(|_: i32| middle(random).clamp(-33_554_432, 33_554_432));
-        // a floor, and above it air, cubes and shapes
-        let floor = random.of(&[1, 2, 5]) as u32;
+        let mut origin = [0; 3].map(|_: i32| middle(random));
+        // one window in four is for a body that steps over a rail and back down to a floor whose top is a little below a power of two
+        let hops = random.below(4) == 0;
+        if hops {
+            origin[1] = (1 << random.of(&[3, 8, 16, 24, 25, 25])) - 3;
+        }
+        // a floor, and above it air, cubes and shapes, now and then rails alone
+        let (floor, rails) = if hops { (2, true) } else { (random.of(&[1, 1, 2, 5]), random.below(2) == 0) };
         let mut cells: Vec<u32> = (0..SIZE * SIZE * SIZE)
             .map(|at| match at / SIZE / SIZE {
                 0..3 => floor,
-                _ => if random.below(5) == 0 { 1 + random.below(15) as u32 } else { 0 },
+                _ if random.below(5) > 0 => 0,
+                _ if rails => random.of(&[3, 6, 9, 12]),
+                _ => 1 + random.below(15) as u32,
             })
             .collect();
         let columns: Vec<u32> = (0..SIZE * SIZE).map(|_| u32::from(random.below(30) != 0)).collect();
@@ -227,7 +242,11 @@ fn through_windows(random: &mut Random, moves: u64) -> (Seen, u64) {
         // every box that a cell near the middle comes to
         let mut blocks: Vec<Box6> = Vec::new();
         for (y, z, x) in (0..SIZE).flat_map(|y| (0..SIZE).flat_map(move |z| (0..SIZE).map(move |x| (y, z, x)))) {
-            let state = if columns[(z * SIZE + x) as usize] == 0 { 1 } else { cells[((y * SIZE + z) * SIZE + x) as usize] };
+            let state = match cells[((y * SIZE + z) * SIZE + x) as usize] {
+                _ if columns[(z * SIZE + x) as usize] == 0 => 1,
+                _ if origin[1] + y > WORLD => 0,
+                state => state,
+            };
             let at = [origin[0] + x, origin[1] + y, origin[2] + z].map(f64::from);
             blocks.extend(t.of[state as usize].iter().map(|b| std::array::from_fn(|k| f64::from(b[k]) + at[k % 3])));
         }
@@ -243,9 +262,12 @@ fn through_windows(random: &mut Random, moves: u64) -> (Seen, u64) {
                     feet[2] = (b[2] + b[5]) / 2.0;
                 }
             }
+            if hops {
+                feet[1] = f64::from(t.of[2][0][4]) + f64::from(origin[1] + 2);
+            }
             let a = body(random, feet);
-            let y = if random.below(2) == 0 { 0.0 } else { share(random) };
-            let mover = [a[0], a[1], a[2], a[3], a[4], a[5], share(random), y, share(random)];
+            let y = if hops || random.below(2) == 0 { 0.0 } else { share(random, 3.0) };
+            let mover = [a[0], a[1], a[2], a[3], a[4], a[5], share(random, 3.0), y, share(random, 3.0)];
             if !within_limits(&a) || blocks.iter().any(|b| overlaps(&a, b)) {
                 continue;
             }
@@ -254,7 +276,7 @@ fn through_windows(random: &mut Random, moves: u64) -> (Seen, u64) {
             let refusal = unsafe {
                 boltjuniper_move(
                     t.records.as_ptr(), t.records.len(), t.shapes.as_ptr(), t.shapes.len(), cells.as_ptr(), cells.len(), origin[0], origin[1], origin[2],
-                    s, s, s, origin[1], origin[1] + SIZE - 1, 0, mover.as_ptr(), 9, step, ground, out.as_mut_ptr(), 10,
+                    s, s, s, -WORLD, WORLD, 0, mover.as_ptr(), 9, step, ground, out.as_mut_ptr(), 10,
                 )
             };
             match refusal {

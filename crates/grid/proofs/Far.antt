@@ -99,14 +99,14 @@ Slight (inf s) = ⊥
 Slight (fin s m e) = m * up e ≤ 2 * down e
 
 pub slight : (c : ℕ) → 0 < c → (x : Float) (p n : ℕ) → C.At c x p n → n ≤ p → p ≤ n + 2 * c → Slight x
-slight c C nan p n h low high = absurd (h .value)
-slight c C (inf s) p n h low high = absurd (h .value)
-slight c C (fin s m e) p n h low high =
+slight c P nan p n h low high = absurd (h .value)
+slight c P (inf s) p n h low high = absurd (h .value)
+slight c P (fin s m e) p n h low high =
     let k = h .size in
     let z : k ≤ 2 * c = go (h .sign) k (h .units) in
     let v : m * up e * c ≡ k * down e = h .value .1 in
     let q : k * down e ≤ 2 * c * down e = mul-le-mul-right (down e) z in
-    le-of-mul-le-mul-right {m = m * up e} {n = 2 * down e} {k = c} (omega arith) C
+    le-of-mul-le-mul-right {m = m * up e} {n = 2 * down e} {k = c} (omega arith) P
   where
     go : (s : Bool) (k : ℕ) → Signed s k p n → k ≤ 2 * c
     go false k u = omega arith
@@ -164,11 +164,11 @@ far-shape p b h low high = go (p .y) h
     go (negsuc n) h = under (add-beyond true (b .max .y) (ofInt binary64 (negsuc n)) high (low-origin n h))
 
 -- ---- a box within 2 ^ 26 does not reach it, in any unit
-module _ (c : ℕ) (C : 0 < c) where
+module _ (c : ℕ) (positive : 0 < c) where
   outreached : (m n : ℕ) (e d : ℤ) (k : ℕ) → 2 ^ 26 * down e ≤ m * up e → n * up d * c ≡ k * down d → k ≤ 2 ^ 26 * c → m * up e * down d < n * up d * down e → ⊥
   outreached m n e d k M N K h =
       let p : k * down d ≤ 2 ^ 26 * c * down d = mul-le-mul-right (down d) K in
-      let a : n * up d ≤ 2 ^ 26 * down d = le-of-mul-le-mul-right {m = n * up d} {n = 2 ^ 26 * down d} {k = c} (omega arith) C in
+      let a : n * up d ≤ 2 ^ 26 * down d = le-of-mul-le-mul-right {m = n * up d} {n = 2 ^ 26 * down d} {k = c} (omega arith) positive in
       let b : n * up d * down e ≤ 2 ^ 26 * down d * down e = mul-le-mul-right (down e) a in
       let q : 2 ^ 26 * down e * down d ≤ m * up e * down d = mul-le-mul-right (down d) M in
       omega arith

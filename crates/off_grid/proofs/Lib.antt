@@ -6,3 +6,4 @@ pub mod Sweep
 pub mod Whole
 pub mod Starts
 pub mod OverList
+pub mod Samples
