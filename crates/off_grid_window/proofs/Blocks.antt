@@ -4,7 +4,7 @@ use mathlib.Core.Path.{_≡_, refl, sym, ap, _∙_, subst}
 use mathlib.Core.Bool.{Bool, true, false, not, _&&_, true≢false, false≢true}
 use mathlib.Core.List.{List, [], _∷_, List·Memᴰ}
 use Prim.Native.Nat.{ℕ, zero, suc, _+_, _*_, _/_, _^_, _≤_, _<_}
-use native.Mathlib.Nat.{add-mul, mul-le-mul-right, mul-right-comm, le-trans, le-of-eq, mul-div-cancel, div-le-div-right}
+use native.Mathlib.Nat.{add-mul, mul-le-mul-right, mul-right-comm, le-trans, le-of-eq, le-div-iff-mul-le}
 use native.Mathlib.Omega.{arith}
 use lib.IntN.{ℤ, natAbs}
 use lib.Dec.{T, leb, leb→le, nleb→lt, lit<, lit≤}
@@ -207,7 +207,7 @@ part-typed shapes first count i S = go (leb (first + count) (boxCount shapes))
 sides : (shapes : List Float) (first count k : ℕ) → TypedShapes shapes → T (isShape (toAabb (boxAt (boxesAt shapes first count) k))) → Sides (toAabb (boxAt (boxesAt shapes first count) k))
 sides shapes first count k S t =
     let b = toAabb (boxAt (boxesAt shapes first count) k) in
-    let f = λ (i : ℕ). part-typed shapes first count i S in
+    let f : (i : ℕ) → T (fits binary32 (getD (boxesAt shapes first count) i zero64)) = λ i. part-typed shapes first count i S in
     let c = and-r (isSolid b) (isInCell b) t in
     let low = le zero64 (b .min .x) && (le zero64 (b .min .y) && le zero64 (b .min .z)) in
     let high = le (b .max .x) one64 && (le (b .max .y) cellAndHalf && le (b .max .z) one64) in
@@ -282,15 +282,15 @@ pub data Off (b : Aabb) : Type 0 where
 far-size : (s : Bool) (m : ℕ) (e : ℤ) → 2 ^ 26 * down e ≤ m * up e → 67108864 * one ≤ scaledSize (fin s m e)
 unfolding scaledSize one
 far-size s m e h =
-    le-trans (le-of-eq (sym (mul-div-cancel (67108864 * 2 ^ 1074) (down-pos e))))
-    (div-le-div-right (le-trans (le-of-eq (mul-right-comm 67108864 (2 ^ 1074) (down e))) (mul-le-mul-right (2 ^ 1074) h)))
+    le-div-iff-mul-le {k = down e} {x = 67108864 * 2 ^ 1074} {y = m * up e * 2 ^ 1074} (down-pos e) .1
+    (le-trans (le-of-eq (mul-right-comm 67108864 (2 ^ 1074) (down e))) (mul-le-mul-right (2 ^ 1074) h))
 
 far-infinite : (s : Bool) → 67108864 * one ≤ scaledSize (inf s)
 unfolding scaledSize one
 far-infinite s = lit≤ tt
 
 far-above : (x : Float) → F.Beyond (2 ^ 26) false x → 67108864 * one + under x ≤ over x
-unfolding over under
+unfolding over under one
 far-above nan h = absurd h
 far-above (inf false) h = far-infinite false
 far-above (inf true) h = absurd (true≢false h)
@@ -298,7 +298,7 @@ far-above (fin false m e) h = far-size false m e (h .1)
 far-above (fin true m e) h = absurd (true≢false (h .0))
 
 far-beneath : (x : Float) → F.Beyond (2 ^ 26) true x → 67108864 * one + over x ≤ under x
-unfolding over under
+unfolding over under one
 far-beneath nan h = absurd h
 far-beneath (inf false) h = absurd (false≢true h)
 far-beneath (inf true) h = far-infinite true
