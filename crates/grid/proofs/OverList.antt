@@ -3,9 +3,9 @@ use mathlib.Core.Path.{_≡_, sym, subst}
 use mathlib.Core.Logic.{inl}
 use mathlib.Core.Bool.{Bool, true, false, not, _&&_}
 use mathlib.Core.List.{List·Memᴰ}
-use Prim.Native.Nat.{ℕ}
+use Prim.Native.Nat.{ℕ, _≤_}
 use native.Mathlib.Omega.{arith}
-use lib.Dec.{T, eqb, ltb}
+use lib.Dec.{T, eqb, ltb, nltb→le}
 use lib.Ieee.{Float}
 use lib.Ieee.Fits.{and-l, and-r}
 use Rattle.base.specs.Choose.{choose}
@@ -23,13 +23,15 @@ use Rattle.grid.proofs.Readings.{knowns}
 use Rattle.grid.proofs.Starts.{Start, start, from-start}
 
 -- ---- a move that is not refused
-record Accepted (a b : Bool) : Type 0 where
+record Accepted (a b c : Bool) : Type 0 where
   one : T a
   two : T b
+  three : T (not c)
 
-accepted : (a b c : Bool) → _≡_ {A = ℕ} (choose (not a) 3 (choose (not b) 4 (choose c 6 0))) 0 → Accepted a b
+accepted : (a b c : Bool) → _≡_ {A = ℕ} (choose (not a) 3 (choose (not b) 4 (choose c 6 0))) 0 → Accepted a b c
 unfolding choose
-accepted true true c e = record { one = tt; two = tt }
+accepted true true false e = record { one = tt; two = tt; three = tt }
+accepted true true true e = absurd (omega arith)
 accepted true false c e = absurd (omega arith)
 accepted false b c e = absurd (omega arith)
 
@@ -42,6 +44,7 @@ pub record TakenOver (list : BoxList) (m : Aabb) (d : Vec3) (h : Float) (ground 
   pub box : T (isBox m)
   pub delta : T (isDelta d)
   pub boxes : T (areBoxes (listOf list))
+  pub count : list .count ≤ room
   pub result : moveOverList list m d h ground .result ≡ moveOver (listOf list) m d h ground
 
 pub taken-over : (list : BoxList) (m : Aabb) (d : Vec3) (h : Float) (ground : Bool) → moveOverList list m d h ground .refusal ≡ 0 → TakenOver list m d h ground
@@ -55,6 +58,7 @@ taken-over list m d h ground e =
       box = and-l (isBox m) (isDelta d && areBoxes fs) (a .two);
       delta = and-l (isDelta d) (areBoxes fs) db;
       boxes = and-r (isDelta d) (areBoxes fs) db;
+      count = nltb→le room (list .count) (a .three);
       result = result-is (refusalOf m d h (areBoxes fs) (list .count)) (moveOver fs m d h ground) (refusedMove m) e;
     }
 

@@ -3,7 +3,7 @@
 use mathlib.Core.Path.{_≡_, refl}
 use mathlib.Core.Bool.{true, false}
 use mathlib.Core.List.{[], _∷_}
-use Prim.Native.Nat.{ℕ, zero, suc, _^_}
+use Prim.Native.Nat.{ℕ, zero, suc, _^_, _<_}
 use lib.IntN.{pos}
 use lib.Dec.{T}
 use lib.ListN.{getD}
@@ -15,7 +15,7 @@ use Rattle.boxes.specs.declared.Aabb.{Aabb}
 use Rattle.boxes.specs.Boxes.{vec, box, fromFeet, overlap}
 use Rattle.boxes.specs.Limits as L
 use Rattle.sweeps.specs.declared.BoxList.{BoxList}
-use Rattle.sweeps.specs.Lists.{listOf, noBox}
+use Rattle.sweeps.specs.Lists.{room, listOf, noBox}
 use Rattle.sweeps.specs.Move as M
 use Rattle.sweeps.specs.Entry as E
 use Rattle.grid.specs.Grid as G
@@ -38,13 +38,13 @@ list = record { boxes = floor ∷ []; count = 1 }
 abbrev after : Aabb
 after = E.moveOverList list body fall (ratio 6 10) true .result .aabb
 
-list-typed : TypedList list
+pub list-typed : TypedList list
 unfolding I.fits I.ofBits I.round
 list-typed = record { boxes = at }
   where
-    at : (i : ℕ) → T (boxF64 (getD (list .boxes) i noBox))
-    at zero = tt
-    at (suc i) = tt
+    at : (i : ℕ) → i < room → T (boxF64 (getD (list .boxes) i noBox))
+    at zero h = tt
+    at (suc i) h = tt
 
 pub record Fair : Type 0 where
   pub typed : TypedMove body fall (ratio 6 10)

@@ -4,7 +4,7 @@
 use mathlib.Core.Path.{_≡_}
 use mathlib.Core.Bool.{Bool, _&&_}
 use mathlib.Core.List.{List·Memᴰ}
-use Prim.Native.Nat.{ℕ}
+use Prim.Native.Nat.{ℕ, _<_}
 use lib.IntN.{ℤ}
 use lib.Dec.{T}
 use lib.ListN.{getD}
@@ -12,7 +12,7 @@ use lib.Ieee.{Float, binary64, fits}
 use Rattle.boxes.specs.declared.Vec3.{Vec3}
 use Rattle.boxes.specs.declared.Aabb.{Aabb}
 use Rattle.sweeps.specs.declared.BoxList.{BoxList}
-use Rattle.sweeps.specs.Lists.{listOf, noBox}
+use Rattle.sweeps.specs.Lists.{room, listOf, noBox}
 use Rattle.sweeps.specs.Entry.{moveOverList}
 use Rattle.grid.specs.Grid.{isFree}
 use Rattle.off_grid.specs.Scaled.{isSlight}
@@ -30,7 +30,7 @@ pub record TypedMove (aabb : Aabb) (delta : Vec3) (stepHeight : Float) : Type 0 
   pub step : T (fits binary64 stepHeight)
 
 pub record TypedList (list : BoxList) : Type 0 where
-  pub boxes : (i : ℕ) → T (boxF64 (getD (list .boxes) i noBox))
+  pub boxes : (i : ℕ) → i < room → T (boxF64 (getD (list .boxes) i noBox))
 
 -- ---- the demand, for a bound
 abbrev pub ListDemand : ℤ → Type 0

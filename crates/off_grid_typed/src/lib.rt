@@ -5,19 +5,22 @@ use boxes::Vec3;
 use sweeps::BoxList;
 ghost use mathlib.Core.Path.{_≡_};
 ghost use mathlib.Core.Bool.{true};
-ghost use Rattle.off_grid.specs.Demand.{TypedMove, TypedList};
+ghost use Prim.Native.Nat.{_<_};
+ghost use lib.Dec.{T};
+ghost use lib.ListN.{getD};
+ghost use Rattle.sweeps.specs.Lists.{room, noBox};
+ghost use Rattle.off_grid.specs.Demand.{boxF64, TypedMove};
 ghost use Rattle.off_grid_window.specs.Demand.{TypedShapes};
 
-pub fn typed_move(aabb: Aabb, delta: Vec3, step_height: f64) -> bool
+pub fn typed_move(aabb: Aabb, delta: Vec3, step: f64) -> bool
     ensures { λ r. ⌜ r ≡ true ⌝ }
-    ensures typed { λ r. ⌜ TypedMove aabb delta step_height ⌝ }
+    ensures typed { λ r. ⌜ TypedMove aabb delta step ⌝ }
 {
     true
 }
 
-pub fn typed_list(list: BoxList) -> bool
+fn yes() -> bool
     ensures { λ r. ⌜ r ≡ true ⌝ }
-    ensures typed { λ r. ⌜ TypedList list ⌝ }
 {
     true
 }
@@ -26,5 +29,24 @@ pub fn typed_shapes(shapes: &[f32]) -> bool
     ensures { λ r. ⌜ r ≡ true ⌝ }
     ensures typed { λ r. ⌜ TypedShapes (now (shapes .entry)) ⌝ }
 {
+    yes()
+}
+
+fn typed_box(b: Aabb) -> bool
+    ensures { λ r. ⌜ r ≡ true ⌝ }
+    ensures typed { λ r. ⌜ T (boxF64 b) ⌝ }
+{
+    true
+}
+
+// of the box at any place of a capped list
+pub fn typed_at(list: BoxList, i: usize) -> bool
+    ensures { λ r. ⌜ r ≡ true ⌝ }
+    ensures typed { λ r. ⌜ (i < room → T (boxF64 (getD (list .boxes) i noBox))) ⌝ }
+{
+    if i < 128 {
+        let b = list.boxes[i];
+        return typed_box(b);
+    }
     true
 }
