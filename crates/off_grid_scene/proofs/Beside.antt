@@ -22,7 +22,7 @@ use Rattle.sweeps.specs.declared.MoveAnswer.{MoveAnswer}
 use Rattle.sweeps.specs.Move as M
 use Rattle.cover.proofs.Examples.{allFit}
 use Rattle.tables.specs.Tables as B
-use Rattle.window.specs.Window as V
+use Rattle.window.specs.Window as Wd
 use Rattle.window.specs.Look as U
 use Rattle.lent.specs.Lent.{unless, lentRefusal, directRefusal}
 use Rattle.ranges.specs.Ranges as R
@@ -34,7 +34,7 @@ use Rattle.moves.specs.Answers as X
 use Rattle.turns.specs.Turns as T
 use Rattle.palette_states.specs.States as S
 use Rattle.palette_boxes.specs.Shapes as H
-use Rattle.palette.specs.Links as N'
+use Rattle.palette.specs.Links as Lk
 use Rattle.palette.specs.Palette as P
 use Rattle.palette_check.proofs.Check.{passes}
 use Rattle.grid.specs.Grid as G
@@ -61,7 +61,7 @@ shapes-typed = record { numbers = all-at H.paletteShapes all-fit }
 
 -- ---- the tables are taken; what is asked then computes
 abbrev lentTo : ℕ
-lentTo = C.choose (eqb (V.windowRefusal F.cells F.window) 0) (C.choose (B.isRegistered P.paletteRecords (F.window .air)) 0 3) (V.windowRefusal F.cells F.window)
+lentTo = C.choose (eqb (Wd.windowRefusal F.cells F.window) 0) (C.choose (B.isRegistered P.paletteRecords (F.window .air)) 0 3) (Wd.windowRefusal F.cells F.window)
 
 taken : (delta : Vec3)
     → X.moveEntry P.paletteRecords H.paletteShapes F.cells F.window F.body delta F.step true
@@ -78,15 +78,15 @@ pub record Fair (delta : Vec3) : Type 0 where
   pub accepted : X.moveEntry P.paletteRecords H.paletteShapes F.cells F.window F.body delta F.step true .refusal ≡ 0
 
 pub premises : T (E.windowOffGrid P.paletteRecords H.paletteShapes F.cells F.window F.body)
-unfolding C.choose N.sizeOf O.listed A.turning Y.every W.floorSize W.floorInt W.cellOf B.isRegistered B.boxesAt V.isVoid V.indexOf V.columnIndexOf U.lookAt R.spanOf R.onFrom J.connectKind J.isFence J.isThinOrWall J.oppositeFace J.gateDecides J.gateJoins J.registeredConnects J.sideWord J.transition J.transitions J.postTransition J.straight J.raises J.raisedBy J.joins J.post J.besideNeighbours J.connectedState K.connectedShape K.shapeOf K.cellShape Z.settledBoxes G.isFree D.shapePasses D.everyColumn D.everyHeight D.everyPlace E.windowOffGrid T.weight T.digitAt T.turned T.turnedAt T.wallLink T.wallTurn S.kind S.index S.bit S.bitAt S.sideOf S.postDigit S.hasPost N'.fenceLink N'.link H.hasPart H.one H.boxCountOf H.firstBox H.firstBoxOf H.boxesOf H.joined H.partOf H.boxOf H.postEdge H.armEdge H.armLength H.height H.paletteShapes P.flags P.faces P.recordWord P.paletteWord P.paletteRecords F.window F.cells I.ofInt I.ofBits I.round I.add I.sub I.mul I.div I.neg I.lt I.le I.eq I.ne
+unfolding C.choose N.sizeOf O.listed A.turning Y.every W.floorSize W.floorInt W.cellOf B.isRegistered B.boxesAt Wd.isVoid Wd.indexOf Wd.columnIndexOf U.lookAt R.spanOf R.onFrom J.connectKind J.isFence J.isThinOrWall J.oppositeFace J.gateDecides J.gateJoins J.registeredConnects J.sideWord J.transition J.transitions J.postTransition J.straight J.raises J.raisedBy J.joins J.post J.besideNeighbours J.connectedState K.connectedShape K.shapeOf K.cellShape Z.settledBoxes G.isFree D.shapePasses D.everyColumn D.everyHeight D.everyPlace E.windowOffGrid T.weight T.digitAt T.turned T.turnedAt T.wallLink T.wallTurn S.kind S.index S.bit S.bitAt S.sideOf S.postDigit S.hasPost Lk.fenceLink Lk.link H.hasPart H.one H.boxCountOf H.firstBox H.firstBoxOf H.boxesOf H.joined H.partOf H.boxOf H.postEdge H.armEdge H.armLength H.height H.paletteShapes P.flags P.faces P.recordWord P.paletteWord P.paletteRecords F.window F.cells I.ofInt I.ofBits I.round I.add I.sub I.mul I.div I.neg I.lt I.le I.eq I.ne
 premises = tt
 
 pub falling-fair : Fair F.falling
-unfolding C.choose N.sizeOf O.listed A.turning Y.every W.floorSize W.floorInt W.cellOf M.clipAll M.clipSequence M.steppedUp M.moveOver B.isRegistered B.boxesAt V.isVoid V.indexOf V.columnIndexOf V.sizesFit V.coordinateFits V.originFits V.heightsFit V.columnFits V.columnsFit V.windowFits V.windowRefusal U.lookAt R.spanOf R.onFrom Q.line Q.layer Q.walk J.connectKind J.isFence J.isThinOrWall J.oppositeFace J.gateDecides J.gateJoins J.registeredConnects J.sideWord J.transition J.transitions J.postTransition J.straight J.raises J.raisedBy J.joins J.post J.besideNeighbours J.connectedState K.connectedShape K.shapeOf K.cellShape K.offerAll K.visit K.collectUpTo X.moveAabb T.weight T.digitAt T.turned T.turnedAt T.wallLink T.wallTurn S.kind S.index S.bit S.bitAt S.sideOf S.postDigit S.hasPost N'.fenceLink N'.link H.hasPart H.one H.boxCountOf H.firstBox H.firstBoxOf H.boxesOf H.joined H.partOf H.boxOf H.postEdge H.armEdge H.armLength H.height H.paletteShapes P.flags P.faces P.recordWord P.paletteWord P.paletteRecords F.window F.cells I.fits I.ofInt I.ofBits I.round I.add I.sub I.mul I.div I.neg I.lt I.le I.eq I.ne
+unfolding C.choose N.sizeOf O.listed A.turning Y.every W.floorSize W.floorInt W.cellOf M.clipAll M.clipSequence M.steppedUp M.moveOver B.isRegistered B.boxesAt Wd.isVoid Wd.indexOf Wd.columnIndexOf Wd.sizesFit Wd.coordinateFits Wd.originFits Wd.heightsFit Wd.columnFits Wd.columnsFit Wd.windowFits Wd.windowRefusal U.lookAt R.spanOf R.onFrom Q.line Q.layer Q.walk J.connectKind J.isFence J.isThinOrWall J.oppositeFace J.gateDecides J.gateJoins J.registeredConnects J.sideWord J.transition J.transitions J.postTransition J.straight J.raises J.raisedBy J.joins J.post J.besideNeighbours J.connectedState K.connectedShape K.shapeOf K.cellShape K.offerAll K.visit K.collectUpTo X.moveAabb T.weight T.digitAt T.turned T.turnedAt T.wallLink T.wallTurn S.kind S.index S.bit S.bitAt S.sideOf S.postDigit S.hasPost Lk.fenceLink Lk.link H.hasPart H.one H.boxCountOf H.firstBox H.firstBoxOf H.boxesOf H.joined H.partOf H.boxOf H.postEdge H.armEdge H.armLength H.height H.paletteShapes P.flags P.faces P.recordWord P.paletteWord P.paletteRecords F.window F.cells I.fits I.ofInt I.ofBits I.round I.add I.sub I.mul I.div I.neg I.lt I.le I.eq I.ne
 falling-fair = record { typed = record { box = tt; way = tt; step = tt }; accepted = ap (λ (r : MoveAnswer). r .refusal) (taken F.falling) }
 
 pub walking-fair : Fair F.walking
-unfolding C.choose N.sizeOf O.listed A.turning Y.every W.floorSize W.floorInt W.cellOf M.clipAll M.clipSequence M.steppedUp M.moveOver B.isRegistered B.boxesAt V.isVoid V.indexOf V.columnIndexOf V.sizesFit V.coordinateFits V.originFits V.heightsFit V.columnFits V.columnsFit V.windowFits V.windowRefusal U.lookAt R.spanOf R.onFrom Q.line Q.layer Q.walk J.connectKind J.isFence J.isThinOrWall J.oppositeFace J.gateDecides J.gateJoins J.registeredConnects J.sideWord J.transition J.transitions J.postTransition J.straight J.raises J.raisedBy J.joins J.post J.besideNeighbours J.connectedState K.connectedShape K.shapeOf K.cellShape K.offerAll K.visit K.collectUpTo X.moveAabb T.weight T.digitAt T.turned T.turnedAt T.wallLink T.wallTurn S.kind S.index S.bit S.bitAt S.sideOf S.postDigit S.hasPost N'.fenceLink N'.link H.hasPart H.one H.boxCountOf H.firstBox H.firstBoxOf H.boxesOf H.joined H.partOf H.boxOf H.postEdge H.armEdge H.armLength H.height H.paletteShapes P.flags P.faces P.recordWord P.paletteWord P.paletteRecords F.window F.cells I.fits I.ofInt I.ofBits I.round I.add I.sub I.mul I.div I.neg I.lt I.le I.eq I.ne
+unfolding C.choose N.sizeOf O.listed A.turning Y.every W.floorSize W.floorInt W.cellOf M.clipAll M.clipSequence M.steppedUp M.moveOver B.isRegistered B.boxesAt Wd.isVoid Wd.indexOf Wd.columnIndexOf Wd.sizesFit Wd.coordinateFits Wd.originFits Wd.heightsFit Wd.columnFits Wd.columnsFit Wd.windowFits Wd.windowRefusal U.lookAt R.spanOf R.onFrom Q.line Q.layer Q.walk J.connectKind J.isFence J.isThinOrWall J.oppositeFace J.gateDecides J.gateJoins J.registeredConnects J.sideWord J.transition J.transitions J.postTransition J.straight J.raises J.raisedBy J.joins J.post J.besideNeighbours J.connectedState K.connectedShape K.shapeOf K.cellShape K.offerAll K.visit K.collectUpTo X.moveAabb T.weight T.digitAt T.turned T.turnedAt T.wallLink T.wallTurn S.kind S.index S.bit S.bitAt S.sideOf S.postDigit S.hasPost Lk.fenceLink Lk.link H.hasPart H.one H.boxCountOf H.firstBox H.firstBoxOf H.boxesOf H.joined H.partOf H.boxOf H.postEdge H.armEdge H.armLength H.height H.paletteShapes P.flags P.faces P.recordWord P.paletteWord P.paletteRecords F.window F.cells I.fits I.ofInt I.ofBits I.round I.add I.sub I.mul I.div I.neg I.lt I.le I.eq I.ne
 walking-fair = record { typed = record { box = tt; way = tt; step = tt }; accepted = ap (λ (r : MoveAnswer). r .refusal) (taken F.walking) }
 
 -- ---- so the theorem speaks of them: of every block box, at the bound that is asked and at the one that is proved
