@@ -119,6 +119,12 @@ fn share(random: &mut Random, most: f64) -> f64 {
     }
 }
 
+/// A step height: those of real bodies, or any.
+fn step(random: &mut Random) -> f64 {
+    let (low, any) = (0.3 + random.unit(), 4.0 * random.unit());
+    random.of(&[0.0, 0.6, 0.5625, 1.0, low, low, any])
+}
+
 /// A body around these feet: its sides are those of real bodies, or any.
 fn body(random: &mut Random, feet: [f64; 3]) -> Box6 {
     let any = (0.3 + random.unit(), 0.2 + random.unit());
@@ -159,7 +165,7 @@ fn over_lists(random: &mut Random, moves: u64) -> Seen {
             continue;
         }
         let mover = [a[0], a[1], a[2], a[3], a[4], a[5], delta[0], delta[1], delta[2]];
-        let (step, ground) = (random.of(&[0.0, 0.6, 0.5625, 1.0, 3.7]), random.below(2) as u32);
+        let (step, ground) = (step(random), random.below(2) as u32);
         let numbers = boxes.concat();
         let refusal = unsafe { boltjuniper_move_over_list(numbers.as_ptr(), numbers.len(), mover.as_ptr(), 9, step, ground, out.as_mut_ptr(), 10) };
         assert_eq!(refusal, 0, "mover {mover:?}, step {step}, boxes {boxes:?}");
@@ -196,6 +202,9 @@ fn tables(random: &mut Random) -> Tables {
                 .collect(),
         );
     }
+    // the slab of state 2 once more, with a rail on it
+    let top = of[2][0][4];
+    of.push(vec![of[2][0], [0.5, top, 0.0, 0.52, (top + 0.05 + 0.5 * random.unit() as f32).min(1.5), 1.0]]);
     let (mut records, mut shapes) = (Vec::new(), Vec::new());
     for (state, boxes) in of.iter().enumerate() {
         let mut row = [0u32; 20];
@@ -210,6 +219,7 @@ fn tables(random: &mut Random) -> Tables {
 }
 
 const SIZE: i32 = 8;
+const RAILED: u32 = 16;
 /// The world's lowest and highest cell.
 const WORLD: i32 = 33_554_432;
 
@@ -228,10 +238,12 @@ fn through_windows(random: &mut Random, moves: u64) -> (Seen, u64) {
             origin[1] = (1 << random.of(&[3, 8, 16, 24, 25, 25])) - 3;
         }
         // a floor, and above it air, cubes and shapes, now and then rails alone
-        let (floor, rails) = if hops { (2, true) } else { (random.of(&[1, 1, 2, 5]), random.below(2) == 0) };
+        let (floor, rails) = (if hops { 2 } else { random.of(&[1, 1, 2, 5]) }, random.below(2) == 0);
         let mut cells: Vec<u32> = (0..SIZE * SIZE * SIZE)
             .map(|at| match at / SIZE / SIZE {
+                2 if hops && random.below(5) == 0 => RAILED,
                 0..3 => floor,
+                _ if hops => 0,
                 _ if random.below(5) > 0 => 0,
                 _ if rails => random.of(&[3, 6, 9, 12]),
                 _ => 1 + random.below(15) as u32,
@@ -271,7 +283,7 @@ fn through_windows(random: &mut Random, moves: u64) -> (Seen, u64) {
             if !within_limits(&a) || blocks.iter().any(|b| overlaps(&a, b)) {
                 continue;
             }
-            let (step, ground) = (random.of(&[0.0, 0.6, 0.6, 0.5625, 1.0]), random.below(4).min(1) as u32);
+            let (step, ground) = (step(random), random.below(4).min(1) as u32);
             let s = SIZE as u32;
             let refusal = unsafe {
                 boltjuniper_move(

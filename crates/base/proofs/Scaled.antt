@@ -10,7 +10,7 @@ use native.Mathlib.Omega.{arith}
 use lib.IntN.{ℤ}
 use lib.Dec.{T, ltb, leb}
 use lib.Pow.{pow-add, pow-pos}
-use lib.Ieee.{Float, nan, inf, fin, binary64, up, down, round, add, neg, lt, le, fits, ofBits}
+use lib.Ieee.{Float, nan, inf, fin, binary64, up, down, add, neg, lt, le, fits, ofBits}
 use lib.Ieee.Fits.{down-pos, add-fits, neg-fits}
 use lib.Ieee.Exact.{HasValue}
 use lib.Ieee.Scale.{overflow}

@@ -29,7 +29,7 @@ use Rattle.window.specs.Window.{within, columnInside, isVoid, sizeFits, sizesFi
 use Rattle.window.specs.Look.{Block, none, some, lookAt}
 use Rattle.window.proofs.Offsets.{within-by}
 use Rattle.window.proofs.Cells.{fits, found-inside}
-use Rattle.collection.specs.Collect.{CellShape, cube, boxes, originOf, cubeAt, toAabb, aabbsOf, shapeAabbs, shapeOf, cellShape}
+use Rattle.collection.specs.Collect.{CellShape, cube, boxes, originOf, cubeAt, toAabb, aabbsOf, shapeOf, cellShape}
 use Rattle.collection.specs.Settled.{settled, settledBoxes}
 use Rattle.grid.specs.Grid.{onGrid, isProper}
 use Rattle.grid.specs.Demand.{cellAndHalf, isInCell, shapePasses, settledPasses, cellFrom, everyColumn, aboveWorld, belowWorld, deepBelow, everyHeight, shapesPass, shapesOnGrid}

@@ -1,7 +1,7 @@
 -- The premises over a list are not empty, and some slack is needed: a body 0.6 wide and 1.8 tall, its feet at 0.36, falls by 0.5 onto a floor whose top is at
 -- 0.1. The move is accepted, there is no overlap before, and the final box overlaps the floor: by 2 ^ -55. By computing; assumes nothing.
 use mathlib.Core.Path.{_≡_, refl}
-use mathlib.Core.Bool.{true, false}
+use mathlib.Core.Bool.{true}
 use mathlib.Core.List.{[], _∷_}
 use Prim.Native.Nat.{ℕ, zero, suc, _^_, _<_}
 use lib.IntN.{pos}

@@ -16,7 +16,7 @@ use Rattle.boxes.specs.Boxes.{vec, below0, above0, expandTowards}
 use Rattle.sweeps.specs.Move.{clipSequence, steppedUp, flatSquare, triesStep, moveOver}
 use Rattle.base.proofs.Scaled.{over, under, Within, Sum, zero-real, zero-over, zero-under, zero-in, neg-over, neg-under, neg-within}
 use Rattle.off_grid.proofs.Axis.{unit, sum-near, Way, fore, back, le→, nle→, zeros, All, Short, before, beyond}
-use Rattle.off_grid.proofs.Passes.{Gone, BoxIn, VecIn, Clear, onX, onY, onZ, sum-in, BoxReal}
+use Rattle.off_grid.proofs.Passes.{Gone, BoxIn, VecIn, Clear, onX, onY, onZ, sum-in}
 use Rattle.off_grid.proofs.Sequence.{Done, passed-y, off-y, plain, upward, not-down, not-up}
 
 -- ---- d where it is below 0 or above it
@@ -83,9 +83,6 @@ pub record Area (r : ℕ) (a : Aabb) (d : Vec3) (h : Float) (s : Aabb) : Type 0 
   pub x : Side r (a .min .x) (a .max .x) (d .x) zero64 (s .min .x) (s .max .x)
   pub y : Side r (a .min .y) (a .max .y) (d .y) h (s .min .y) (s .max .y)
   pub z : Side r (a .min .z) (a .max .z) (d .z) zero64 (s .min .z) (s .max .z)
-
-pub area-real : {z : ℕ} {a : Aabb} {d : Vec3} {h : Float} {s : Aabb} → Area z a d h s → BoxReal s
-area-real A = record { x0 = A .x .in0 .real; y0 = A .y .in0 .real; z0 = A .z .in0 .real; x1 = A .x .in1 .real; y1 = A .y .in1 .real; z1 = A .z .in1 .real }
 
 area : (a : Aabb) (d : Vec3) (h : Float) (q t : ℕ) → BoxIn q a → VecIn t d → Within h t → q + t < 2 ^ 54 * unit → q + t + unit + t < 2 ^ 54 * unit
     → Area (q + t + unit + t + unit) a d h (expandTowards (expandTowards a d) (vec zero64 h zero64))

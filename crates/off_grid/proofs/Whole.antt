@@ -2,16 +2,16 @@
 use mathlib.Core.Path.{_≡_, refl, sym, ap, _∙_, subst}
 use mathlib.Core.Logic.{_⊎_, inl, inr}
 use mathlib.Core.Bool.{Bool, true, false, not}
-use Prim.Native.Nat.{ℕ, zero, suc, _+_, _*_, _^_, _≤_, _<_}
+use Prim.Native.Nat.{ℕ, zero, suc, _+_, _*_, _≤_, _<_}
 use native.Mathlib.Omega.{arith}
 use lib.IntN.{ℤ, pos, negℤ, subℕ, _-ℤ_}
-use lib.Signed.{ltZ, leZ}
+use lib.Signed.{leZ}
 use lib.Dec.{T, ltb, leb, ltb→lt, nltb→le, le→leb}
 use lib.Ieee.{Float, nan, inf, fin}
 use Rattle.base.specs.Choose.{choose}
 use Rattle.base.proofs.Differences.{subℕ-pos, subℕ-neg, subℕ-sub, subℕ-lt, subℕ-leZ}
 use Rattle.boxes.specs.declared.Aabb.{Aabb}
-use Rattle.off_grid.specs.Scaled.{scaled, leastZ, reachOn, slightOn, slightAxes, isSlight}
+use Rattle.off_grid.specs.Scaled.{scaled, leastZ, reachOn, slightAxes, isSlight}
 use Rattle.base.proofs.Scaled.{scaledSize, over, under}
 use Rattle.off_grid.proofs.Axis.{unit, Short, before, beyond}
 use Rattle.off_grid.proofs.Passes.{ShortX, ShortY, ShortZ, Clear, onX, onY, onZ}

@@ -1,6 +1,6 @@
 -- The body beside the fence meets the premises of `off-grid-window`, falling and walking: the tables pass their check, the window passes its own, the moves are
 -- accepted, and nothing overlaps at the start. By computing; assumes nothing.
-use mathlib.Core.Path.{_≡_, refl, ap}
+use mathlib.Core.Path.{_≡_, ap}
 use mathlib.Core.Bool.{true, not, _&&_}
 use mathlib.Core.List.{List, [], _∷_}
 use Prim.Native.Nat.{ℕ, zero, suc}
@@ -16,7 +16,6 @@ use Rattle.floats.specs.Numbers as N
 use Rattle.wholes.specs.Whole as W
 use Rattle.boxes.specs.declared.Vec3.{Vec3}
 use Rattle.boxes.specs.declared.Aabb.{Aabb}
-use Rattle.boxes.specs.Boxes.{overlap}
 use Rattle.boxes.specs.Limits as L
 use Rattle.sweeps.specs.declared.MoveAnswer.{MoveAnswer}
 use Rattle.sweeps.specs.Move as M

@@ -1,6 +1,6 @@
 -- A body 0.6 wide and 1.8 tall with its feet at (100.3, 64.0, -7.7), above a floor of cubes whose top is at 63 and beside an oak fence that stands on it:
 -- blocks of the classroom palette. It falls by 0.08, or walks into the fence while it falls.
-use mathlib.Core.List.{List, [], _∷_, _++_}
+use mathlib.Core.List.{List, _∷_, _++_}
 use Prim.Native.Nat.{ℕ}
 use lib.ListN.{replicate}
 use lib.IntN.{pos, negsuc}

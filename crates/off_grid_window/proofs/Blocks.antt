@@ -1,9 +1,9 @@
 -- The boxes of a settled cell: each end lies in its cell, or up to two blocks above its lower end, exactly, since a sum is rounded to no value beyond one that
 -- the exact sum does not pass; or the cell is far above or below all that a move reaches (`block`). Assumes nothing.
-use mathlib.Core.Path.{_≡_, refl, sym, ap, _∙_, subst}
+use mathlib.Core.Path.{_≡_, refl, sym, subst}
 use mathlib.Core.Bool.{Bool, true, false, not, _&&_, true≢false, false≢true}
 use mathlib.Core.List.{List, [], _∷_, List·Memᴰ}
-use Prim.Native.Nat.{ℕ, zero, suc, _+_, _*_, _/_, _^_, _≤_, _<_}
+use Prim.Native.Nat.{ℕ, zero, suc, _+_, _*_, _^_, _≤_, _<_}
 use native.Mathlib.Nat.{add-mul, mul-le-mul-right, mul-right-comm, le-trans, le-of-eq, le-div-iff-mul-le}
 use native.Mathlib.Omega.{arith}
 use lib.IntN.{ℤ, natAbs}

@@ -1,6 +1,6 @@
 -- Cells, and values by `over` and `under`: the cell n of an axis stands for the whole number n - 2 ^ 28, and `one` is how many units 1 is. The cell of a
 -- coordinate (`floor-of`), whether a range holds a cell or lies aside of it (`in-cells`, `in-layers`), and a cell's origin (`origin-of`). Assumes nothing.
-use mathlib.Core.Path.{_≡_, refl, sym, ap, _∙_, subst}
+use mathlib.Core.Path.{_≡_, refl, sym, ap, _∙_}
 use mathlib.Core.Bool.{true}
 use Prim.Native.Nat.{ℕ, _+_, _-_, _*_, _/_, _%_, _^_, _≤_, _<_}
 use native.Mathlib.Nat.{div-add-mod', mod-lt, mul-le-mul-right, lt-of-mul-lt-mul-right}

@@ -1,9 +1,9 @@
 -- Change request Thirteen through a window: what was collected are boxes of settled cells, and every box of a settled cell was collected, or the swept area
 -- does not overlap it. Assumes nothing.
 use mathlib.Core.Path.{_≡_, refl, sym, subst}
-use mathlib.Core.Bool.{Bool, true, false, not, _&&_}
+use mathlib.Core.Bool.{Bool, true, false, not}
 use mathlib.Core.List.{List, List·Memᴰ}
-use Prim.Native.Nat.{ℕ, _+_, _*_, _^_, _≤_, _<_}
+use Prim.Native.Nat.{ℕ, _+_, _*_, _^_, _≤_}
 use native.Mathlib.Nat.{mul-le-mul-right}
 use native.Mathlib.Omega.{arith}
 use lib.IntN.{ℤ, pos}
@@ -36,7 +36,7 @@ use Rattle.off_grid.proofs.Passes.{BoxIn, box-widen, BoxReal, box-real, Clear, 
 use Rattle.off_grid.proofs.Starts.{one, one-units, Mover, mover, Start, all-from, from-start, from-start-aside, swept-in, tight, loose}
 use Rattle.off_grid_window.specs.Demand.{TypedShapes, isShape, windowOffGrid, WindowDemand}
 use Rattle.off_grid_window.proofs.Cells.{one-pos, own-one, fewer, floor-of, Place, held-at, under-it, over-it, in-cells, in-layers}
-use Rattle.off_grid_window.proofs.Blocks.{End, InCells, Off, above, beneath, off, Stands, near, far, Settled, block}
+use Rattle.off_grid_window.proofs.Blocks.{End, InCells, Off, above, beneath, off, Stands, near, far, block}
 
 -- ---- an area, whose ends are within 2 ^ 26: a cell is in its range, or its boxes are clear of it
 abbrev Reached : Aabb → Type 0
