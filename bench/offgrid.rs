@@ -145,19 +145,25 @@ fn over_lists(random: &mut Random, moves: u64) -> Seen {
         let a = body(random, feet);
         let delta = [0; 3].map(|_: i32| share(random, 128.0));
         let mut boxes: Vec<Box6> = Vec::new();
-        for _ in 0..1 + random.below(5) {
-            // of each axis: it lies ahead of the body within the delta's reach, or behind, or across it; now and then it touches
+        for n in 0..1 + random.below(5) {
+            // the first lies in the way on one axis; of each axis of the others: ahead of the body, behind it, or across it; now and then it touches
+            let stop = if n == 0 { random.below(3) as usize } else { 3 };
             let mut b = [0.0; 6];
             for k in 0..3 {
-                let gap = random.of(&[0.0, 0.05, 0.4, 2.0, 100.0]) * random.unit();
+                let gap = if k == stop { delta[k].abs() } else { random.of(&[0.0, 0.05, 0.4, 2.0]) } * random.unit();
                 let long = 0.05 + random.unit();
-                (b[k], b[k + 3]) = match random.below(4) {
+                let side = if k == stop { u64::from(delta[k] < 0.0) } else if n == 0 { 2 } else { random.below(4) };
+                (b[k], b[k + 3]) = match side {
                     0 => (a[k + 3] + gap, a[k + 3] + gap + long),
                     1 => (a[k] - gap - long, a[k] - gap),
-                    _ => (a[k] - gap.min(2.0), a[k + 3] + long),
+                    _ => (a[k] - gap, a[k + 3] + long),
                 };
             }
-            if within_limits(&b) && !overlaps(&a, &b) {
+            // half of them are cut at tenths, which no sum of the body's own numbers has made
+            if random.below(2) == 0 {
+                b = b.map(|x| (x * 10.0).round() / 10.0);
+            }
+            if within_limits(&b) && (0..3).all(|k| b[k] < b[k + 3]) && !overlaps(&a, &b) {
                 boxes.push(b);
             }
         }

@@ -15,7 +15,7 @@ use Rattle.sweeps.specs.declared.MoveResult.{MoveResult}
 use Rattle.sweeps.specs.Lists.{room, listOf, noBox}
 use Rattle.grid.specs.Grid.{isFree}
 use Rattle.grid.proofs.OverList.{taken-over}
-use Rattle.off_grid.specs.Scaled.{slack, tightSlack, isSlight}
+use Rattle.off_grid.specs.Scaled.{slack, tightUnits, tightSlack, isSlight}
 use Rattle.off_grid.specs.Demand.{boxF64, ListDemand}
 use Rattle.off_grid.proofs.Axis.{unit, All}
 use Rattle.off_grid.proofs.Passes.{BoxIn, box-widen, box-real, Clear, free-clear}
@@ -50,4 +50,4 @@ pub off-grid-accepted : ListDemand slack
 off-grid-accepted = within-bound (2 ^ 1048) loose
 
 pub off-grid-accepted-tight : ListDemand tightSlack
-off-grid-accepted-tight = within-bound (3 * 2 ^ 1046) tight
+off-grid-accepted-tight = within-bound tightUnits tight

@@ -16,7 +16,7 @@ use Rattle.boxes.specs.declared.Aabb.{Aabb}
 use Rattle.boxes.specs.Boxes.{vec, expandTowards}
 use Rattle.boxes.specs.Limits.{twoTo, areWithin, sidesOf, isBox, isDelta, isStep}
 use Rattle.sweeps.specs.Move.{moveOver}
-use Rattle.off_grid.specs.Scaled.{isSlight}
+use Rattle.off_grid.specs.Scaled.{tightUnits, isSlight}
 use Rattle.off_grid.specs.Demand.{vecF64, boxF64, TypedMove}
 use Rattle.base.proofs.Scaled.{scaledSize, over, under, Real, Within, widen, zero-real, zero-over, zero-under}
 use Rattle.off_grid.proofs.Axis.{unit, le→, All}
@@ -158,7 +158,7 @@ swept-in a d h s = area-is [] a 0 (33554432 * one) (128 * one) tt (s .box) tt wi
     wide-none = let w = wide in omega arith
 
 -- ---- the two bounds
-pub tight : 3 * unit ≤ 3 * 2 ^ 1046
+pub tight : 3 * unit ≤ tightUnits
 unfolding unit
 tight = lit≤ tt
 

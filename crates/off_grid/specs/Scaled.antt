@@ -21,8 +21,11 @@ abbrev pub slack : ℤ
 slack = pos (2 ^ 1048)
 
 -- three quarters of it, which is 3 times 2 ^ -28: what the proof gives
+abbrev pub tightUnits : ℕ
+tightUnits = 3 * 2 ^ 1046
+
 abbrev pub tightSlack : ℤ
-tightSlack = pos (3 * 2 ^ 1046)
+tightSlack = pos tightUnits
 
 abbrev pub leastZ : ℤ → ℤ → ℤ
 leastZ a b = choose (ltZ b a) b a

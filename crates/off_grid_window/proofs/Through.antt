@@ -30,7 +30,7 @@ use Rattle.grid.proofs.Blocks.{InColumn}
 use Rattle.grid.proofs.Readings.{three}
 use Rattle.grid.proofs.Far.{far-apart}
 use Rattle.grid.proofs.Through.{InRange, in-place, at-place, free-at, turned, boxesIn, back, back-overlaps, collected, taken-through}
-use Rattle.off_grid.specs.Scaled.{slack, tightSlack, isSlight}
+use Rattle.off_grid.specs.Scaled.{slack, tightUnits, tightSlack, isSlight}
 use Rattle.off_grid.proofs.Axis.{unit, lt→, Short, before, beyond}
 use Rattle.off_grid.proofs.Passes.{BoxIn, box-widen, BoxReal, box-real, Clear, onX, onY, onZ, free-clear, overlap-turn}
 use Rattle.off_grid.proofs.Starts.{one, one-units, Mover, mover, Start, all-from, from-start, from-start-aside, swept-in, tight, loose}
@@ -206,4 +206,4 @@ pub off-grid-window : WindowDemand slack
 off-grid-window = within-bound (2 ^ 1048) loose
 
 pub off-grid-window-tight : WindowDemand tightSlack
-off-grid-window-tight = within-bound (3 * 2 ^ 1046) tight
+off-grid-window-tight = within-bound tightUnits tight
