@@ -2,8 +2,8 @@
 //! every accepted move that begins with no overlap it takes, for each block box, the axis on which the final box reaches into it least, exactly, in
 //! whole numbers of 2^-90; the largest of these is printed. It ends with an error where one is above three quarters of 2^-26, which is what is proved.
 //!
-//! Half of the moves go over a list, half through a window of cubes, columns that are not loaded, and shapes of random f32s; a third of either lies within
-//! a few blocks of 2^25 on some axis, where the roundings are largest.
+//! Half of the moves go over a list, half through a window of cubes, columns that are not loaded, and shapes of random f32s; a good part of either lies
+//! within a few blocks of 2^25, where the roundings are largest.
 //!
 //! target/bench/offgrid [MOVES [SEED]]: so many moves of either kind, a million where none is named.
 
