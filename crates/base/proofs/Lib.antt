@@ -10,3 +10,6 @@ pub mod Stored
 pub mod Tests
 pub mod Differences
 pub mod Members
+pub mod Counts
+pub mod Rounding
+pub mod Scaled

@@ -8,7 +8,7 @@ use Prim.Native.Nat.{ℕ, _+_, _-_, _*_, _^_, _≤_, _<_}
 use native.Mathlib.Omega.{arith}
 use lib.IntN.{ℤ, pos, negsuc, natAbs, _+ℤ_, _-ℤ_, +ℤ-comm, -ℤ-+ℤ-cancel}
 use lib.Signed.{leZ, ltZ}
-use lib.Dec.{T, ltb, leb, ltb→lt, leb→le, nleb→lt}
+use lib.Dec.{T, ltb, leb, ltb→lt, leb→le, nleb→lt, lit<}
 use lib.Ieee.{Float, binary64, ofBits, ofInt, add, lt, le}
 use lib.Ieee.Fits.{and-l, and-r}
 use borrow.Author.Tests.{ltb-true, leb-true}
@@ -29,10 +29,10 @@ use Rattle.window.specs.Window.{within, columnInside, isVoid, sizeFits, sizesFi
 use Rattle.window.specs.Look.{Block, none, some, lookAt}
 use Rattle.window.proofs.Offsets.{within-by}
 use Rattle.window.proofs.Cells.{fits, found-inside}
-use Rattle.collection.specs.Collect.{CellShape, cube, boxes, originOf, cubeAt, toAabb, aabbsOf, shapeAabbs, shapeOf, cellShape}
+use Rattle.collection.specs.Collect.{CellShape, cube, boxes, originOf, cubeAt, toAabb, aabbsOf, shapeOf, cellShape}
 use Rattle.collection.specs.Settled.{settled, settledBoxes}
 use Rattle.grid.specs.Grid.{onGrid, isProper}
-use Rattle.grid.specs.Demand.{cellAndHalf, isInCell, shapeOnGrid, settledOnGrid, cellFrom, everyColumn, aboveWorld, belowWorld, deepBelow, everyHeight, shapesOnGrid}
+use Rattle.grid.specs.Demand.{cellAndHalf, isInCell, shapePasses, settledPasses, cellFrom, everyColumn, aboveWorld, belowWorld, deepBelow, everyHeight, shapesPass, shapesOnGrid}
 use Rattle.grid.proofs.Units.{At, add-at, at-same, le-at, lt-at}
 use Rattle.grid.proofs.Axis.{Span}
 use Rattle.grid.proofs.Counted.{base, OnSpan, zero-at}
@@ -208,7 +208,7 @@ far-in p h b t =
     let u : 0 + r .minus ≤ r .plus + 0 = leb→le (0 + r .minus) (r .plus + 0) (subst T (le-at zero64 (b .min .y) 0 0 (r .plus) (r .minus) (zero-at 0) (r .at)) (s .low .y)) in
     let v : q .plus + 0 ≤ 6144 + q .minus = leb→le (q .plus + 0) (6144 + q .minus) (subst T (le-at (b .max .y) cellAndHalf (q .plus) (q .minus) 6144 0 (q .at) half-at) (s .high .y)) in
     let t : r .plus + q .minus < q .plus + r .minus = ltb→lt (r .plus + q .minus) (q .plus + r .minus) (subst T (lt-at (b .min .y) (b .max .y) (r .plus) (r .minus) (q .plus) (q .minus) (r .at) (q .at)) (s .proper .solid .y)) in
-    far-shape p b h (slight (b .min .y) (r .plus) (r .minus) (r .at) (omega arith) (omega arith)) (slight (b .max .y) (q .plus) (q .minus) (q .at) (omega arith) (omega arith))
+    far-shape p b h (slight 4096 (lit< tt) (b .min .y) (r .plus) (r .minus) (r .at) (omega arith) (omega arith)) (slight 4096 (lit< tt) (b .max .y) (q .plus) (q .minus) (q .at) (omega arith) (omega arith))
 
 -- ---- a cell that is settled lies in a column of the window
 no : {A : Type 0} → _≡_ {A = ℕ} 0 1 → A
@@ -269,27 +269,18 @@ module _ (w : Window) (test : Pos → Bool) (p : Pos) (i : InColumn w p) (t : T 
   in-deep : T (test (atHeight p (deepBelow w)))
   in-deep = at-column w test p (deepBelow w) i (and-r nextTest deepTest rest-below)
 
--- where a box of a cell lies
-pub data Stands (p : Pos) (b : Aabb) (nx nz : ℕ) : Type 0 where
-  near : (y : Numbered (p .y) (2 ^ 27)) → InCells b nx (y .number) nz → Stands p b nx nz
-  far : Far b → Stands p b nx nz
-
-pub record Settled (w : Window) (p : Pos) (b : Aabb) : Type 0 where
-  pub place : InColumn w p
-  pub stands : Stands p b (place .x .at .number) (place .z .at .number)
-
-module _ (records : List ℕ) (shapes : List Float) (words : List ℕ) (w : Window) (W : windowFits words w ≡ true) (G : T (shapesOnGrid records shapes words w)) where
+module _ (records : List ℕ) (shapes : List Float) (words : List ℕ) (w : Window) (W : windowFits words w ≡ true) (good : Aabb → Bool) (G : T (shapesPass good records shapes words w)) where
   abbrev look : Pos → Ask Block
   look = lookAt words w
 
   abbrev test : Pos → Bool
-  test p = settledOnGrid shapes (cellShape look records p)
+  test p = settledPasses good shapes (cellShape look records p)
 
-  -- the shapes of every cell are on the grid
+  -- the shapes of every cell pass
   module _ (p : Pos) (i : InColumn w p) where
     -- one that comes to what the cell of the column at this height comes to
     alike : (y : ℤ) → Out w (p .y) → Out w y → T (test (atHeight p y)) → T (test p)
-    alike y a b t = subst (λ (m : Ask CellShape). T (settledOnGrid shapes m)) (sym (void-shape words w records p y a b)) t
+    alike y a b t = subst (λ (m : Ask CellShape). T (settledPasses good shapes m)) (sym (void-shape words w records p y a b)) t
 
     below-world : ltZ (p .y) (w .lowest) ≡ true → T (test p)
     below-world e = go (ltZ (p .y +ℤ pos 1) (w .lowest)) refl
@@ -302,12 +293,12 @@ module _ (records : List ℕ) (shapes : List Float) (words : List ℕ) (w : Wind
     unfolding cellShape shapeOf
     in-world v = go (look p) refl
       where
-        go : (m : Ask Block) → look p ≡ m → T (settledOnGrid shapes (m >>= shapeOf look records p))
+        go : (m : Ask Block) → look p ≡ m → T (settledPasses good shapes (m >>= shapeOf look records p))
         go (refused k) e = tt
         go (found none) e = tt
         go (found (some s)) e =
             let y = on-axis (w .origin .y) (w .sizes .y) (p .y) (state-inside words w p s v e) (axes words w W .y .origin) (axes words w W .y .size) in
-            subst (λ (m : Ask Block). T (settledOnGrid shapes (m >>= shapeOf look records p))) e (in-layer w test p i G y)
+            subst (λ (m : Ask Block). T (settledPasses good shapes (m >>= shapeOf look records p))) e (in-layer w test p i G y)
 
     tested : T (test p)
     unfolding isVoid
@@ -318,37 +309,60 @@ module _ (records : List ℕ) (shapes : List Float) (words : List ℕ) (w : Wind
         go false true e f = alike (aboveWorld w) (sky w (p .y) f) (sky w (aboveWorld w) (above-highest w)) (in-sky w test p i G)
         go false false e f = in-world (λ j. e j || f j)
 
-  -- what holds of a cube and of every box on the grid holds of each box of a cell
-  module _ (p : Pos) (b : Aabb) (Here : Aabb → Type 0) (cubes : Here (cubeAt p)) (parts : (u : Aabb) → T (isProper u && isInCell u) → Here (offsetBy u (originOf p))) where
-    part-at : (part : List Float) → T (shapeOnGrid part) → List·Memᴰ b (shapeAabbs part p) → Here b
-    unfolding shapeOnGrid
-    part-at part g m =
-        let l = in-listed b (λ k. offsetBy (toAabb (boxAt part k)) (originOf p)) (boxCount part) 0 m in
-        let n : l .at < boxCount part = l .below in
-        let t = every-at (boxCount part) (λ k. isProper (toAabb (boxAt part k)) && isInCell (toAabb (boxAt part k))) (T-true (shapeOnGrid part) g) (0 + l .at) (omega arith) in
-        subst Here (sym (l .is)) (parts (toAabb (boxAt part (0 + l .at))) (subst T (sym t) tt))
+  pub settled-place : (p : Pos) (b : Aabb) → List·Memᴰ b (settledBoxes look records shapes p) → InColumn w p
+  unfolding settledBoxes
+  settled-place p b m = go (cellShape look records p) refl m
+    where
+      go : (a : Ask CellShape) → cellShape look records p ≡ a → List·Memᴰ b (settled shapes p a) → InColumn w p
+      go (found shape) e m = in-column words w p W (cell-inside words w records p shape e)
 
-    shape-at : (shape : CellShape) → T (settledOnGrid shapes (found shape)) → List·Memᴰ b (aabbsOf shapes p shape) → Here b
+  -- what holds of a cube, and of every box of the shapes that passes, holds of each box of a cell
+  module _ (p : Pos) (b : Aabb) (Here : Aabb → Type 0) (cubes : Here (cubeAt p))
+      (parts : (first count k : ℕ) → T (good (toAabb (boxAt (boxesAt shapes first count) k))) → Here (offsetBy (toAabb (boxAt (boxesAt shapes first count) k)) (originOf p))) where
+    shape-at : (shape : CellShape) → T (settledPasses good shapes (found shape)) → List·Memᴰ b (aabbsOf shapes p shape) → Here b
+    unfolding shapePasses
     shape-at cube g m = go (List·Memᴰ·cases-cons m)
       where
         go : (b ≡ cubeAt p) ⊎ List·Memᴰ b [] → Here b
         go (inl e) = subst Here (sym e) cubes
-    shape-at (boxes first count) g m = part-at (boxesAt shapes first count) g m
+    shape-at (boxes first count) g m =
+        let part = boxesAt shapes first count in
+        let l = in-listed b (λ k. offsetBy (toAabb (boxAt part k)) (originOf p)) (boxCount part) 0 m in
+        let n : l .at < boxCount part = l .below in
+        let t = every-at (boxCount part) (λ k. good (toAabb (boxAt part k))) (T-true (shapePasses good part) g) (0 + l .at) (omega arith) in
+        subst Here (sym (l .is)) (parts first count (0 + l .at) (subst T (sym t) tt))
 
-  pub block : (p : Pos) (b : Aabb) → List·Memᴰ b (settledBoxes (lookAt words w) records shapes p) → Settled w p b
-  unfolding settledBoxes
-  block p b m = go (cellShape look records p) refl m
-    where
-      go : (m : Ask CellShape) → cellShape look records p ≡ m → List·Memᴰ b (settled shapes p m) → Settled w p b
-      go (found shape) e m =
-          let i = in-column words w p W (cell-inside words w records p shape e) in
-          let x = i .x .at in
-          let z = i .z .at in
-          let g = subst (λ (a : Ask CellShape). T (settledOnGrid shapes a)) e (tested p i) in
-          record { place = i; stands = by (leb (natAbs (p .y)) (2 ^ 27)) (leb→le (natAbs (p .y)) (2 ^ 27)) (nleb→lt (natAbs (p .y)) (2 ^ 27)) x z g }
-        where
-          by : (t : Bool) → (T t → natAbs (p .y) ≤ 2 ^ 27) → (T (not t) → 2 ^ 27 < natAbs (p .y)) → (x : Numbered (p .x) (2 ^ 26)) (z : Numbered (p .z) (2 ^ 26)) → T (settledOnGrid shapes (found shape)) → Stands p b (x .number) (z .number)
-          by true f f' x z g =
-              let y = number (p .y) (2 ^ 27) (f tt) (omega arith) in
-              near y (shape-at p b (λ (u : Aabb). InCells u (x .number) (y .number) (z .number)) (cube-in p x y z) (shape-in p x y z) shape g m)
-          by false f f' x z g = far (shape-at p b Far (far-cube p (f' tt)) (far-in p (f' tt)) shape g m)
+    pub settled-box : List·Memᴰ b (settledBoxes look records shapes p) → Here b
+    unfolding settledBoxes
+    settled-box m = go (cellShape look records p) refl m
+      where
+        go : (a : Ask CellShape) → cellShape look records p ≡ a → List·Memᴰ b (settled shapes p a) → Here b
+        go (found shape) e m =
+            let i = in-column words w p W (cell-inside words w records p shape e) in
+            shape-at shape (subst (λ (a : Ask CellShape). T (settledPasses good shapes a)) e (tested p i)) m
+
+-- where a box of a cell lies
+pub data Stands (p : Pos) (b : Aabb) (nx nz : ℕ) : Type 0 where
+  near : (y : Numbered (p .y) (2 ^ 27)) → InCells b nx (y .number) nz → Stands p b nx nz
+  far : Far b → Stands p b nx nz
+
+pub record Settled (w : Window) (p : Pos) (b : Aabb) : Type 0 where
+  pub place : InColumn w p
+  pub stands : Stands p b (place .x .at .number) (place .z .at .number)
+
+abbrev onGridShape : Aabb → Bool
+onGridShape b = isProper b && isInCell b
+
+pub block : (records : List ℕ) (shapes : List Float) (words : List ℕ) (w : Window) → windowFits words w ≡ true → T (shapesOnGrid records shapes words w)
+    → (p : Pos) (b : Aabb) → List·Memᴰ b (settledBoxes (lookAt words w) records shapes p) → Settled w p b
+block records shapes words w W G p b m =
+    let i = settled-place records shapes words w W onGridShape G p b m in
+    record { place = i; stands = by (leb (natAbs (p .y)) (2 ^ 27)) (leb→le (natAbs (p .y)) (2 ^ 27)) (nleb→lt (natAbs (p .y)) (2 ^ 27)) (i .x .at) (i .z .at) }
+  where
+    by : (t : Bool) → (T t → natAbs (p .y) ≤ 2 ^ 27) → (T (not t) → 2 ^ 27 < natAbs (p .y)) → (x : Numbered (p .x) (2 ^ 26)) (z : Numbered (p .z) (2 ^ 26)) → Stands p b (x .number) (z .number)
+    by true f f' x z =
+        let y = number (p .y) (2 ^ 27) (f tt) (omega arith) in
+        near y (settled-box records shapes words w W onGridShape G p b (λ (u : Aabb). InCells u (x .number) (y .number) (z .number)) (cube-in p x y z)
+        (λ first count k t. shape-in p x y z (toAabb (boxAt (boxesAt shapes first count) k)) t) m)
+    by false f f' x z =
+        far (settled-box records shapes words w W onGridShape G p b Far (far-cube p (f' tt)) (λ first count k t. far-in p (f' tt) (toAabb (boxAt (boxesAt shapes first count) k)) t) m)

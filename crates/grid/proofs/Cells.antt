@@ -3,21 +3,22 @@
 use mathlib.Core.Path.{_≡_, refl, sym, ap, _∙_, subst}
 use mathlib.Core.Bool.{Bool, true, false, not, cond}
 use Prim.Native.Nat.{ℕ, zero, suc, _+_, _-_, _*_, _/_, _%_, _^_, _≤_, _<_, min}
-use native.Mathlib.Nat.{mul-right-comm, div-add-mod', mod-lt, le-of-mul-le-mul-right, lt-of-mul-lt-mul-right}
+use native.Mathlib.Nat.{le-trans, le-of-eq, lt-of-lt-of-le, lt-of-le-of-lt, add-mul, mul-comm, mul-right-comm, div-add-mod', mod-lt, mul-le-mul-right, mul-lt-mul-of-pos-right, le-of-mul-le-mul-right, lt-of-mul-lt-mul-right}
 use native.Mathlib.Omega.{arith}
 use lib.IntN.{ℤ, pos, negsuc, negℤ, natAbs, subℕ, _+ℤ_, _-ℤ_, +ℤ-negℤ-cancel}
 use lib.Signed.{leZ}
-use lib.Dec.{T, ltb, leb, ltb→lt, nltb→le, le→leb}
+use lib.Dec.{T, ltb, leb, ltb→lt, nltb→le, le→leb, lit<}
 use lib.Ieee.{Float, nan, inf, fin, binary64, up, down, round, ofInt, le}
 use lib.Ieee.Fits.{down-pos}
 use lib.Ieee.Back.{round-whole}
 use Rattle.base.specs.Choose.{choose}
 use Rattle.base.proofs.Values.{rescaled}
+use Rattle.base.proofs.Counts as C
 use Rattle.base.proofs.Tests.{T-true}
 use Rattle.base.proofs.Differences.{subℕ-pos, subℕ-neg, subℕ-add, subℕ-le, plus-minus}
 use Rattle.wholes.specs.Whole.{floorSize, floorInt, signedOf, cellOf}
 use Rattle.wholes.proofs.Cells.{cell-within, bottom}
-use Rattle.wholes.proofs.Cells as C
+use Rattle.wholes.proofs.Cells as W
 use Rattle.ranges.specs.declared.Axis.{Axis}
 use Rattle.ranges.specs.Ranges.{orZero, spanOf, onFrom, cellsBetween, layersBetween}
 use Rattle.grid.proofs.Units.{At, Signed, le-is}
@@ -40,48 +41,88 @@ number (negsuc k) far h small =
     record { number = 2 ^ 28 - suc k; is = sym (subℕ-neg (2 ^ 28 - suc k) (2 ^ 28) k (omega arith)); low = omega arith; high = omega arith }
 
 -- ---- the cell of a coordinate
-quotient : (a c k : ℕ) → 0 < c → a * 4096 ≡ k * c → a / c ≡ k / 4096
-quotient a c k C e =
+-- the whole part of a / c, which is k / l, and the least whole number that is not below it
+record Part (k l q : ℕ) : Type 0 where
+  low : q * l ≤ k
+  high : k < q * l + l
+
+record PartUp (k l q : ℕ) : Type 0 where
+  low : k ≤ q * l
+  high : q * l < k + l
+
+part : (a c k l : ℕ) → 0 < c → 0 < l → a * l ≡ k * c → Part k l (a / c)
+part a c k l C L e =
     let q = a / c in
     let r = a % c in
     let R : r < c = mod-lt a C in
     let x : q * c + r ≡ a = div-add-mod' a c in
-    let p : q * 4096 * c ≡ q * c * 4096 = mul-right-comm q 4096 c in
-    let l : q * 4096 ≤ k = le-of-mul-le-mul-right {m = q * 4096} {n = k} {k = c} (omega arith) C in
-    let t : k < q * 4096 + 4096 = lt-of-mul-lt-mul-right c {m = k} {n = q * 4096 + 4096} (omega arith) in
-    omega arith
+    let y : q * c ≤ a = omega arith in
+    let z : a < q * c + c = omega arith in
+    record {
+      low = le-of-mul-le-mul-right {m = q * l} {n = k} {k = c} (le-trans (le-of-eq (mul-right-comm q l c)) (le-trans (mul-le-mul-right l y) (le-of-eq e))) C;
+      high = lt-of-mul-lt-mul-right c {m = k} {n = q * l + l}
+          (lt-of-le-of-lt (le-of-eq (sym e)) (lt-of-lt-of-le (mul-lt-mul-of-pos-right z L) (le-of-eq (swap q c l))));
+    }
+  where
+    swap : (q c l : ℕ) → (q * c + c) * l ≡ (q * l + l) * c
+    swap q c l = omega arith
 
-quotient-up : (a c k : ℕ) → 0 < c → a * 4096 ≡ k * c → (a + (c - 1)) / c ≡ (k + 4095) / 4096
-quotient-up a c k C e =
+part-up : (a c k l : ℕ) → 0 < c → 0 < l → a * l ≡ k * c → PartUp k l ((a + (c - 1)) / c)
+part-up a c k l C L e =
     let q = (a + (c - 1)) / c in
     let r = (a + (c - 1)) % c in
     let R : r < c = mod-lt (a + (c - 1)) C in
     let x : q * c + r ≡ a + (c - 1) = div-add-mod' (a + (c - 1)) c in
-    let p : q * 4096 * c ≡ q * c * 4096 = mul-right-comm q 4096 c in
-    let l : k ≤ q * 4096 = le-of-mul-le-mul-right {m = k} {n = q * 4096} {k = c} (omega arith) C in
-    let t : q * 4096 < k + 4096 = lt-of-mul-lt-mul-right c {m = q * 4096} {n = k + 4096} (omega arith) in
-    omega arith
+    let y : a ≤ q * c = omega arith in
+    let z : q * c < a + c = omega arith in
+    record {
+      low = le-of-mul-le-mul-right {m = k} {n = q * l} {k = c} (le-trans (le-of-eq (sym e)) (le-trans (mul-le-mul-right l y) (le-of-eq (mul-right-comm q c l)))) C;
+      high = lt-of-mul-lt-mul-right c {m = q * l} {n = k + l}
+          (lt-of-le-of-lt (le-of-eq (mul-right-comm q l c)) (lt-of-lt-of-le (mul-lt-mul-of-pos-right z L) (le-of-eq (add-mul a c l ∙ ap (λ (w : ℕ). w + c * l) e ∙ ap (λ (w : ℕ). k * c + w) (mul-comm c l) ∙ sym (add-mul k l c)))));
+    }
 
-floor-at : (x : Float) (v : ℕ) → At x v base → floorInt x ≡ numbered (v / 4096)
+-- below by less than one
+less : (q r l : ℕ) → q * l < r * l + l → q ≤ r
+less q r l h = let g : q < r + 1 = lt-of-mul-lt-mul-right l {m = q} {n = r + 1} (omega arith) in omega arith
+
+-- (v - base) / l, where the whole part of v / l is q
+pub floor-by : (l : ℕ) → 0 < l → (x : Float) (v q : ℕ) → C.At l x v (2 ^ 28 * l) → q * l ≤ v → v < q * l + l → floorInt x ≡ numbered q
 unfolding floorInt floorSize
-floor-at nan v h = absurd (h .value)
-floor-at (inf s) v h = absurd (h .value)
-floor-at (fin t m e) v h =
+floor-by l L nan v q h low high = absurd (h .value)
+floor-by l L (inf s) v q h low high = absurd (h .value)
+floor-by l L (fin t m e) v q h low high =
     ap (λ (s : Bool). signedOf s (floorSize s (m * up e) (down e))) (h .value .0) ∙ go (h .sign) (h .size) (h .units) (h .value .1)
   where
-    below : (n : ℕ) → v / 4096 + n ≡ 2 ^ 28 → negℤ (pos n) ≡ numbered (v / 4096)
-    below zero q = sym (subℕ-pos (v / 4096) (2 ^ 28) 0 (omega arith))
-    below (suc i) q = sym (subℕ-neg (v / 4096) (2 ^ 28) i q)
+    below : (n : ℕ) → q + n ≡ 2 ^ 28 → negℤ (pos n) ≡ numbered q
+    below zero z = sym (subℕ-pos q (2 ^ 28) 0 (omega arith))
+    below (suc i) z = sym (subℕ-neg q (2 ^ 28) i z)
 
-    go : (s : Bool) (k : ℕ) → Signed s k v base → m * up e * 4096 ≡ k * down e → signedOf s (floorSize s (m * up e) (down e)) ≡ numbered (v / 4096)
-    go false k u w = ap pos (quotient (m * up e) (down e) k (down-pos e) w) ∙ sym (subℕ-pos (v / 4096) (2 ^ 28) (k / 4096) (omega arith))
-    go true k u w = ap (λ (n : ℕ). negℤ (pos n)) (quotient-up (m * up e) (down e) k (down-pos e) w) ∙ below ((k + 4095) / 4096) (omega arith)
+    go : (s : Bool) (k : ℕ) → Signed s k v (2 ^ 28 * l) → m * up e * l ≡ k * down e → signedOf s (floorSize s (m * up e) (down e)) ≡ numbered q
+    go false k u w =
+        let a = m * up e / down e in
+        let p = part (m * up e) (down e) k l (down-pos e) L w in
+        let pl : a * l ≤ k = p .low in
+        let ph : k < a * l + l = p .high in
+        let one : a + 2 ^ 28 ≤ q = less (a + 2 ^ 28) q l (omega arith) in
+        let two : q ≤ a + 2 ^ 28 = less q (a + 2 ^ 28) l (omega arith) in
+        sym (subℕ-pos q (2 ^ 28) a (omega arith))
+    go true k u w =
+        let a = (m * up e + (down e - 1)) / down e in
+        let p = part-up (m * up e) (down e) k l (down-pos e) L w in
+        let pl : k ≤ a * l = p .low in
+        let ph : a * l < k + l = p .high in
+        let one : q + a ≤ 2 ^ 28 = less (q + a) (2 ^ 28) l (omega arith) in
+        let two : 2 ^ 28 ≤ q + a = less (2 ^ 28) (q + a) l (omega arith) in
+        below a (omega arith)
+
+floor-at : (x : Float) (v : ℕ) → At x v base → floorInt x ≡ numbered (v / 4096)
+floor-at x v h = floor-by 4096 (lit< tt) x v (v / 4096) h (omega arith) (omega arith)
 
 -- within 2 ^ 26, which is 2 ^ 38 units
 cell-at : (x : Float) (v : ℕ) → At x v base → base ≤ v + 2 ^ 38 → v ≤ base + 2 ^ 38 → cellOf x ≡ numbered (v / 4096)
 cell-at x v h lo hi =
     sym (cell-within x
-    (le-is x C.top v base (2 ^ 38) 0 v (base + 2 ^ 38) h (record { sign = false; size = 2 ^ 38; value = (refl, refl); units = refl }) (omega arith) ∙ T-true (leb v (base + 2 ^ 38)) (le→leb v (base + 2 ^ 38) hi))
+    (le-is x W.top v base (2 ^ 38) 0 v (base + 2 ^ 38) h (record { sign = false; size = 2 ^ 38; value = (refl, refl); units = refl }) (omega arith) ∙ T-true (leb v (base + 2 ^ 38)) (le→leb v (base + 2 ^ 38) hi))
     (le-is bottom x 0 (2 ^ 38) v base base (v + 2 ^ 38) (record { sign = true; size = 2 ^ 38; value = (refl, refl); units = refl }) h (omega arith) ∙ T-true (leb base (v + 2 ^ 38)) (le→leb base (v + 2 ^ 38) lo)))
     ∙ floor-at x v h
 
@@ -110,7 +151,7 @@ pub record Held (a : Axis) (c : ℤ) : Type 0 where
   pub below : index < a .count
   pub is : onFrom (a .first) index ≡ c
 
-held : (f g : ℤ) (l h n : ℕ) → f ≡ numbered l → g ≡ numbered h → l ≤ n → n ≤ h → h < l + 2 ^ 30 → h ≤ 2 ^ 28 + 2 ^ 26 → Held record { first = f; count = spanOf f g } (numbered n)
+pub held : (f g : ℤ) (l h n : ℕ) → f ≡ numbered l → g ≡ numbered h → l ≤ n → n ≤ h → h < l + 2 ^ 30 → h ≤ 2 ^ 28 + 2 ^ 26 → Held record { first = f; count = spanOf f g } (numbered n)
 held f g l h n F G low high near small =
     let e : spanOf f g ≡ h - l + 1 = ap (λ (z : ℤ). spanOf z g) F ∙ ap (λ (z : ℤ). spanOf (numbered l) z) G ∙ span-is l h (omega arith) near in
     let k = n - l in

@@ -2,7 +2,7 @@
 use mathlib.Core.Path.{_≡_, refl, subst}
 use mathlib.Core.Bool.{Bool, true, false, not, _&&_, cond, true≢false, false≢true}
 use Prim.Native.Nat.{ℕ, suc, _+_, _-_, _*_, _^_, _≤_, _<_}
-use native.Mathlib.Nat.{mul-le-mul-right, mul-pos}
+use native.Mathlib.Nat.{mul-le-mul-right, mul-pos, le-of-mul-le-mul-right}
 use native.Mathlib.Omega.{arith}
 use lib.IntN.{ℤ, pos, negsuc, natAbs}
 use lib.Dec.{T, ltb, ltb→lt, lt→ltb, lit<}
@@ -13,12 +13,13 @@ use lib.Ieee.Back.{round-whole}
 use lib.Ieee.Order.{round-mono}
 use lib.Ieee.Positive.{above, positive-of-value, above-of-le, values-of-le}
 use Rattle.base.proofs.Bounds.{neg-round}
+use Rattle.base.proofs.Counts as C
 use Rattle.floats.specs.Numbers.{one64}
 use Rattle.boxes.specs.declared.Aabb.{Aabb}
 use Rattle.boxes.specs.Boxes.{offsetBy, meet, overlap}
 use Rattle.window.specs.declared.Pos.{Pos}
 use Rattle.collection.specs.Collect.{originOf, cubeAt}
-use Rattle.grid.proofs.Units.{At, Signed}
+use Rattle.grid.proofs.Units.{Signed}
 use Rattle.grid.proofs.Axis.{Span}
 use Rattle.grid.proofs.Counted.{base, OnSpan}
 
@@ -97,17 +98,17 @@ Slight nan = ⊥
 Slight (inf s) = ⊥
 Slight (fin s m e) = m * up e ≤ 2 * down e
 
-pub slight : (x : Float) (p n : ℕ) → At x p n → n ≤ p → p ≤ n + 8192 → Slight x
-slight nan p n h low high = absurd (h .value)
-slight (inf s) p n h low high = absurd (h .value)
-slight (fin s m e) p n h low high =
+pub slight : (c : ℕ) → 0 < c → (x : Float) (p n : ℕ) → C.At c x p n → n ≤ p → p ≤ n + 2 * c → Slight x
+slight c P nan p n h low high = absurd (h .value)
+slight c P (inf s) p n h low high = absurd (h .value)
+slight c P (fin s m e) p n h low high =
     let k = h .size in
-    let z : k ≤ 8192 = go (h .sign) k (h .units) in
-    let v : m * up e * 4096 ≡ k * down e = h .value .1 in
-    let q : k * down e ≤ 8192 * down e = mul-le-mul-right (down e) z in
-    omega arith
+    let z : k ≤ 2 * c = go (h .sign) k (h .units) in
+    let v : m * up e * c ≡ k * down e = h .value .1 in
+    let q : k * down e ≤ 2 * c * down e = mul-le-mul-right (down e) z in
+    le-of-mul-le-mul-right {m = m * up e} {n = 2 * down e} {k = c} (omega arith) P
   where
-    go : (s : Bool) (k : ℕ) → Signed s k p n → k ≤ 8192
+    go : (s : Bool) (k : ℕ) → Signed s k p n → k ≤ 2 * c
     go false k u = omega arith
     go true k u = omega arith
 
@@ -162,59 +163,63 @@ far-shape p b h low high = go (p .y) h
     go (pos n) h = over (add-beyond false (b .min .y) (ofInt binary64 (pos n)) low (high-origin (2 ^ 27) n (omega arith) (omega arith) h))
     go (negsuc n) h = under (add-beyond true (b .max .y) (ofInt binary64 (negsuc n)) high (low-origin n h))
 
--- ---- a box within 2 ^ 26 does not reach it
-module _ (m n : ℕ) (e d : ℤ) (k : ℕ) (M : 2 ^ 26 * down e ≤ m * up e) (N : n * up d * 4096 ≡ k * down d) (K : k ≤ 2 ^ 38) where
-  outreached : m * up e * down d < n * up d * down e → ⊥
-  outreached h =
-      let p : k * down d ≤ 2 ^ 38 * down d = mul-le-mul-right (down d) K in
-      let a : n * up d ≤ 2 ^ 26 * down d = omega arith in
+-- ---- a box within 2 ^ 26 does not reach it, in any unit
+module _ (c : ℕ) (positive : 0 < c) where
+  outreached : (m n : ℕ) (e d : ℤ) (k : ℕ) → 2 ^ 26 * down e ≤ m * up e → n * up d * c ≡ k * down d → k ≤ 2 ^ 26 * c → m * up e * down d < n * up d * down e → ⊥
+  outreached m n e d k M N K h =
+      let p : k * down d ≤ 2 ^ 26 * c * down d = mul-le-mul-right (down d) K in
+      let a : n * up d ≤ 2 ^ 26 * down d = le-of-mul-le-mul-right {m = n * up d} {n = 2 ^ 26 * down d} {k = c} (omega arith) positive in
       let b : n * up d * down e ≤ 2 ^ 26 * down d * down e = mul-le-mul-right (down e) a in
-      let c : 2 ^ 26 * down e * down d ≤ m * up e * down d = mul-le-mul-right (down d) M in
+      let q : 2 ^ 26 * down e * down d ≤ m * up e * down d = mul-le-mul-right (down d) M in
       omega arith
 
-over-clear : (x y : Float) (v : ℕ) → Beyond (2 ^ 26) false x → At y v base → v ≤ base + 2 ^ 38 → T (lt x y) → ⊥
-unfolding lt
-over-clear nan y v b h r t = absurd b
-over-clear (inf s) nan v b h r t = absurd (h .value)
-over-clear (inf s) (inf u) v b h r t = absurd (h .value)
-over-clear (inf s) (fin u n d) v b h r t = subst T b t
-over-clear (fin q m e) nan v b h r t = absurd (h .value)
-over-clear (fin q m e) (inf s) v b h r t = absurd (h .value)
-over-clear (fin true m e) (fin u n d) v b h r t = absurd (true≢false (b .0))
-over-clear (fin false m e) (fin true n d) v b h r t = absurd t
-over-clear (fin false m e) (fin false n d) v b h r t =
-    outreached m n e d (h .size) (b .1) (h .value .1) (go (h .sign) (h .size) (h .value .0) (h .units)) (ltb→lt (m * up e * down d) (n * up d * down e) t)
-  where
-    go : (s : Bool) (k : ℕ) → false ≡ s → Signed s k v base → k ≤ 2 ^ 38
-    go true k q u = absurd (false≢true q)
-    go false k q u = omega arith
+  over-clear : (x y : Float) (p n : ℕ) → Beyond (2 ^ 26) false x → C.At c y p n → p ≤ n + 2 ^ 26 * c → T (lt x y) → ⊥
+  unfolding lt
+  over-clear nan y p n b h r t = absurd b
+  over-clear (inf s) nan p n b h r t = absurd (h .value)
+  over-clear (inf s) (inf u) p n b h r t = absurd (h .value)
+  over-clear (inf s) (fin u a d) p n b h r t = subst T b t
+  over-clear (fin q m e) nan p n b h r t = absurd (h .value)
+  over-clear (fin q m e) (inf s) p n b h r t = absurd (h .value)
+  over-clear (fin true m e) (fin u a d) p n b h r t = absurd (true≢false (b .0))
+  over-clear (fin false m e) (fin true a d) p n b h r t = absurd t
+  over-clear (fin false m e) (fin false a d) p n b h r t =
+      outreached m a e d (h .size) (b .1) (h .value .1) (go (h .sign) (h .size) (h .value .0) (h .units)) (ltb→lt (m * up e * down d) (a * up d * down e) t)
+    where
+      go : (s : Bool) (k : ℕ) → false ≡ s → Signed s k p n → k ≤ 2 ^ 26 * c
+      go true k q u = absurd (false≢true q)
+      go false k q u = omega arith
 
-under-clear : (x y : Float) (v : ℕ) → Beyond (2 ^ 26) true x → At y v base → base ≤ v + 2 ^ 38 → T (lt y x) → ⊥
-unfolding lt
-under-clear nan y v b h r t = absurd b
-under-clear (inf s) nan v b h r t = absurd (h .value)
-under-clear (inf s) (inf u) v b h r t = absurd (h .value)
-under-clear (inf s) (fin u n d) v b h r t = T-no s b t
-  where
-    T-no : (s : Bool) → s ≡ true → T (not s) → ⊥
-    T-no true q t = t
-    T-no false q t = false≢true q
-under-clear (fin q m e) nan v b h r t = absurd (h .value)
-under-clear (fin q m e) (inf s) v b h r t = absurd (h .value)
-under-clear (fin false m e) (fin u n d) v b h r t = absurd (false≢true (b .0))
-under-clear (fin true m e) (fin false n d) v b h r t = absurd t
-under-clear (fin true m e) (fin true n d) v b h r t =
-    outreached m n e d (h .size) (b .1) (h .value .1) (go (h .sign) (h .size) (h .value .0) (h .units)) (ltb→lt (m * up e * down d) (n * up d * down e) t)
-  where
-    go : (s : Bool) (k : ℕ) → true ≡ s → Signed s k v base → k ≤ 2 ^ 38
-    go true k q u = omega arith
-    go false k q u = absurd (true≢false q)
+  under-clear : (x y : Float) (p n : ℕ) → Beyond (2 ^ 26) true x → C.At c y p n → n ≤ p + 2 ^ 26 * c → T (lt y x) → ⊥
+  unfolding lt
+  under-clear nan y p n b h r t = absurd b
+  under-clear (inf s) nan p n b h r t = absurd (h .value)
+  under-clear (inf s) (inf u) p n b h r t = absurd (h .value)
+  under-clear (inf s) (fin u a d) p n b h r t = T-no s b t
+    where
+      T-no : (s : Bool) → s ≡ true → T (not s) → ⊥
+      T-no true q t = t
+      T-no false q t = false≢true q
+  under-clear (fin q m e) nan p n b h r t = absurd (h .value)
+  under-clear (fin q m e) (inf s) p n b h r t = absurd (h .value)
+  under-clear (fin false m e) (fin u a d) p n b h r t = absurd (false≢true (b .0))
+  under-clear (fin true m e) (fin false a d) p n b h r t = absurd t
+  under-clear (fin true m e) (fin true a d) p n b h r t =
+      outreached m a e d (h .size) (b .1) (h .value .1) (go (h .sign) (h .size) (h .value .0) (h .units)) (ltb→lt (m * up e * down d) (a * up d * down e) t)
+    where
+      go : (s : Bool) (k : ℕ) → true ≡ s → Signed s k p n → k ≤ 2 ^ 26 * c
+      go true k q u = omega arith
+      go false k q u = absurd (true≢false q)
 
+  pub far-apart : (a b : Aabb) (p n q m : ℕ) → C.At c (a .min .y) p n → C.At c (a .max .y) q m → n ≤ p + 2 ^ 26 * c → q ≤ m + 2 ^ 26 * c → Far b → T (overlap a b) → ⊥
+  far-apart a b p n q m A B low high f t =
+      let yz = and-r (meet (a .min .x) (a .max .x) (b .min .x) (b .max .x)) (meet (a .min .y) (a .max .y) (b .min .y) (b .max .y) && meet (a .min .z) (a .max .z) (b .min .z) (b .max .z)) t in
+      go f (and-l (meet (a .min .y) (a .max .y) (b .min .y) (b .max .y)) (meet (a .min .z) (a .max .z) (b .min .z) (b .max .z)) yz)
+    where
+      go : Far b → T (meet (a .min .y) (a .max .y) (b .min .y) (b .max .y)) → ⊥
+      go (over h) u = over-clear (b .min .y) (a .max .y) q m h B high (and-r (lt (a .min .y) (b .max .y)) (lt (b .min .y) (a .max .y)) u)
+      go (under h) u = under-clear (b .max .y) (a .min .y) p n h A low (and-l (lt (a .min .y) (b .max .y)) (lt (b .min .y) (a .max .y)) u)
+
+-- on the grid
 pub far-clear : (a b : Aabb) (s : Span) → OnSpan (a .min .y) (a .max .y) s → base ≤ s .lo + 2 ^ 38 → s .hi ≤ base + 2 ^ 38 → Far b → T (overlap a b) → ⊥
-far-clear a b s on deep room f t =
-    let yz = and-r (meet (a .min .x) (a .max .x) (b .min .x) (b .max .x)) (meet (a .min .y) (a .max .y) (b .min .y) (b .max .y) && meet (a .min .z) (a .max .z) (b .min .z) (b .max .z)) t in
-    go f (and-l (meet (a .min .y) (a .max .y) (b .min .y) (b .max .y)) (meet (a .min .z) (a .max .z) (b .min .z) (b .max .z)) yz)
-  where
-    go : Far b → T (meet (a .min .y) (a .max .y) (b .min .y) (b .max .y)) → ⊥
-    go (over h) u = over-clear (b .min .y) (a .max .y) (s .hi) h (on .hi .at) room (and-r (lt (a .min .y) (b .max .y)) (lt (b .min .y) (a .max .y)) u)
-    go (under h) u = under-clear (b .max .y) (a .min .y) (s .lo) h (on .lo .at) deep (and-l (lt (a .min .y) (b .max .y)) (lt (b .min .y) (a .max .y)) u)
+far-clear a b s on deep room f t = far-apart 4096 (lit< tt) a b (s .lo) base (s .hi) base (on .lo .at) (on .hi .at) deep room f t

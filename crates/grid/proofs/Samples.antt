@@ -70,14 +70,14 @@ unfolding C.choose LS.isCap lentRefusal directRefusal X.moveEntry
 taken w cells s = rw tables-fit
 
 pub sliding-through : FairIn S.sampleWindow S.slidingCells F.p1 false
-unfolding C.choose LS.isCap LS.capOf N.sizeOf O.listed A.turning Y.every H.floorSize H.floorInt H.cellOf M.clipAll M.clipSequence M.steppedUp M.moveOver B.isRegistered B.boxesAt W.isVoid W.indexOf W.columnIndexOf W.sizesFit W.coordinateFits W.originFits W.heightsFit W.columnFits W.columnsFit W.windowFits W.windowRefusal U.lookAt R.spanOf R.onFrom Q.line Q.layer Q.walk J.connectKind J.connectedState P.connectedShape P.shapeOf P.cellShape P.offerAll P.visit P.collectBlockBoxes Z.settledBoxes X.moveAabb G.onGrid G.isProper G.isFree D.shapeOnGrid D.everyColumn D.everyHeight D.everyPlace D.windowOnGrid D.keepsStep D.keepsStepIn T.records T.shapes S.sampleWindow S.slidingCells I.ofInt I.ofBits I.round I.add I.sub I.mul I.neg I.lt I.le I.eq I.ne
+unfolding C.choose LS.isCap LS.capOf N.sizeOf O.listed A.turning Y.every H.floorSize H.floorInt H.cellOf M.clipAll M.clipSequence M.steppedUp M.moveOver B.isRegistered B.boxesAt W.isVoid W.indexOf W.columnIndexOf W.sizesFit W.coordinateFits W.originFits W.heightsFit W.columnFits W.columnsFit W.windowFits W.windowRefusal U.lookAt R.spanOf R.onFrom Q.line Q.layer Q.walk J.connectKind J.connectedState P.connectedShape P.shapeOf P.cellShape P.offerAll P.visit P.collectBlockBoxes Z.settledBoxes X.moveAabb G.onGrid G.isProper G.isFree D.shapePasses D.everyColumn D.everyHeight D.everyPlace D.windowOnGrid D.keepsStep D.keepsStepIn T.records T.shapes S.sampleWindow S.slidingCells I.ofInt I.ofBits I.round I.add I.sub I.mul I.neg I.lt I.le I.eq I.ne
 sliding-through = record { onGrid = tt; accepted = ap (λ (r : MoveAnswer). r .refusal) (taken S.sampleWindow S.slidingCells F.p1); kept = refl }
 
 pub climbing-through : FairIn S.sampleWindow S.climbingCells F.p4 true
-unfolding C.choose LS.isCap LS.capOf N.sizeOf O.listed A.turning Y.every H.floorSize H.floorInt H.cellOf M.clipAll M.clipSequence M.steppedUp M.moveOver B.isRegistered B.boxesAt W.isVoid W.indexOf W.columnIndexOf W.sizesFit W.coordinateFits W.originFits W.heightsFit W.columnFits W.columnsFit W.windowFits W.windowRefusal U.lookAt R.spanOf R.onFrom Q.line Q.layer Q.walk J.connectKind J.connectedState P.connectedShape P.shapeOf P.cellShape P.offerAll P.visit P.collectBlockBoxes Z.settledBoxes X.moveAabb G.onGrid G.isProper G.isFree D.shapeOnGrid D.everyColumn D.everyHeight D.everyPlace D.windowOnGrid D.keepsStep D.keepsStepIn T.records T.shapes S.sampleWindow S.climbingCells I.ofInt I.ofBits I.round I.add I.sub I.mul I.neg I.lt I.le I.eq I.ne
+unfolding C.choose LS.isCap LS.capOf N.sizeOf O.listed A.turning Y.every H.floorSize H.floorInt H.cellOf M.clipAll M.clipSequence M.steppedUp M.moveOver B.isRegistered B.boxesAt W.isVoid W.indexOf W.columnIndexOf W.sizesFit W.coordinateFits W.originFits W.heightsFit W.columnFits W.columnsFit W.windowFits W.windowRefusal U.lookAt R.spanOf R.onFrom Q.line Q.layer Q.walk J.connectKind J.connectedState P.connectedShape P.shapeOf P.cellShape P.offerAll P.visit P.collectBlockBoxes Z.settledBoxes X.moveAabb G.onGrid G.isProper G.isFree D.shapePasses D.everyColumn D.everyHeight D.everyPlace D.windowOnGrid D.keepsStep D.keepsStepIn T.records T.shapes S.sampleWindow S.climbingCells I.ofInt I.ofBits I.round I.add I.sub I.mul I.neg I.lt I.le I.eq I.ne
 climbing-through = record { onGrid = tt; accepted = ap (λ (r : MoveAnswer). r .refusal) (taken S.sampleWindow S.climbingCells F.p4); kept = refl }
 
 -- above the highest cell, beside a column that is not loaded
 pub sky-through : FairIn S.skyWindow S.skyCells F.p1 false
-unfolding C.choose LS.isCap LS.capOf N.sizeOf O.listed A.turning Y.every H.floorSize H.floorInt H.cellOf M.clipAll M.clipSequence M.steppedUp M.moveOver B.isRegistered B.boxesAt W.isVoid W.indexOf W.columnIndexOf W.sizesFit W.coordinateFits W.originFits W.heightsFit W.columnFits W.columnsFit W.windowFits W.windowRefusal U.lookAt R.spanOf R.onFrom Q.line Q.layer Q.walk J.connectKind J.connectedState P.connectedShape P.shapeOf P.cellShape P.offerAll P.visit P.collectBlockBoxes Z.settledBoxes X.moveAabb G.onGrid G.isProper G.isFree D.shapeOnGrid D.everyColumn D.everyHeight D.everyPlace D.windowOnGrid D.keepsStep D.keepsStepIn T.records T.shapes S.skyWindow S.skyCells I.ofInt I.ofBits I.round I.add I.sub I.mul I.neg I.lt I.le I.eq I.ne
+unfolding C.choose LS.isCap LS.capOf N.sizeOf O.listed A.turning Y.every H.floorSize H.floorInt H.cellOf M.clipAll M.clipSequence M.steppedUp M.moveOver B.isRegistered B.boxesAt W.isVoid W.indexOf W.columnIndexOf W.sizesFit W.coordinateFits W.originFits W.heightsFit W.columnFits W.columnsFit W.windowFits W.windowRefusal U.lookAt R.spanOf R.onFrom Q.line Q.layer Q.walk J.connectKind J.connectedState P.connectedShape P.shapeOf P.cellShape P.offerAll P.visit P.collectBlockBoxes Z.settledBoxes X.moveAabb G.onGrid G.isProper G.isFree D.shapePasses D.everyColumn D.everyHeight D.everyPlace D.windowOnGrid D.keepsStep D.keepsStepIn T.records T.shapes S.skyWindow S.skyCells I.ofInt I.ofBits I.round I.add I.sub I.mul I.neg I.lt I.le I.eq I.ne
 sky-through = record { onGrid = tt; accepted = ap (λ (r : MoveAnswer). r .refusal) (taken S.skyWindow S.skyCells F.p1); kept = refl }

@@ -1,6 +1,6 @@
 -- Demand 3 of the move through a window: what was collected are boxes of settled cells, and every box of a settled cell was collected or lies aside of
 -- all that the move reaches. Assumes nothing.
-use mathlib.Core.Path.{_≡_, refl, sym, ap, _∙_, subst}
+use mathlib.Core.Path.{_≡_, refl, sym, ap, subst}
 use mathlib.Core.Logic.{_⊎_, inl, inr}
 use mathlib.Core.Bool.{Bool, true, false, not, _&&_}
 use mathlib.Core.List.{List, [], _∷_, List·Memᴰ, List·Memᴰ·head, List·Memᴰ·tail, List·Memᴰ·cases-cons, List·Memᴰ·append-cases}
@@ -44,7 +44,7 @@ use Rattle.grid.proofs.Counted.{base, On, overlap-to, overlap-from}
 use Rattle.grid.proofs.Readings.{three, ReadSpan, boxOf, Knowns}
 use Rattle.grid.proofs.Courses.{Aside, aside}
 use Rattle.grid.proofs.Starts.{Start, start, areaOf, from-start}
-use Rattle.grid.proofs.Cells.{Numbered, in-cells, in-layers}
+use Rattle.grid.proofs.Cells.{Numbered, Held, in-cells, in-layers}
 use Rattle.grid.proofs.Far.{Far, far-clear}
 use Rattle.grid.proofs.Blocks.{InColumn, InCells, Stands, near, far, Settled, block}
 use Rattle.grid.proofs.Areas.{Sides, Area, area, area-on}
@@ -84,7 +84,7 @@ of-overlapping area b (c ∷ bs) m = go (overlap c area) m (λ n. of-overlapping
     go false m rest = List·Memᴰ·tail (rest m)
 
 -- ---- lists, box by box
-free-at : (m o : Aabb) (bs : List Aabb) → List·Memᴰ o bs → T (isFree m bs) → T (not (overlap m o))
+pub free-at : (m o : Aabb) (bs : List Aabb) → List·Memᴰ o bs → T (isFree m bs) → T (not (overlap m o))
 unfolding isFree
 free-at m o (b ∷ bs) n t = go (List·Memᴰ·cases-cons n) (λ r. free-at m o bs r (and-r (not (overlap m b)) (isFree m bs) t))
   where
@@ -92,7 +92,7 @@ free-at m o (b ∷ bs) n t = go (List·Memᴰ·cases-cons n) (λ r. free-at m o 
     go (inl e) rest = subst (λ (u : Aabb). T (not (overlap m u))) (sym e) (and-l (not (overlap m b)) (isFree m bs) t)
     go (inr r) rest = rest r
 
-free-all : (m : Aabb) (bs : List Aabb) → ((o : Aabb) → List·Memᴰ o bs → T (not (overlap m o))) → T (isFree m bs)
+pub free-all : (m : Aabb) (bs : List Aabb) → ((o : Aabb) → List·Memᴰ o bs → T (not (overlap m o))) → T (isFree m bs)
 unfolding isFree
 free-all m [] h = tt
 free-all m (b ∷ bs) h = and-i (not (overlap m b)) (isFree m bs) (h b (List·Memᴰ·head refl)) (free-all m bs (λ o n. h o (List·Memᴰ·tail n)))
@@ -131,7 +131,7 @@ box-known c = record {
 }
 
 -- overlap, whichever box is named first
-turned : (a b : Aabb) → T (overlap a b) → T (overlap b a)
+pub turned : (a b : Aabb) → T (overlap a b) → T (overlap b a)
 turned a b t =
     let h = three (meet (a .min .x) (a .max .x) (b .min .x) (b .max .x)) (meet (a .min .y) (a .max .y) (b .min .y) (b .max .y)) (meet (a .min .z) (a .max .z) (b .min .z) (b .max .z)) t in
     let x = flip (lt (a .min .x) (b .max .x)) (lt (b .min .x) (a .max .x)) (h .x) in
@@ -155,14 +155,21 @@ start-area s = record { x = side (s .box .x); y = side (s .box .y); z = side (s 
         record { lo = record { at = r .on .lo .at; low = omega arith; high = omega arith }; hi = record { at = r .on .hi .at; low = omega arith; high = omega arith } }
 
 -- ---- a near box that overlaps the area f: its cell is in the range of f
-record InRange (r : Range) (p : Pos) : Type 0 where
-  x : ℕ
-  y : ℕ
-  z : ℕ
-  below-x : x < r .x .count
-  below-y : y < r .y .count
-  below-z : z < r .z .count
-  is : p ≡ placeAt r x y z
+pub record InRange (r : Range) (p : Pos) : Type 0 where
+  pub x : ℕ
+  pub y : ℕ
+  pub z : ℕ
+  pub below-x : x < r .x .count
+  pub below-y : y < r .y .count
+  pub below-z : z < r .z .count
+  pub is : p ≡ placeAt r x y z
+
+pub in-place : (r : Range) (p : Pos) → Held (r .x) (p .x) → Held (r .y) (p .y) → Held (r .z) (p .z) → InRange r p
+in-place r p x y z =
+    let px = sym (x .is) in
+    let py = sym (y .is) in
+    let pz = sym (z .is) in
+    record { x = x .index; y = y .index; z = z .index; below-x = x .below; below-y = y .below; below-z = z .below; is = (λ j. record { x = px j; y = py j; z = pz j }) }
 
 in-range : (w : Window) (f : Aabb) (v : Box) → Area f v → (p : Pos) (o : Aabb) (i : InColumn w p) (h : Numbered (p .y) (2 ^ 27)) → InCells o (i .x .at .number) (h .number) (i .z .at .number)
     → T (overlap o f) → InRange (rangeOf f) p
@@ -184,13 +191,10 @@ in-range w f v a p o i h c t =
     let x = in-cells (f .min .x) (f .max .x) (v .x .lo) (v .x .hi) (i .x .at .number) (a .x .lo) (a .x .hi) (omega arith) (omega arith) in
     let y = in-layers (f .min .y) (f .max .y) (v .y .lo) (v .y .hi) (h .number) (a .y .lo) (a .y .hi) (omega arith) (omega arith) in
     let z = in-cells (f .min .z) (f .max .z) (v .z .lo) (v .z .hi) (i .z .at .number) (a .z .lo) (a .z .hi) (omega arith) (omega arith) in
-    let px = i .x .at .is ∙ sym (x .is) in
-    let py = h .is ∙ sym (y .is) in
-    let pz = i .z .at .is ∙ sym (z .is) in
-    record { x = x .index; y = y .index; z = z .index; below-x = x .below; below-y = y .below; below-z = z .below; is = (λ j. record { x = px j; y = py j; z = pz j }) }
+    in-place (rangeOf f) p (subst (Held (rangeOf f .x)) (sym (i .x .at .is)) x) (subst (Held (rangeOf f .y)) (sym (h .is)) y) (subst (Held (rangeOf f .z)) (sym (i .z .at .is)) z)
 
 -- a test of every cell of a range, at one of them
-at-place : (r : Range) (test : Pos → Bool) (p : Pos) → InRange r p → T (everyPlace r test) → T (test p)
+pub at-place : (r : Range) (test : Pos → Bool) (p : Pos) → InRange r p → T (everyPlace r test) → T (test p)
 unfolding everyPlace
 at-place r test p i t =
     let ly = every-at (r .y .count) (λ y. every (r .x .count) (λ x. every (r .z .count) (λ z. test (placeAt r x y z)))) (T-true (everyPlace r test) t) (i .y) (i .below-y) in
@@ -206,12 +210,29 @@ places r test h =
     tt
 
 module _ (records : List ℕ) (shapes : List Float) (cells : List ℕ) (w : Window) where
-  abbrev boxesIn : Pos → List Aabb
+  abbrev pub boxesIn : Pos → List Aabb
   boxesIn = settledBoxes (lookAt cells w) records shapes
 
   -- the test of the start asks for nothing more than that no block box is overlapped
   pub start-tests : (m : Aabb) → Free (IsSettled records shapes cells w) m → T (isFreeIn records shapes cells w m)
   start-tests m h = places (rangeOf m) (λ p. isFree m (boxesIn p)) (λ p. free-all m (boxesIn p) (λ o n. h o record { cell = p; is = n }))
+
+  -- what is collected over an area is a box of a settled cell, and overlaps the area; and every such box of a cell in its range is collected
+  module _ (cap : ℕ) (area : Aabb) (bs : List Aabb) (C : collectBlockBoxes cap (lookAt cells w) records shapes area ≡ found bs) where
+    kept-at : (o : Aabb) → List·Memᴰ o bs → OneOf o (keptOf (lookAt cells w) records shapes area)
+    kept-at o n =
+        in-order o (keptOf (lookAt cells w) records shapes area) (rangeOf area)
+        (subst (λ (l : List Aabb). List·Memᴰ o l) (collected-is cap (lookAt cells w) records shapes area bs C) n)
+
+    pub back : (o : Aabb) → List·Memᴰ o bs → IsSettled records shapes cells w o
+    back o n = let r = kept-at o n in record { cell = r .at; is = of-overlapping area o (boxesIn (r .at)) (r .is) }
+
+    pub back-overlaps : (o : Aabb) → List·Memᴰ o bs → T (overlap o area)
+    back-overlaps o n = let r = kept-at o n in overlaps-area area o (boxesIn (r .at)) (r .is)
+
+    pub collected : (p : Pos) (o : Aabb) → List·Memᴰ o (boxesIn p) → InRange (rangeOf area) p → overlap o area ≡ true → List·Memᴰ o bs
+    collected p o n r e =
+        is-collected cap (lookAt cells w) records shapes area bs C o (r .x) (r .y) (r .z) (r .below-x) (r .below-y) (r .below-z) (subst (λ (q : Pos). List·Memᴰ o (boxesIn q)) (r .is) n) e
 
   module _ (W : windowFits cells w ≡ true) (G : T (shapesOnGrid records shapes cells w)) where
     -- and for nothing less
@@ -229,24 +250,14 @@ module _ (records : List ℕ) (shapes : List Float) (cells : List ℕ) (w : Wind
       abbrev swept : Aabb
       swept = sweptArea m d h
 
-      -- what was collected is a box of a settled cell, and overlaps the swept area
-      kept-at : (o : Aabb) → List·Memᴰ o bs → OneOf o (keptOf (lookAt cells w) records shapes swept)
-      kept-at o n =
-          in-order o (keptOf (lookAt cells w) records shapes swept) (rangeOf swept)
-          (subst (λ (l : List Aabb). List·Memᴰ o l) (collected-is cap (lookAt cells w) records shapes swept bs C) n)
-
-      back : (o : Aabb) → List·Memᴰ o bs → IsSettled records shapes cells w o
-      back o n = let r = kept-at o n in record { cell = r .at; is = of-overlapping swept o (boxesIn (r .at)) (r .is) }
-
       -- nothing far overlaps it
       far-off : (o : Aabb) → Far o → T (overlap o swept) → ⊥
       far-off o f t = let a = area m d h s in far-clear swept o (areaOf s .y) (area-on a .y) (a .y .lo .low) (a .y .hi .high) f (turned o swept t)
 
       known : (o : Aabb) → List·Memᴰ o bs → Known o
       known o n =
-          let c = back o n in
-          let r = kept-at o n in
-          go (block records shapes cells w W G (c .cell) o (c .is)) (overlaps-area swept o (boxesIn (r .at)) (r .is))
+          let c = back cap swept bs C o n in
+          go (block records shapes cells w W G (c .cell) o (c .is)) (back-overlaps cap swept bs C o n)
         where
           go : {p : Pos} → Settled w p o → T (overlap o swept) → Known o
           go b t = at (b .stands) t
@@ -256,10 +267,6 @@ module _ (records : List ℕ) (shapes : List Float) (cells : List ℕ) (w : Wind
               at (far f) t = absurd (far-off o f t)
 
       -- a box of a settled cell is collected, or lies aside of all that the move reaches
-      collected : (p : Pos) (o : Aabb) → List·Memᴰ o (boxesIn p) → InRange (rangeOf swept) p → overlap o swept ≡ true → List·Memᴰ o bs
-      collected p o n r e =
-          is-collected cap (lookAt cells w) records shapes swept bs C o (r .x) (r .y) (r .z) (r .below-x) (r .below-y) (r .below-z) (subst (λ (q : Pos). List·Memᴰ o (boxesIn q)) (r .is) n) e
-
       seen : (o : Aabb) → IsSettled records shapes cells w o → List·Memᴰ o bs ⊎ Aside (areaOf s) o
       seen o c = let b = block records shapes cells w W G (c .cell) o (c .is) in at (c .cell) (b .place) (b .stands) (c .is)
         where
@@ -267,7 +274,7 @@ module _ (records : List ℕ) (shapes : List Float) (cells : List ℕ) (w : Wind
           at p i (near y b) n = go (overlap o swept) refl
             where
               go : (t : Bool) → overlap o swept ≡ t → List·Memᴰ o bs ⊎ Aside (areaOf s) o
-              go true e = inl (collected p o n (in-range w swept (areaOf s) (area m d h s) p o i y b (subst T (sym e) tt)) e)
+              go true e = inl (collected cap swept bs C p o n (in-range w swept (areaOf s) (area m d h s) p o i y b (subst T (sym e) tt)) e)
               go false e =
                   let k = box-known b in
                   inr (aside (areaOf s) o (k .box) (k .on) (λ v. subst T e (turned swept o (overlap-from swept o (areaOf s) (k .box) (area-on (area m d h s)) (k .on) v))))
@@ -284,8 +291,8 @@ module _ (records : List ℕ) (shapes : List Float) (cells : List ℕ) (w : Wind
       through : T (isFreeIn records shapes cells w m) → (ground : Bool) → Demand3 (IsSettled records shapes cells w) (keepsStep bs m d h ground) m d (moveOver bs m d h ground)
       through t =
           let k = all-known bs known in
-          from-start (IsSettled records shapes cells w) bs (k .boxes) (k .on) (k .solid) m d h s back seen
-          (free-all m bs (λ o n. start-clear m (boxOf (s .box)) (start-area s) t o (back o n)))
+          from-start (IsSettled records shapes cells w) bs (k .boxes) (k .on) (k .solid) m d h s (back cap swept bs C) seen
+          (free-all m bs (λ o n. start-clear m (boxOf (s .box)) (start-area s) t o (back cap swept bs C o n)))
 
 -- ---- a move that is not refused
 abbrev answerTo : ℕ → Bool → Bool → Bool → Ask (List Aabb) → Aabb → Vec3 → Float → Bool → MoveAnswer
@@ -326,23 +333,46 @@ neither first then e = go (eqb first 0) (eqb→eq first 0) (λ z. eq→eqb {a = 
     go true f g e = record { one = f tt; two = e }
     go false f g e = absurd (g e)
 
-pub demand3-window : WindowDemand
-unfolding moveEntry moveAabb directRefusal lentRefusal windowOnGrid keepsStepIn
-demand3-window cap records shapes cells w m d h ground t e =
+pub record TakenThrough (cap : ℕ) (records : List ℕ) (shapes : List Float) (cells : List ℕ) (w : Window) (m : Aabb) (d : Vec3) (h : Float) (ground : Bool) : Type 0 where
+  pub window : windowFits cells w ≡ true
+  pub step : T (isStep h)
+  pub box : T (isBox m)
+  pub delta : T (isDelta d)
+  pub boxes : List Aabb
+  pub collects : collectBlockBoxes (capOf cap) (lookAt cells w) records shapes (sweptArea m d h) ≡ found boxes
+  pub result : moveEntry cap records shapes cells w m d h ground .result ≡ moveOver boxes m d h ground
+
+pub taken-through : (cap : ℕ) (records : List ℕ) (shapes : List Float) (cells : List ℕ) (w : Window) (m : Aabb) (d : Vec3) (h : Float) (ground : Bool)
+    → moveEntry cap records shapes cells w m d h ground .refusal ≡ 0 → TakenThrough cap records shapes cells w m d h ground
+unfolding moveEntry moveAabb directRefusal lentRefusal
+taken-through cap records shapes cells w m d h ground e =
     let c = collectBlockBoxes (capOf cap) (lookAt cells w) records shapes (sweptArea m d h) in
     let l = directRefusal records shapes cells w in
     let a = accepted l (not (eqb l 0)) (not (isCap cap && isStep h)) (not (isBox m && isDelta d)) c m d h ground (λ t z. T-not (eqb l 0) t (eq→eqb {a = l} {b = 0} z))
     (collect-refuses (capOf cap) cells w records shapes (sweptArea m d h) .only) e in
-    let bs = a .boxes in
     let lent = neither (lentRefusal records shapes cells w) (choose (isRegistered records (w .air)) 0 3) (eqb→eq l 0 (no-not (eqb l 0) (a .lent))) in
-    let W = N.accepted cells w (neither (tableRefusal records shapes) (windowRefusal cells w) (lent .one) .two) in
     let bd = no-not (isBox m && isDelta d) (a .four) in
+    record {
+      window = N.accepted cells w (neither (tableRefusal records shapes) (windowRefusal cells w) (lent .one) .two);
+      step = and-r (isCap cap) (isStep h) (no-not (isCap cap && isStep h) (a .three));
+      box = and-l (isBox m) (isDelta d) bd;
+      delta = and-r (isBox m) (isDelta d) bd;
+      boxes = a .boxes;
+      collects = a .collects;
+      result = a .result;
+    }
+
+pub demand3-window : WindowDemand
+unfolding windowOnGrid keepsStepIn
+demand3-window cap records shapes cells w m d h ground t e =
+    let a = taken-through cap records shapes cells w m d h ground e in
+    let bs = a .boxes in
     let t1 = and-r (isProper m) (shapesOnGrid records shapes cells w && (vecOnGrid d && (onGrid h && isFreeIn records shapes cells w m))) t in
     let t2 = and-r (shapesOnGrid records shapes cells w) (vecOnGrid d && (onGrid h && isFreeIn records shapes cells w m)) t1 in
     let t3 = and-r (vecOnGrid d) (onGrid h && isFreeIn records shapes cells w m) t2 in
-    let s : Start m d h = start m d h (and-l (isBox m) (isDelta d) bd) (and-l (isProper m) (shapesOnGrid records shapes cells w && (vecOnGrid d && (onGrid h && isFreeIn records shapes cells w m))) t)
-    (and-r (isBox m) (isDelta d) bd) (and-l (vecOnGrid d) (onGrid h && isFreeIn records shapes cells w m) t2) (and-r (isCap cap) (isStep h) (no-not (isCap cap && isStep h) (a .three))) (and-l (onGrid h) (isFreeIn records shapes cells w m) t3) in
-    let r = through records shapes cells w W (and-l (shapesOnGrid records shapes cells w) (vecOnGrid d && (onGrid h && isFreeIn records shapes cells w m)) t1) (capOf cap) m d h s bs (a .collects) (and-r (onGrid h) (isFreeIn records shapes cells w m) t3) ground in
-    let k : keepsAmong c m d h ground ≡ keepsStep bs m d h ground = ap (λ (x : Ask (List Aabb)). keepsAmong x m d h ground) (a .collects) in
-    subst (λ (q : MoveResult). Demand3 (IsSettled records shapes cells w) (keepsAmong c m d h ground) m d q) (sym (a .result))
+    let s : Start m d h = start m d h (a .box) (and-l (isProper m) (shapesOnGrid records shapes cells w && (vecOnGrid d && (onGrid h && isFreeIn records shapes cells w m))) t)
+    (a .delta) (and-l (vecOnGrid d) (onGrid h && isFreeIn records shapes cells w m) t2) (a .step) (and-l (onGrid h) (isFreeIn records shapes cells w m) t3) in
+    let r = through records shapes cells w (a .window) (and-l (shapesOnGrid records shapes cells w) (vecOnGrid d && (onGrid h && isFreeIn records shapes cells w m)) t1) (capOf cap) m d h s bs (a .collects) (and-r (onGrid h) (isFreeIn records shapes cells w m) t3) ground in
+    let k = ap (λ (x : Ask (List Aabb)). keepsAmong x m d h ground) (a .collects) in
+    subst (λ (q : MoveResult). Demand3 (IsSettled records shapes cells w) (keepsStepIn cap records shapes cells w m d h ground) m d q) (sym (a .result))
     (subst (λ (q : Bool). Demand3 (IsSettled records shapes cells w) q m d (moveOver bs m d h ground)) (sym k) r)

@@ -125,15 +125,15 @@ isInCell b =
     (le zero64 (b .min .x) && (le zero64 (b .min .y) && le zero64 (b .min .z)))
     && (le (b .max .x) one64 && (le (b .max .y) cellAndHalf && le (b .max .z) one64))
 
--- every box of a shape
-unfoldable pub shapeOnGrid : List Float → Bool
-shapeOnGrid shape = every (boxCount shape) (λ k. isProper (toAabb (boxAt shape k)) && isInCell (toAabb (boxAt shape k)))
+-- every box of a shape passes a test
+unfoldable pub shapePasses : (Aabb → Bool) → List Float → Bool
+shapePasses test shape = every (boxCount shape) (λ k. test (toAabb (boxAt shape k)))
 
 -- what a cell comes to, beside its neighbours: an unloaded one is a full cube, and one that the look-up does not settle has no shape
-abbrev pub settledOnGrid : List Float → Ask CellShape → Bool
-settledOnGrid shapes (refused k) = true
-settledOnGrid shapes (found cube) = true
-settledOnGrid shapes (found (ofState first count)) = shapeOnGrid (boxesAt shapes first count)
+abbrev pub settledPasses : (Aabb → Bool) → List Float → Ask CellShape → Bool
+settledPasses test shapes (refused k) = true
+settledPasses test shapes (found cube) = true
+settledPasses test shapes (found (ofState first count)) = shapePasses test (boxesAt shapes first count)
 
 -- a test of the cell of every column of the window at one height
 abbrev pub cellFrom : Window → ℕ → ℤ → ℕ → Pos
@@ -159,8 +159,11 @@ everyHeight w test =
     every (w .sizes .y) (λ y. everyColumn w test (w .origin .y +ℤ pos y))
     && (everyColumn w test (aboveWorld w) && (everyColumn w test (belowWorld w) && everyColumn w test (deepBelow w)))
 
+abbrev pub shapesPass : (Aabb → Bool) → List ℕ → List Float → List ℕ → Window → Bool
+shapesPass test records shapes cells w = everyHeight w (λ p. settledPasses test shapes (cellShape (lookAt cells w) records p))
+
 abbrev pub shapesOnGrid : List ℕ → List Float → List ℕ → Window → Bool
-shapesOnGrid records shapes cells w = everyHeight w (λ p. settledOnGrid shapes (cellShape (lookAt cells w) records p))
+shapesOnGrid records shapes cells w = shapesPass (λ b. isProper b && isInCell b) records shapes cells w
 
 -- a test of every cell of a range
 unfoldable pub everyPlace : Range → (Pos → Bool) → Bool

@@ -1,0 +1,2 @@
+-- The premises of `off-grid-window` are not empty.
+pub mod Beside

@@ -1,0 +1,2 @@
+-- A body beside a fence.
+pub mod Scene

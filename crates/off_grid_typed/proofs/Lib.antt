@@ -1,0 +1,2 @@
+-- what lies past the end of what is lent
+pub mod Past

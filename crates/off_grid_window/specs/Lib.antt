@@ -1,0 +1,2 @@
+-- Change request Thirteen through a window.
+pub mod Demand
