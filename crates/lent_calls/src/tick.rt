@@ -26,25 +26,7 @@ pub fn step_lent(
     short_of(lent::check_lent(records, shapes, cells, w), early)
 }
 
-// The same over tables and a window that were checked before.
-pub fn checked_lent(
-    records: &[u32], shapes: &[f32], cells: &[u32], w: Window, numbers: &[f64], words: &[u32], age: u64, out: &mut [f64],
-) -> u32
-    ensures { λ r. ⌜ r ≡ checkedAt (now (records .entry)) (now (shapes .entry)) (now (cells .entry)) w (now (numbers .entry)) (now (words .entry)) age (length (now (out .entry))) .refusal ⌝ }
-    ensures { λ _. ⌜ now (out .exit) ≡ answerWritten (now (out .entry)) (checkedAt (now (records .entry)) (now (shapes .entry)) (now (cells .entry)) w (now (numbers .entry)) (now (words .entry)) age (length (now (out .entry)))) ⌝ }
-{
-    if whole_body(numbers, words, out.len()) {
-        let rules = bodies::rules_from(numbers, words);
-        let body = bodies::body_from(numbers, words);
-        let given = bodies::motion_from(numbers, words);
-        let a = view::checked_window(records, shapes, cells, w, rules, body, given, age);
-        return answer_into(out, a);
-    }
-    let early = bodies::body_refusal(records, numbers, words);
-    short_of(0, early)
-}
-
-// The step over a window with a summary of the body's air state: 11 and 13 after 4.
+// The same over a window with a summary of the body's air state: 11 and 13 after 4.
 pub fn summed_lent(
     records: &[u32], shapes: &[f32], cells: &[u32], w: Window, numbers: &[f64], words: &[u32], age: u64, out: &mut [f64],
 ) -> u32
@@ -62,4 +44,22 @@ pub fn summed_lent(
     let first = lent::check_lent(records, shapes, plain, w);
     let early = bodies::body_refusal(records, numbers, words);
     short_of(first, early)
+}
+
+// The step over tables and a window that were checked before.
+pub fn checked_lent(
+    records: &[u32], shapes: &[f32], cells: &[u32], w: Window, numbers: &[f64], words: &[u32], age: u64, out: &mut [f64],
+) -> u32
+    ensures { λ r. ⌜ r ≡ checkedAt (now (records .entry)) (now (shapes .entry)) (now (cells .entry)) w (now (numbers .entry)) (now (words .entry)) age (length (now (out .entry))) .refusal ⌝ }
+    ensures { λ _. ⌜ now (out .exit) ≡ answerWritten (now (out .entry)) (checkedAt (now (records .entry)) (now (shapes .entry)) (now (cells .entry)) w (now (numbers .entry)) (now (words .entry)) age (length (now (out .entry)))) ⌝ }
+{
+    if whole_body(numbers, words, out.len()) {
+        let rules = bodies::rules_from(numbers, words);
+        let body = bodies::body_from(numbers, words);
+        let given = bodies::motion_from(numbers, words);
+        let a = view::checked_window(records, shapes, cells, w, rules, body, given, age);
+        return answer_into(out, a);
+    }
+    let early = bodies::body_refusal(records, numbers, words);
+    short_of(0, early)
 }
