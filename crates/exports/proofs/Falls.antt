@@ -18,9 +18,9 @@ use Rattle.summary.specs.Calls.{plain, summed}
 use Rattle.window.specs.Numbers.{withAir}
 use Rattle.ticks.specs.declared.Tick.{Tick}
 use Rattle.step.specs.Answers.{stepAnswer}
-use Rattle.falls.specs.declared.Fall.{Fall}
+use Rattle.fall_rule.specs.declared.Fall.{Fall}
 use Rattle.falls.specs.declared.FallingAnswer.{FallingAnswer}
-use Rattle.falls.specs.Rule.{fallFits}
+use Rattle.fall_rule.specs.Rule.{fallFits}
 use Rattle.falls.specs.Answers.{withFall, fallingEntry, fallingSummed}
 use Rattle.lent_steps.specs.Falling.{fallingPlaces, fallingWritten}
 use Rattle.exports.specs.Room.{shortOf}

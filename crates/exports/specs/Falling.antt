@@ -12,9 +12,9 @@ use Rattle.base.specs.Ask.{Ask}
 use Rattle.summary.specs.Calls.{plain}
 use Rattle.ticks.specs.declared.Tick.{Tick}
 use Rattle.step.specs.Answers.{stepAnswer}
-use Rattle.falls.specs.declared.Fall.{Fall}
+use Rattle.fall_rule.specs.declared.Fall.{Fall}
 use Rattle.falls.specs.declared.FallingAnswer.{FallingAnswer}
-use Rattle.falls.specs.Rule.{fallFits}
+use Rattle.fall_rule.specs.Rule.{fallFits}
 use Rattle.falls.specs.Answers.{withFall}
 use Rattle.lent_steps.specs.Falling.{fallingPlaces}
 use Rattle.exports.specs.Room.{roomy}

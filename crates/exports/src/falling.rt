@@ -1,11 +1,11 @@
 // The step with a fall record, in lent numbers.
 use crate::room::short_of;
 use bodies::body_refusal;
-use falls::Fall;
+use fall_rule::Fall;
 ghost use mathlib.Core.Path.{_≡_};
 ghost use lib.ListN.{length};
 ghost use Rattle.window.specs.Numbers.{windowOf};
-ghost use Rattle.falls.specs.Rule.{fallOf};
+ghost use Rattle.fall_rule.specs.Rule.{fallOf};
 ghost use Rattle.lent_steps.specs.Falling.{fallingWritten};
 ghost use Rattle.exports.specs.Falling.{wholeFalling, fallingRefusal, fallingAt};
 
@@ -19,7 +19,7 @@ pub(crate) fn whole_falling(numbers: &[f64], words: &[u32], places: usize) -> bo
 pub(crate) fn falling_refusal(records: &[u32], numbers: &[f64], words: &[u32], fall: Fall) -> u32
     ensures { λ r. ⌜ r ≡ fallingRefusal (now (records .entry)) (now (numbers .entry)) (now (words .entry)) fall ⌝ }
 {
-    if falls::fall_fits(fall) {
+    if fall_rule::fall_fits(fall) {
         return body_refusal(records, numbers, words);
     }
     3

@@ -19,9 +19,9 @@ use Rattle.lent.specs.Lent.{unless, lentRefusal}
 use Rattle.bodies.specs.declared.MotionNumbers.{MotionNumbers}
 use Rattle.ticks.specs.declared.Tick.{Tick}
 use Rattle.step.specs.Answers.{stepAnswer, pastAsked}
-use Rattle.falls.specs.declared.Fall.{Fall}
+use Rattle.fall_rule.specs.declared.Fall.{Fall}
 use Rattle.falls.specs.declared.FallingAnswer.{FallingAnswer}
-use Rattle.falls.specs.Rule.{fallFits}
+use Rattle.fall_rule.specs.Rule.{fallFits}
 use Rattle.falls.specs.Answers.{withFall, fallingChecked, fallingEntry, HandedBack}
 use Rattle.falls.proofs.Laws.{checked-alike}
 use Rattle.midnight.specs.declared.WindowRow.{WindowRow}

@@ -25,7 +25,7 @@ use Rattle.ticks.specs.declared.Tick.{Tick}
 use Rattle.step.specs.Answers.{stepAnswer, checkedAsked, fitting, summedAsked}
 use Rattle.step.proofs.Summed.{past-plain}
 use Rattle.falls.specs.declared.FallingAnswer.{FallingAnswer}
-use Rattle.falls.specs.Rule.{fallFits}
+use Rattle.fall_rule.specs.Rule.{fallFits}
 use Rattle.falls.specs.Answers.{withFall, fallingChecked, fallingEntry, fallingSummed}
 use Rattle.falls.proofs.Laws.{summed-alike}
 use Rattle.midnight.specs.Rows.{Row, ageIn, givenIn, bodyIn, rulesIn, fallIn}

@@ -7,7 +7,7 @@ use lib.Ieee.{Float}
 use borrow.Author.Tests.{eq-eqb, ne-eqb}
 use Rattle.base.specs.Choose.{choose}
 use Rattle.bodies.specs.Limits.{numberRefusal}
-use Rattle.falls.specs.Rule.{fallFits}
+use Rattle.fall_rule.specs.Rule.{fallFits}
 use Rattle.midnight.specs.declared.WindowRow.{WindowRow}
 use Rattle.midnight.specs.Rows.{Row, givenIn, bodyIn, rulesIn, fallIn}
 use Rattle.midnight.specs.Answers.{cellsIn, lastIn, refusedBody, checkedStep, lateBody, wrongStep}

@@ -14,7 +14,7 @@ use Rattle.groups.specs.Summary.{hasSummary, summaryRefusal}
 use Rattle.summary.specs.Calls.{plain}
 use Rattle.bodies.specs.Limits.{numberRefusal}
 use Rattle.falls.specs.declared.FallingAnswer.{FallingAnswer}
-use Rattle.falls.specs.Rule.{fallFits}
+use Rattle.fall_rule.specs.Rule.{fallFits}
 use Rattle.falls.specs.Answers.{refusedFalling, fallingChecked, fallingEntry}
 use Rattle.midnight.specs.declared.WindowRow.{WindowRow}
 use Rattle.midnight.specs.Rows.{Row, rowOf, windowWidth, windowAt, isWhole, namedIn, ageIn, givenIn, bodyIn, rulesIn, fallIn}

@@ -15,9 +15,9 @@ use Rattle.bodies.specs.Body.{withCap}
 use Rattle.bodies.specs.Numbers.{numberAt, motionFrom, bodyFrom, rulesFrom}
 use Rattle.lent_words.specs.Words.{wideOf, windowFrom}
 use Rattle.lent_steps.specs.Falling.{fallingNumbers}
-use Rattle.falls.specs.declared.Fall.{Fall}
+use Rattle.fall_rule.specs.declared.Fall.{Fall}
 use Rattle.falls.specs.declared.FallingAnswer.{FallingAnswer}
-use Rattle.falls.specs.Rule.{fallOf}
+use Rattle.fall_rule.specs.Rule.{fallOf}
 use Rattle.midnight.specs.declared.WindowRow.{WindowRow}
 
 -- row i of rows so wide: what there is of it, where it is not there whole

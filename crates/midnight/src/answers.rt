@@ -14,7 +14,7 @@ use crate::windows::last_in;
 use crate::windows::window_at;
 use bodies::MotionNumbers;
 use bodies::Rules;
-use falls::Fall;
+use fall_rule::Fall;
 use falls::FallingAnswer;
 use lent_numbers::put;
 use lent_steps::float_of;
@@ -27,7 +27,7 @@ ghost use Rattle.base.specs.Loop.{stored};
 ghost use Rattle.tables.specs.Tables.{wordAt};
 ghost use Rattle.bodies.specs.Numbers.{numberAt};
 ghost use Rattle.lent_words.specs.Words.{wideOf};
-ghost use Rattle.falls.specs.Rule.{fallOf};
+ghost use Rattle.fall_rule.specs.Rule.{fallOf};
 ghost use Rattle.midnight.specs.Rows.{rowWith, isWhole, capIn, givenIn, rulesIn, answerNumbers};
 ghost use Rattle.midnight.specs.Answers.{lentWith, refusedBody, stepWords, checkedStep, lateBody, wrongStep, answerBy};
 ghost use Rattle.midnight.specs.Run.{rowWritten};
@@ -147,7 +147,7 @@ fn late_body(older: bool, records: &[u32], numbers: &[f64], words: &[u32]) -> Fa
     ensures { λ r. ⌜ r ≡ lateBody (now (records .entry)) (rowWith older (now (numbers .entry)) (now (words .entry))) ⌝ }
 {
     let fall = fall_in(numbers);
-    if falls::fall_fits(fall) {
+    if fall_rule::fall_fits(fall) {
         let last = scene_words(words);
         let rules = rules_in(older, numbers, words);
         let body = bodies::body_from(numbers, last);

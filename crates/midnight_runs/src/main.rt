@@ -4,7 +4,7 @@
 mod rows;
 mod two;
 
-use falls::Fall;
+use fall_rule::Fall;
 use falls::FallingAnswer;
 use rows::fill_numbers;
 use rows::fill_words;

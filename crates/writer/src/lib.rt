@@ -1,7 +1,4 @@
-// Writes a scene into a lent buffer: the blocks of document 01, by the table of parts and the places that the reader goes by. words.rt has the words of
-// the parts that are not lent as words.
-mod words;
-
+// Writes a scene into a lent buffer: the blocks of document 01, by the table of parts and the places that the reader goes by.
 use files::Counted;
 use files::Counts;
 use window::Window;
@@ -79,7 +76,7 @@ fn put_scene(
     requires { ⌜ (blocksFor n ≤ 128) × (blocksFor n * 512 ≤ length (now out)) ⌝ }
     ensures { λ _. ⌜ now (out .exit) ≡ stored (now (out .entry)) 0 (bytesBy (contentsOf (now (records .entry)) (now (shapes .entry)) (now (cells .entry)) w (now (numbers .entry)) (now (words .entry)) age) n) ⌝ }
 {
-    let body = words::body_words(numbers, words, age, n);
+    let body = body_words::body_words(numbers, words, age, n);
     let place = lent_words::window_words(w);
     part_writer::put_words(out, blocks::body_part(), &body);
     part_writer::put_words(out, blocks::record_part(n.states), records);

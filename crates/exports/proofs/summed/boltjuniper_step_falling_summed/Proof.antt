@@ -4,7 +4,7 @@ use mir.Syntax.{w32}
 use mir.ValLaws.{toZ-ofZ}
 use lib.ListN.{length}
 use Rattle.window.specs.Numbers.{windowOf}
-use Rattle.falls.specs.Rule.{fallOf}
+use Rattle.fall_rule.specs.Rule.{fallOf}
 use Rattle.exports.proofs.Falls.{summed-whole, short-falling}
 use borrow.Author.Needs.{needs}
 use Rattle.exports.proofs.summed.boltjuniper_step_falling_summed.Statement.{statement}
