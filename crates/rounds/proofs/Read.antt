@@ -30,7 +30,7 @@ use Rattle.base.proofs.Listed.{listed-length, listed-from}
 use Rattle.part_writer.proofs.Parts.{fits-holds, holds-next, part-same}
 use Rattle.writer.specs.Contents.{countsFor, isAbsent, writtenNumber}
 use Rattle.writer.specs.Written.{halfOf, bodyWordOf, bytesBy, sceneBytes, sceneBlocks, roomFor, roomRefusal, refusalOf, sceneRefusal, writtenBy, answerBy}
-use Rattle.writer.proofs.Puts.{room-enough}
+use Rattle.scene_room.proofs.Rooms.{room-enough}
 use Rattle.rounds.specs.Rounds.{ComesOut, ReadThenWritten}
 use Rattle.rounds.proofs.Passed.{Passed, passed}
 use Rattle.rounds.proofs.Known.{known, number-known, shape-known}

@@ -2,7 +2,7 @@
 use mathlib.Core.List.{List, _++_}
 use mathlib.Core.Path.{_≡_}
 use Prim.Native.Nat.{ℕ, _*_, _<_}
-use lib.Dec.{eqb, leb}
+use lib.Dec.{eqb}
 use lib.ListN.{length}
 use lib.Ieee.{Float}
 use Rattle.base.specs.Choose.{choose}
@@ -23,6 +23,7 @@ use Rattle.writer.specs.declared.Written.{Written}
 use Rattle.files.specs.Contents.{Contents}
 use Rattle.writer.specs.Contents.{countsBy, countsFor}
 unfoldable pub use Rattle.body_words.specs.Words.{halfOf, bodyWordOf}
+unfoldable pub use Rattle.scene_room.specs.Room.{roomFor}
 
 -- ---- the scene: "Kinds in order: one 1 (body), 2, 3, one 4, 5", by the table of parts that the reader goes by
 
@@ -53,10 +54,7 @@ contentsRefusal records shapes cells w numbers words = orElse (lentRefusal recor
 abbrev pub refusalOf : Contents → ℕ
 refusalOf c = contentsRefusal (c .records) (c .shapes) (c .cells) (c .window) (c .numbers) (c .words)
 
--- 12, then 11, or 0: for so many blocks, and a buffer of this size
-unfoldable pub roomFor : ℕ → ℕ → ℕ
-roomFor blocks size = choose (leb blocks 128) (choose (leb (blocks * 512) size) 0 11) 12
-
+-- 12, then 11, or 0
 abbrev pub roomRefusal : Contents → ℕ → ℕ
 roomRefusal c size = roomFor (sceneBlocks c) size
 

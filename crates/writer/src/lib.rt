@@ -9,7 +9,7 @@ ghost use Rattle.base.specs.Loop.{stored};
 ghost use Rattle.files.specs.Files.{blocksFor};
 ghost use Rattle.files.specs.Contents.{contentsOf};
 ghost use Rattle.writer.specs.Contents.{countsBy};
-ghost use Rattle.writer.specs.Written.{countedFor, bytesBy, contentsRefusal, roomFor, writtenChecked, checkedAnswer, writtenScene, sceneAnswer};
+ghost use Rattle.writer.specs.Written.{countedFor, bytesBy, contentsRefusal, writtenChecked, checkedAnswer, writtenScene, sceneAnswer};
 
 // What a recorder is handed: refusal 0 and how many bytes the scene has; or a refusal, and 0.
 pub struct Written {
@@ -56,19 +56,6 @@ fn counts_for(records: &[u32], shapes: &[f32], cells: &[u32]) -> Counted
     Counted::Unfit
 }
 
-// 12, then 11, or 0.
-fn room_for(blocks: usize, size: usize) -> u32
-    ensures { λ r. ⌜ r ≡ roomFor blocks size ⌝ }
-{
-    if blocks <= 128 {
-        if blocks * 512 <= size {
-            return 0;
-        }
-        return 11;
-    }
-    12
-}
-
 // The parts, one behind the other.
 fn put_scene(
     records: &[u32], shapes: &[f32], cells: &[u32], w: Window, numbers: &[f64], words: &[u32], age: u64, n: Counts, out: &mut [u8],
@@ -99,7 +86,7 @@ pub fn write_checked(
         },
         Counted::Are(n) => {
             let blocks = files::blocks_for(n);
-            let refusal = room_for(blocks, out.len());
+            let refusal = scene_room::room_for(blocks, out.len());
             if refusal != 0 {
                 return Written {
                     refusal,

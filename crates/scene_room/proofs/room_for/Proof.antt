@@ -1,10 +1,10 @@
--- `writer::room_for` meets its contract. Assumes nothing.
+-- `scene_room::room_for` meets its contract. Assumes nothing.
 use borrow.Author.Tests.{le-leb, lt-leb}
 use Rattle.base.specs.Choose.{choose}
-use Rattle.writer.specs.Written.{roomFor}
+use Rattle.scene_room.specs.Room.{roomFor}
 use borrow.Author.Needs.{needs}
-use Rattle.writer.proofs.room_for.Statement.{statement}
-use Rattle.writer.proofs.room_for.Tie as tie
+use Rattle.scene_room.proofs.room_for.Statement.{statement}
+use Rattle.scene_room.proofs.room_for.Tie as tie
 
 mul-if2 : tie.Need-mul-if2
 mul-if2 c = search needs
