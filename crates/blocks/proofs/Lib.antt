@@ -1,3 +1,2 @@
 -- Laws of this crate's definitions, on plain values.
 pub mod Parts
-pub mod Words

@@ -1,70 +1,14 @@
--- How a scene file is laid out: words, blocks, and the parts that the blocks are of. Document 01's and 02's words stand in quotes.
-use mathlib.Core.Bool.{Bool, true, _&&_, _||_}
-use mathlib.Core.List.{List, []}
-use Prim.Native.Nat.{ℕ, zero, suc, _+_, _*_, _/_, _%_}
+-- How a scene file is laid out: the parts that its blocks are of. Document 01's and 02's words stand in quotes.
+use mathlib.Core.Bool.{Bool}
+use mathlib.Core.List.{List}
+use Prim.Native.Nat.{ℕ, _+_, _*_, _/_, _%_}
 use lib.Dec.{eqb, ltb}
-use lib.ListN.{length, getD, take, drop}
 use Rattle.base.specs.Choose.{choose}
 use Rattle.base.specs.Every.{every}
-use Rattle.suffixes.specs.Bytes.{bytes, equal}
 use Rattle.blocks.specs.declared.Part.{Part}
-
--- ---- blocks: "blocks of 512 bytes, little-endian words"
-
--- block b of a file; nothing where it is not there whole
-unfoldable pub blockOf : List ℕ → ℕ → List ℕ
-blockOf file b = choose (ltb b (length file / 512)) (take 512 (drop (b * 512) file)) []
-
--- word k of a block; a byte that is not there is 0
-unfoldable pub fileWord : List ℕ → ℕ → ℕ
-fileWord block k =
-    getD block (k * 4) 0 + getD block (k * 4 + 1) 0 * 256 + getD block (k * 4 + 2) 0 * 65536 + getD block (k * 4 + 3) 0 * 16777216
-
--- There are two rules. By the first "Word 0 is the four bytes 53 43 4E 31" and word 126 is zero; by the second "The mark becomes 53 43 4E 32" and
--- "Word 126 becomes the second check". All else is the same. `second` says that it is the second.
-abbrev pub oldMark : List ℕ
-oldMark = bytes "SCN1"
-
-abbrev pub newMark : List ℕ
-newMark = bytes "SCN2"
-
-unfoldable pub marked : Bool → List ℕ → Bool
-marked second block = equal (take 4 block) (choose second newMark oldMark)
-
--- "a file whose first mark is the old one is read by the old rule"
-unfoldable pub isSecond : List ℕ → Bool
-isSecond file = marked true (blockOf file 0)
-
--- f 0, f 1 and so on, as many as the number says, added up
-unfoldable pub sumOf : (ℕ → ℕ) → ℕ → ℕ
-sumOf f zero = 0
-sumOf f (suc n) = sumOf f n + f n
-
--- "the check: the sum of words 0 to 126, wrapping at 2^32"
-unfoldable pub checkOf : List ℕ → ℕ
-checkOf block = sumOf (fileWord block) 127 % 4294967296
-
--- "the second check: the sum over words 0 to 125 of (index + 1) times the word, wrapping at 2^32"
-unfoldable pub secondOf : List ℕ → ℕ
-secondOf block = sumOf (λ k. (k + 1) * fileWord block k) 126 % 4294967296
-
--- what word 126 is to be
-unfoldable pub word126 : Bool → List ℕ → ℕ
-word126 second block = choose second (secondOf block) 0
-
--- "3 to 125 payload" and "unused words zero": each word from 3 to 125 is one of those in use, or zero
-unfoldable pub restZero : List ℕ → ℕ → Bool
-restZero block used = every 123 (λ i. ltb i used || eqb (fileWord block (3 + i)) 0)
-
--- "word 1 the kind; word 2 the block's number from 0", and "127 the check"
-unfoldable pub blockFits : Bool → List ℕ → ℕ → ℕ → ℕ → Bool
-blockFits second block number kind used =
-    marked second block
-    && eqb (fileWord block 1) kind
-    && eqb (fileWord block 2) number
-    && restZero block used
-    && eqb (fileWord block 126) (word126 second block)
-    && eqb (fileWord block 127) (checkOf block)
+pub use Rattle.block_checks.specs.Checks.{oldMark, newMark}
+unfoldable pub use Rattle.block_checks.specs.Checks.{fileWord, marked, sumOf, checkOf, secondOf, word126}
+unfoldable pub use Rattle.block_rules.specs.Rules.{blockOf, isSecond, restZero, blockFits}
 
 -- ---- parts: the blocks of one kind, one after the other
 

@@ -12,7 +12,7 @@ use Rattle.base.specs.Choose.{choose}
 use Rattle.base.proofs.Every.{both}
 use Rattle.suffixes.proofs.Texts.{equal-same}
 use Rattle.blocks.specs.Blocks.{oldMark, newMark, fileWord, marked, secondOf, word126, checkOf, restZero, blockFits}
-use Rattle.blocks.proofs.Words.{first-word}
+use Rattle.block_checks.proofs.Words.{first-word}
 use Rattle.exchange.specs.Exchange.{apart, Among, Exchanged}
 use Rattle.exchange.proofs.Checks.{agree}
 

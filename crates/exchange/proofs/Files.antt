@@ -9,7 +9,8 @@ use lib.ListN.{length, getD}
 use borrow.Author.Tests.{eq-eqb, ne-eqb}
 use Rattle.base.specs.Choose.{choose}
 use Rattle.blocks.specs.Blocks.{blockOf, fileWord, isSecond}
-use Rattle.blocks.proofs.Words.{word-fits, block-small, block-word}
+use Rattle.block_checks.proofs.Words.{word-fits}
+use Rattle.block_rules.proofs.Blocks.{block-small, block-word}
 use Rattle.files.specs.Files.{isScene}
 use Rattle.files.proofs.Told.{each-block}
 use Rattle.base.proofs.Listed.{listed-length, listed-from}

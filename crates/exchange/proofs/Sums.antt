@@ -5,7 +5,7 @@ use native.Mathlib.Nat.{not-suc-le-zero}
 use native.Mathlib.Decide.{decLt}
 use native.Mathlib.Omega.{arith}
 use Rattle.blocks.specs.Blocks.{sumOf}
-use Rattle.blocks.proofs.Words.{sum-same}
+use Rattle.block_checks.proofs.Words.{sum-same}
 
 module _ (f g : ℕ → ℕ) where
   one : (n i : ℕ) → i < n → ((k : ℕ) → k < n → (k ≡ i → ⊥) → g k ≡ f k) → sumOf g n + f i ≡ sumOf f n + g i

@@ -1,6 +1,2 @@
--- The definitions of what a host hands over and is handed back as lent numbers.
-pub mod Room
-pub mod Windows
-pub mod Ticks
-pub mod Falling
-pub mod Currents
+-- The one definition of the exports themselves.
+pub mod Cells

@@ -1,68 +1,21 @@
 // Currents, in lent numbers.
-use boxes::Aabb;
 use boxes::Vec3;
-use currents::AskedCurrent;
-use flow::AskedLiquid;
-use lent_numbers::put_flagged;
-use window::Window;
 ghost use mathlib.Core.Path.{_≡_};
 ghost use Rattle.boxes.specs.Boxes.{vec};
 ghost use Rattle.window.specs.Look.{lookAt};
 ghost use Rattle.window.specs.Numbers.{windowOf};
-ghost use Rattle.exports.specs.Currents.{currentAt, currentRefusal, currentWritten};
-
-fn current_into(
-    records: &[u32],
-    cells: &[u32],
-    w: Window,
-    feet: Vec3,
-    width: f64,
-    height: f64,
-    out: &mut [f64],
-) -> u32
-    ensures { λ r. ⌜ r ≡ currentRefusal (currentAt (lookAt (now (cells .entry)) w) (now (records .entry)) feet width height) ⌝ }
-    ensures { λ _. ⌜ now (out .exit) ≡ currentWritten (now (out .entry)) (currentAt (lookAt (now (cells .entry)) w) (now (records .entry)) feet width height) ⌝ }
-{
-    let foot = ranges::cell_holding(feet);
-    let state = match flow::liquid_at(records, cells, w, foot) {
-        AskedLiquid::Refused(n) => return n,
-        AskedLiquid::Is(s) => s,
-    };
-    let aabb = Aabb::from_feet(feet, width, height);
-    match currents::item_current(records, cells, w, aabb, foot, state) {
-        AskedCurrent::Refused(n) => n,
-        AskedCurrent::Is(c) => {
-            put_flagged(out, c.flow, c.water);
-            0
-        }
-    }
-}
+ghost use Rattle.lent_calls.specs.Currents.{currentAt, currentRefusal, currentWritten};
 
 // What the currents add to the velocity of an item at the feet x, y, z, to be timed alone: over tables and a window that were checked before,
 // and any numbers. It writes four numbers, each where `out` has its place, and returns 0, or writes nothing and returns 5 or 7.
 #[no_mangle]
 pub extern "C" fn boltjuniper_item_current(
-    records: &[u32],
-    cells: &[u32],
-    ox: i32,
-    oy: i32,
-    oz: i32,
-    sx: u32,
-    sy: u32,
-    sz: u32,
-    lowest: i32,
-    highest: i32,
-    air: u32,
-    x: f64,
-    y: f64,
-    z: f64,
-    width: f64,
-    height: f64,
-    out: &mut [f64],
+    records: &[u32], cells: &[u32], ox: i32, oy: i32, oz: i32, sx: u32, sy: u32, sz: u32, lowest: i32, highest: i32, air: u32,
+    x: f64, y: f64, z: f64, width: f64, height: f64, out: &mut [f64],
 ) -> u32
     ensures { λ r. ⌜ r ≡ currentRefusal (currentAt (lookAt (now (cells .entry)) (windowOf ox oy oz sx sy sz lowest highest air)) (now (records .entry)) (vec x y z) width height) ⌝ }
     ensures { λ _. ⌜ now (out .exit) ≡ currentWritten (now (out .entry)) (currentAt (lookAt (now (cells .entry)) (windowOf ox oy oz sx sy sz lowest highest air)) (now (records .entry)) (vec x y z) width height) ⌝ }
 {
     let w = window::window_of(ox, oy, oz, sx, sy, sz, lowest, highest, air);
-    current_into(records, cells, w, Vec3 { x, y, z }, width, height, out)
+    lent_calls::current_into(records, cells, w, Vec3 { x, y, z }, width, height, out)
 }

@@ -1,11 +1,10 @@
-// What a host in another language links: functions on numbers and lent slices of them. Here are the order of their parameters, what is refused
-// of these, and how an answer is written; what they do stands in the crates below.
+// What a host in another language links: functions on numbers and lent slices of them. Here is the order of their parameters; what is refused of
+// these, how an answer is written, and what they do stands in the crates below.
 mod drift;
 mod falling;
 mod file;
 mod night;
 mod over;
-mod room;
 mod summed;
 mod through;
 mod tick;

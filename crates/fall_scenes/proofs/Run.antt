@@ -46,8 +46,8 @@ use Rattle.small_scenes.specs.Moves.{whole}
 use Rattle.small_scenes.specs.Palette as P
 use Rattle.small_scenes.specs.Palette.{records, shapes}
 use Rattle.small_scenes.proofs.Tables.{tables-pass}
-use Rattle.falls.specs.declared.Fall.{Fall}
-use Rattle.falls.specs.Rule.{fallOf, fresh}
+use Rattle.fall_rule.specs.declared.Fall.{Fall}
+use Rattle.fall_rule.specs.Rule.{fallOf, fresh}
 use Rattle.falls.specs.Moves.{Move, Fallen, Call, played, stepOf, movesOf}
 use Rattle.falls.specs.Samples.{hundredths, move, sample, sinceSwim, toLanding}
 use Rattle.falls.proofs.Moves.{fallen-one}

@@ -21,9 +21,9 @@ use Rattle.ticks.specs.declared.Tick.{Tick}
 use Rattle.step.specs.Answers.{stepAnswer, checkedAsked, stepEntry}
 use Rattle.step.proofs.Laws.{past-without}
 use Rattle.step.proofs.Summed.{asked-summed}
-use Rattle.falls.specs.declared.Fall.{Fall}
+use Rattle.fall_rule.specs.declared.Fall.{Fall}
 use Rattle.falls.specs.declared.FallingAnswer.{FallingAnswer}
-use Rattle.falls.specs.Rule.{fallFits}
+use Rattle.fall_rule.specs.Rule.{fallFits}
 use Rattle.falls.specs.Answers.{withFall, fallingChecked, fallingEntry, fallingSummed, HandedBack}
 
 -- a refusal hands back position, velocity, ground flag and record as given, liquid none, and no sample

@@ -1,5 +1,4 @@
--- The laws of the fall record.
-pub mod Fits
+-- The laws of the step with a fall record, and of a list of moves.
 pub mod Laws
 pub mod Moves
 pub mod Steps

@@ -9,9 +9,9 @@ use lib.Ieee.{Float}
 use lib.Ieee.Fits.{and-i, and-l, and-r}
 use Rattle.base.specs.Choose.{choose}
 use Rattle.floats.specs.Numbers.{zero64}
-use Rattle.falls.specs.declared.Fall.{Fall}
+use Rattle.fall_rule.specs.declared.Fall.{Fall}
 use Rattle.flow.specs.Liquid.{isWater}
-use Rattle.falls.specs.Rule.{wentDown, dropOf, deeper, landing, fallOf, fallBy, fresh}
+use Rattle.fall_rule.specs.Rule.{wentDown, dropOf, deeper, landing, fallOf, fallBy, fresh}
 use Rattle.falls.specs.Moves.{Move, moveOf, lands, resets, deepened, dropsOf, noneOf, Last, Since, past, all, Landed, last, never, Fallen, after, through}
 
 -- ---- a last move of a kind is there, or there is none: so every list has its moves since the last reset, and one list of them alone

@@ -5,7 +5,7 @@ use lib.Ieee.{ofBits, round, add, sub, neg, lt}
 use Rattle.base.specs.Choose.{choose}
 use Rattle.floats.specs.Numbers.{zero64}
 use Rattle.boxes.specs.Limits.{twoTo}
-use Rattle.falls.specs.Rule.{landing, fallOf, fallBy, fresh}
+use Rattle.fall_rule.specs.Rule.{landing, fallOf, fallBy, fresh}
 use Rattle.falls.specs.Moves.{moveOf, lands, resets, deepened, dropsOf, noneOf, Last, Since, past, all, Landed, last, never, Fallen, through}
 use Rattle.falls.specs.Samples.{fall, land, swim, fallAgain, sample, deep, toLanding, sinceSwim}
 use Rattle.falls.proofs.Moves.{moves-fallen, fallen-one}

@@ -4,12 +4,12 @@ use mathlib.Core.List.{List, [], _∷_}
 use mathlib.Core.Path.{_≡_, refl, sym, ap, _∙_, subst}
 use lib.Dec.{T, eqb}
 use Rattle.base.specs.Choose.{choose}
-use Rattle.falls.specs.declared.Fall.{Fall}
+use Rattle.fall_rule.specs.declared.Fall.{Fall}
 use Rattle.falls.specs.declared.FallingAnswer.{FallingAnswer}
-use Rattle.falls.specs.Rule.{fallFits, fresh}
+use Rattle.fall_rule.specs.Rule.{fallFits, fresh}
 use Rattle.falls.specs.Answers.{fallOver, withFall}
 use Rattle.falls.specs.Moves.{Fallen, after, through, Call, played, stepOf, stepMove, movesOf}
-use Rattle.falls.proofs.Fits.{fresh-fits, fits-after}
+use Rattle.fall_rule.proofs.Fits.{fresh-fits, fits-after}
 use Rattle.falls.proofs.Laws.{beside}
 use Rattle.falls.proofs.Moves.{moves-fallen}
 

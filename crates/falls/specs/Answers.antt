@@ -19,9 +19,9 @@ use Rattle.bodies.specs.Body.{isYes}
 use Rattle.ticks.specs.declared.Tick.{Tick}
 use Rattle.step.specs.declared.StepAnswer.{StepAnswer}
 use Rattle.step.specs.Answers.{stepAnswer, checkedAsked, pastAsked, summedAsked}
-use Rattle.falls.specs.declared.Fall.{Fall}
+use Rattle.fall_rule.specs.declared.Fall.{Fall}
 use Rattle.falls.specs.declared.FallingAnswer.{FallingAnswer}
-use Rattle.falls.specs.Rule.{fallAfter, fallFits}
+use Rattle.fall_rule.specs.Rule.{fallAfter, fallFits}
 
 -- the record after a step that was accepted: from the feet given to the feet answered, with the ground and the liquid that the step answers
 abbrev pub fallOver : Fall → MotionNumbers → StepAnswer → Fall

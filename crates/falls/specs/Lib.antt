@@ -1,5 +1,4 @@
--- The definitions of the fall record: its rule, the step beside it, and what a list of moves comes to.
-pub mod Rule
+-- The definitions of the step with a fall record beside it, and of what a list of moves comes to.
 pub mod Answers
 pub mod Moves
 pub mod Samples

@@ -16,9 +16,9 @@ use Rattle.bodies.specs.declared.MotionNumbers.{MotionNumbers}
 use Rattle.bodies.specs.Body.{isYes}
 use Rattle.step.specs.declared.StepAnswer.{StepAnswer}
 use Rattle.step.specs.Answers.{stepEntry}
-use Rattle.falls.specs.declared.Fall.{Fall}
+use Rattle.fall_rule.specs.declared.Fall.{Fall}
 use Rattle.falls.specs.declared.FallingAnswer.{FallingAnswer}
-use Rattle.falls.specs.Rule.{moved, wentDown, dropOf, deeper, landing, fallAfter}
+use Rattle.fall_rule.specs.Rule.{moved, wentDown, dropOf, deeper, landing, fallAfter}
 use Rattle.falls.specs.Answers.{fallingEntry}
 
 -- ---- a move: the feet's y before and after it, whether it stood on the ground, and the liquid sensed

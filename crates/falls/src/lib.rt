@@ -1,25 +1,18 @@
-// A fall record beside each body: how far it has fallen, and how far it fell to its last landing. rule.rt has the record's rule, and here is the
-// step with a record. From a fresh record, any list of such steps leaves the drops since the last reset (proofs/Steps.antt, `steps-fallen`).
-mod rule;
-
+// The step with a fall record beside the body; crates/fall_rule has the record's rule. From a fresh record, any list of such steps leaves the drops
+// since the last reset (proofs/Steps.antt, `steps-fallen`).
 use bodies::BodyNumbers;
 use bodies::MotionNumbers;
 use bodies::Rules;
 use drags::Support;
+use fall_rule::Fall;
+use fall_rule::fall_after;
+use fall_rule::fall_fits;
 use lent::check_lent;
-pub use rule::fall_after;
-pub use rule::fall_fits;
 use step::StepAnswer;
 use tables::LiquidKind;
 use window::Window;
 ghost use mathlib.Core.Path.{_≡_};
 ghost use Rattle.falls.specs.Answers.{withFall, refusedFalling, fallingChecked, fallingEntry, fallingSummed};
-
-// The falling sum, since the last reset; and the landed number, of the last landing.
-pub struct Fall {
-    pub sum: f64,
-    pub landed: f64,
-}
 
 // What a host is handed: the step's answer, and the record after it. A refused step hands the record back.
 pub struct FallingAnswer {
@@ -65,15 +58,7 @@ fn with_fall(fall: Fall, given: MotionNumbers, a: StepAnswer) -> FallingAnswer
 
 // For hosts that checked tables and window before, once for many bodies: 3 also for the record; then all as `step::step_checked` has it.
 pub fn step_falling_checked(
-    records: &[u32],
-    shapes: &[f32],
-    cells: &[u32],
-    w: Window,
-    rules: Rules,
-    body: BodyNumbers,
-    given: MotionNumbers,
-    age: u64,
-    fall: Fall,
+    records: &[u32], shapes: &[f32], cells: &[u32], w: Window, rules: Rules, body: BodyNumbers, given: MotionNumbers, age: u64, fall: Fall,
 ) -> FallingAnswer
     ensures { λ r. ⌜ r ≡ fallingChecked (now (records .entry)) (now (shapes .entry)) (now (cells .entry)) w rules body given age fall ⌝ }
 {
@@ -86,15 +71,7 @@ pub fn step_falling_checked(
 
 // For hosts: one tick of a body with its fall record, 1 and 2 before all that.
 pub fn step_falling(
-    records: &[u32],
-    shapes: &[f32],
-    cells: &[u32],
-    w: Window,
-    rules: Rules,
-    body: BodyNumbers,
-    given: MotionNumbers,
-    age: u64,
-    fall: Fall,
+    records: &[u32], shapes: &[f32], cells: &[u32], w: Window, rules: Rules, body: BodyNumbers, given: MotionNumbers, age: u64, fall: Fall,
 ) -> FallingAnswer
     ensures { λ r. ⌜ r ≡ fallingEntry (now (records .entry)) (now (shapes .entry)) (now (cells .entry)) w rules body given age fall ⌝ }
 {
@@ -107,15 +84,7 @@ pub fn step_falling(
 
 // For hosts: the same over a window with a summary behind its words, refused as `step::step_summed` refuses.
 pub fn step_falling_summed(
-    records: &[u32],
-    shapes: &[f32],
-    words: &[u32],
-    w: Window,
-    rules: Rules,
-    body: BodyNumbers,
-    given: MotionNumbers,
-    age: u64,
-    fall: Fall,
+    records: &[u32], shapes: &[f32], words: &[u32], w: Window, rules: Rules, body: BodyNumbers, given: MotionNumbers, age: u64, fall: Fall,
 ) -> FallingAnswer
     ensures { λ r. ⌜ r ≡ fallingSummed (now (records .entry)) (now (shapes .entry)) (now (words .entry)) w rules body given age fall ⌝ }
 {

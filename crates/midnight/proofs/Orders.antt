@@ -14,12 +14,13 @@ use borrow.Author.Tests.{ne-eqb}
 use Rattle.base.specs.Choose.{choose}
 use Rattle.base.specs.Loop.{listed, stored}
 use Rattle.table_check.specs.Check.{tableRefusal}
-use Rattle.midnight.specs.Rows.{Row, rowOf, rowAt, windowAt, namedIn, answerWidth, answerNumbers}
-use Rattle.midnight.specs.Answers.{Lent, singleStep, answerOf}
+use Rattle.night_rows.specs.Rows.{Row, rowOf, rowAt, windowAt, namedIn, answerWidth, answerNumbers}
+use Rattle.night_answers.specs.Answers.{Lent, singleStep, answerOf}
 use Rattle.base.proofs.Stored.{stored-first}
 use Rattle.base.proofs.Listed.{listed-length, listed-at, map-listed}
-use Rattle.midnight.specs.Run.{countRefusal, runRefusal, bodiesOf, answerRow, rowsOf, checkedWritten, runWritten, answersIn}
-use Rattle.midnight.proofs.Bodies.{Named, single}
+use Rattle.night_rows.specs.Rows.{countRefusal}
+use Rattle.midnight.specs.Run.{runRefusal, bodiesOf, answerRow, rowsOf, checkedWritten, runWritten, answersIn}
+use Rattle.night_answers.proofs.Bodies.{Named, single}
 
 -- ---- what a call that is not refused passed
 

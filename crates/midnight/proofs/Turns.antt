@@ -8,10 +8,11 @@ use lib.Ieee.{Float}
 use Rattle.base.specs.Loop.{listed, stored}
 use Rattle.base.proofs.Fill.{stored-then}
 use Rattle.falls.specs.declared.FallingAnswer.{FallingAnswer}
-use Rattle.midnight.specs.Rows.{Row, namedIn, answerWidth, answerNumbers}
-use Rattle.midnight.specs.Answers.{Lent, checkedAt, answerBy, answerOf}
+use Rattle.night_rows.specs.Rows.{Row, namedIn, answerWidth, answerNumbers}
+use Rattle.night_windows.specs.Windows.{checkedAt}
+use Rattle.night_answers.specs.Answers.{Lent, answerBy, answerOf}
 use Rattle.midnight.specs.Run.{answerRow, rowsOf}
-use Rattle.midnight.proofs.Bodies.{by-check}
+use Rattle.night_answers.proofs.Bodies.{by-check}
 
 pub rows-begin : (lent : Lent) (f : ℕ → Row) (m : ℕ) (l : List Float) → stored l (0 * answerWidth) (rowsOf lent (listed f (m - 0) 0)) ≡ stored l 0 (rowsOf lent (listed f m 0))
 rows-begin lent f m l = let e : m - 0 ≡ m = omega arith in ap (λ (k : ℕ). stored l 0 (rowsOf lent (listed f k 0))) e

@@ -1,4 +1,2 @@
--- The definitions of the midnight run: rows, one body's answer, and the call whole.
-pub mod Rows
-pub mod Answers
+-- The definitions of the midnight call whole.
 pub mod Run

@@ -4,7 +4,7 @@
 mod rows;
 mod two;
 
-use falls::Fall;
+use fall_rule::Fall;
 use falls::FallingAnswer;
 use rows::fill_numbers;
 use rows::fill_words;
@@ -226,7 +226,7 @@ fn call(records: &[u32; 80], windows_count: u32, numbers: &[f64], words: &[u32],
     let shapes = SHAPES;
     let windows = WINDOWS;
     let cells = CELLS;
-    midnight::run_older(records, &shapes, &windows, windows_count, &cells, numbers, words, bodies_count, out)
+    midnight::run(true, records, &shapes, &windows, windows_count, &cells, numbers, words, bodies_count, out)
 }
 
 fn tell_written(out: &[f64]) {

@@ -61,7 +61,7 @@ fn alone(second: bool, windows_count: u32, bodies_count: u32, half: &mut [f64]) 
     fill_numbers(&mut numbers, second);
     fill_capped(&mut words, second);
     let own = if second { words_part(&windows, 10, 50) } else { words_part(&windows, 0, 60) };
-    midnight::run(&records, &shapes, own, windows_count, &cells, &numbers, &words, bodies_count, half)
+    midnight::run(false, &records, &shapes, own, windows_count, &cells, &numbers, &words, bodies_count, half)
 }
 
 // The same in the first `h` places of a longer buffer.

@@ -18,11 +18,12 @@ use Rattle.base.proofs.Fill.{stored-then}
 use Rattle.blocks.specs.declared.Part.{Part}
 use Rattle.blocks.specs.Blocks.{blockOf, fileWord, newMark, isSecond, blockFits, perBlock, blocksOf, endOf, usedIn, partFits, partWord, bodyPart}
 use Rattle.blocks.proofs.Parts.{per-block}
-use Rattle.blocks.proofs.Words.{block-is, block-small}
+use Rattle.block_rules.proofs.Blocks.{block-is, block-small}
 use Rattle.part_writer.specs.Bytes.{joined, partBlock, partBytes, partRoom, writtenPart}
 use Rattle.base.proofs.Stored.{stored-length}
-use Rattle.part_writer.proofs.Joined.{joined-same, joined-length, joined-at, joined-cut}
-use Rattle.part_writer.proofs.Blocks.{Fit, block-same, block-length, made-used, made-marked, made-fits, marked-there, block-made}
+use Rattle.block_writer.proofs.Joined.{joined-same, joined-length, joined-at, joined-cut}
+use Rattle.block_writer.proofs.Blocks.{block-same, block-length}
+use Rattle.part_writer.proofs.Blocks.{Fit, made-used, made-marked, made-fits, marked-there, block-made}
 use Rattle.part_writer.proofs.Counts.{in-block, at-place, used-most, within, used-word}
 
 -- ---- a block of a file

@@ -15,7 +15,7 @@ use Rattle.blocks.specs.Blocks.{perBlock, usedIn}
 use Rattle.blocks.proofs.Parts.{per-block}
 use Rattle.part_writer.specs.Bytes.{blockBytes, partBlock, wordIn, bitsIn}
 use Rattle.base.proofs.Listed.{listed-from}
-use Rattle.part_writer.proofs.Blocks.{block-same}
+use Rattle.block_writer.proofs.Blocks.{block-same}
 use Rattle.part_writer.proofs.Counts.{used-most}
 
 pub bits-of-nan : (x : Float) → ne x x ≡ true → 2143289344 ≡ toBits binary32 x

@@ -1,17 +1,14 @@
--- A word is its four bytes, four bytes are a word, and each check reads what stands before it alone. Assumes nothing.
-use mathlib.Core.List.{List, [], _∷_, _++_}
+-- A word is its four bytes, four bytes are a word, and a check is a word. Assumes nothing.
+use mathlib.Core.List.{List, [], _∷_}
 use mathlib.Core.Path.{_≡_, refl, sym, ap, _∙_}
-use Prim.Native.Nat.{ℕ, zero, suc, _+_, _*_, _/_, _%_, _<_, _≤_}
+use Prim.Native.Nat.{ℕ, suc, _+_, _*_, _/_, _%_, _<_, _≤_}
 use native.Mathlib.Nat.{mod-lt}
-use native.Mathlib.Numerals.{add-one}
 use native.Mathlib.Omega.{arith}
-use lib.ListN.{length, getD, take, drop, set, List·getD-append}
-use lib.Seq.{drop-cons, getD-take, getD-drop, take-all}
-use Rattle.base.specs.Loop.{stored}
+use lib.ListN.{length, getD, take, drop}
+use lib.Seq.{drop-cons, getD-take, getD-drop}
 use Rattle.blocks.specs.Blocks.{fileWord, sumOf, checkOf, secondOf}
-use Rattle.blocks.proofs.Words.{sum-same}
-use Rattle.part_writer.specs.Bytes.{byteOf, wordBytes, bytesOf, joined}
-use Rattle.part_writer.proofs.Joined.{joined-same, joined-length, joined-at, joined-cut}
+use Rattle.part_writer.specs.Bytes.{byteOf, wordBytes, bytesOf}
+use Rattle.block_writer.proofs.Joined.{joined-same, joined-cut}
 
 -- ---- the four bytes of a word, added up as the reader does
 
@@ -89,34 +86,6 @@ unfolding fileWord
 word-bytes l b k h =
     joined-bytes _ _ _ _ (b (k * 4)) (b (k * 4 + 1)) (b (k * 4 + 2)) (b (k * 4 + 3)) ∙ sym (four-taken l (k * 4) h)
 
--- four bytes stored one by one
-pub word-put : (l : List ℕ) (i w : ℕ)
-    → set (set (set (set l i (w % 256)) (i + 1) (w / 256 % 256)) (i + 2) (w / 65536 % 256)) (i + 3) (w / 16777216 % 256) ≡ stored l i (wordBytes w)
-unfolding stored wordBytes
-word-put l i w =
-    let e : w / 1 ≡ w = omega arith in
-    let a : i + 1 + 1 ≡ i + 2 = omega arith in
-    let b : i + 2 + 1 ≡ i + 3 = omega arith in
-    rw (e, a, b)
-
-pub word-length : (w : ℕ) → length (wordBytes w) ≡ 4
-unfolding wordBytes
-word-length w = refl
-
--- ---- bytes of words
-
-pub bytes-length : (word : ℕ → ℕ) (n : ℕ) → length (bytesOf word n) ≡ n * 4
-unfolding bytesOf
-bytes-length word n = joined-length 4 (λ (k : ℕ). wordBytes (word k)) n (λ k h. word-length (word k))
-
-pub bytes-at : (word : ℕ → ℕ) (n k : ℕ) → k < n → take 4 (drop (k * 4) (bytesOf word n)) ≡ wordBytes (word k)
-unfolding bytesOf
-bytes-at word n k h = joined-at 4 (λ (k : ℕ). wordBytes (word k)) n k (λ k h. word-length (word k)) h
-
-pub bytes-same : (f g : ℕ → ℕ) (n : ℕ) → ((k : ℕ) → k < n → f k ≡ g k) → bytesOf f n ≡ bytesOf g n
-unfolding bytesOf
-bytes-same f g n e = joined-same (λ (k : ℕ). wordBytes (f k)) (λ (k : ℕ). wordBytes (g k)) n (λ k h. ap wordBytes (e k h))
-
 -- so many words of a list are the bytes that are there
 pub words-back : (l : List ℕ) → ((i : ℕ) → getD l i 0 < 256) → (n : ℕ) → n * 4 ≤ length l → take (n * 4) l ≡ bytesOf (fileWord l) n
 unfolding bytesOf
@@ -126,25 +95,9 @@ words-back l b n h =
 
 -- ---- the two checks
 
-word-before : (h t : List ℕ) (k : ℕ) → k * 4 + 4 ≤ length h → fileWord (h ++ t) k ≡ fileWord h k
-unfolding fileWord
-word-before h t k l =
-    rw (List·getD-append h t 0 (k * 4) (omega arith), List·getD-append h t 0 (k * 4 + 1) (omega arith), List·getD-append h t 0 (k * 4 + 2) (omega arith), List·getD-append h t 0 (k * 4 + 3) (omega arith))
-
-pub check-before : (h t : List ℕ) → length h ≡ 508 → checkOf (h ++ t) ≡ checkOf h
-unfolding checkOf
-check-before h t e =
-    ap (λ (s : ℕ). s % 4294967296) (sum-same (fileWord (h ++ t)) (fileWord h) 127 (λ k l. word-before h t k (omega arith)))
-
 pub check-fits : (l : List ℕ) → checkOf l < 4294967296
 unfolding checkOf
 check-fits l = mod-lt (sumOf (fileWord l) 127) (omega arith)
-
-pub second-before : (h t : List ℕ) → 504 ≤ length h → secondOf (h ++ t) ≡ secondOf h
-unfolding secondOf
-second-before h t e =
-    ap (λ (s : ℕ). s % 4294967296)
-    (sum-same (λ k. (k + 1) * fileWord (h ++ t) k) (λ k. (k + 1) * fileWord h k) 126 (λ k l. ap (λ (w : ℕ). (k + 1) * w) (word-before h t k (omega arith))))
 
 pub second-fits : (l : List ℕ) → secondOf l < 4294967296
 unfolding secondOf

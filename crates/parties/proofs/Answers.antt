@@ -12,11 +12,12 @@ use borrow.Author.Tests.{ne-eqb, le-ltb}
 use Rattle.base.specs.Choose.{choose}
 use Rattle.base.specs.Loop.{stored}
 use Rattle.table_check.specs.Check.{tableRefusal}
-use Rattle.midnight.specs.Rows.{rowOf, rowAt, windowAt, isWhole, namedIn, answerWidth, answerNumbers}
-use Rattle.midnight.specs.Answers.{refusedBody, singleStep}
-use Rattle.midnight.specs.Run.{countRefusal, runRefusal, rowsOf, checkedWritten, runWritten}
+use Rattle.night_rows.specs.Rows.{rowOf, rowAt, windowAt, isWhole, namedIn, answerWidth, answerNumbers}
+use Rattle.night_answers.specs.Answers.{refusedBody, singleStep}
+use Rattle.night_rows.specs.Rows.{countRefusal}
+use Rattle.midnight.specs.Run.{runRefusal, rowsOf, checkedWritten, runWritten}
 use Rattle.base.proofs.Listed.{listed-length}
-use Rattle.midnight.proofs.Bodies.{Named, no-window}
+use Rattle.night_answers.proofs.Bodies.{Named, no-window}
 use Rattle.midnight.proofs.Orders as midnight
 use Rattle.parties.specs.Parties.{Call, Who, partyOf, lentTo, bodiesIn, halfLength, halfOf, partyRefusal, refusalOf, partyWritten, halfAfter, callWritten}
 use Rattle.parties.proofs.Halves.{half-length, own-half}

@@ -11,9 +11,10 @@ use lib.Seq.{length-take-le, take-at, drop-at, drop-drop}
 use Rattle.base.specs.Choose.{choose}
 use Rattle.base.specs.Loop.{stored}
 use Rattle.table_check.specs.Check.{tableRefusal}
-use Rattle.midnight.specs.Rows.{Row}
-use Rattle.midnight.specs.Answers.{Lent}
-use Rattle.midnight.specs.Run.{countRefusal, checkedWritten, rowsOf}
+use Rattle.night_rows.specs.Rows.{Row}
+use Rattle.night_answers.specs.Answers.{Lent}
+use Rattle.night_rows.specs.Rows.{countRefusal}
+use Rattle.midnight.specs.Run.{checkedWritten, rowsOf}
 use Rattle.base.proofs.Stored.{stored-length}
 use Rattle.parties.specs.Parties.{Call, Who, first, second, lentTo, bodiesIn, halfLength, placeOf, halfOf, nobodys, partyWritten, halfAfter, callWritten}
 

@@ -8,7 +8,7 @@ use lib.ListN.{length}
 use lib.Ieee.{Float}
 use Rattle.base.specs.Choose.{choose}
 use Rattle.table_check.specs.Check.{tableRefusal}
-use Rattle.midnight.specs.Answers.{lentWith}
+use Rattle.night_answers.specs.Answers.{lentWith}
 use Rattle.midnight.specs.Run.{bodiesOf, answersIn}
 use Rattle.parties.specs.Parties.{Party, Call, Who, first, second, partyOf, halfOf, partyRefusal, refusalOf, callRefusals, partyWritten, halfAfter, callWritten, toldTo}
 use Rattle.parties.specs.Separation.{Agree, Separation}

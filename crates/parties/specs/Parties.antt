@@ -8,9 +8,10 @@ use lib.ListN.{length, take, drop}
 use lib.Ieee.{Float}
 use Rattle.base.specs.Choose.{choose}
 use Rattle.table_check.specs.Check.{tableRefusal}
-use Rattle.midnight.specs.Rows.{Row}
-use Rattle.midnight.specs.Answers.{Lent, lentWith}
-use Rattle.midnight.specs.Run.{countRefusal, bodiesOf, checkedWritten, answersIn}
+use Rattle.night_rows.specs.Rows.{Row}
+use Rattle.night_answers.specs.Answers.{Lent, lentWith}
+use Rattle.night_rows.specs.Rows.{countRefusal}
+use Rattle.midnight.specs.Run.{bodiesOf, checkedWritten, answersIn}
 use Rattle.parties.specs.declared.Refusals.{Refusals}
 
 -- ---- a call

@@ -38,9 +38,9 @@ use Rattle.ticks.specs.declared.Tick.{Tick}
 use Rattle.ticks.specs.Step.{tickAfter, afterMove, moveOnBy, tickBegins, senses, stepBodyBy, stepBodySensed}
 use Rattle.step.specs.declared.StepAnswer.{StepAnswer}
 use Rattle.step.specs.Answers.{stepAnswer, fitting, checkedAsked, stepEntry, summedAsked, stepSummed}
-use Rattle.falls.specs.declared.Fall.{Fall}
+use Rattle.fall_rule.specs.declared.Fall.{Fall}
 use Rattle.falls.specs.declared.FallingAnswer.{FallingAnswer}
-use Rattle.falls.specs.Rule.{fallFits}
+use Rattle.fall_rule.specs.Rule.{fallFits}
 use Rattle.falls.specs.Answers.{withFall, fallingEntry, fallingSummed}
 use Rattle.raised.specs.Raised.{Raised, Alters6}
 use Rattle.raised.proofs.Asks.{Beside, alike, before, after, told, chosen, refused-alike}

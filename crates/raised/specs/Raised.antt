@@ -20,7 +20,7 @@ use Rattle.bodies.specs.Body.{withCap}
 use Rattle.moves.specs.Answers.{collectEntry, moveEntry, moveSummed}
 use Rattle.step.specs.declared.StepAnswer.{StepAnswer}
 use Rattle.step.specs.Answers.{stepEntry, stepSummed}
-use Rattle.falls.specs.declared.Fall.{Fall}
+use Rattle.fall_rule.specs.declared.Fall.{Fall}
 use Rattle.falls.specs.declared.FallingAnswer.{FallingAnswer}
 use Rattle.falls.specs.Answers.{fallingEntry, fallingSummed}
 

@@ -1,6 +1,6 @@
 // Fall records: the rule alone, `fall SUM LANDED OLD-Y NEW-Y GROUND LIQUID`, where a record that is a 3 comes back as given; and, for each of the
 // original's scenes whose tick is not refused, `after NUMBER fall SUM LANDED`: the record after that tick, from a fresh one.
-use falls::Fall;
+use fall_rule::Fall;
 use tables::LiquidKind;
 
 fn liquid(line: &[u8]) -> LiquidKind {
@@ -25,11 +25,11 @@ pub(crate) fn run(line: &[u8]) {
     let sum = crate::text::float(line, 1);
     let landed = crate::text::float(line, 2);
     let fall = Fall { sum, landed };
-    if falls::fall_fits(fall) {
+    if fall_rule::fall_fits(fall) {
         let old = crate::text::float(line, 3);
         let new = crate::text::float(line, 4);
         let ground = crate::text::number(line, 5) == 1;
-        put_fall(falls::fall_after(fall, old, new, ground, liquid(line)));
+        put_fall(fall_rule::fall_after(fall, old, new, ground, liquid(line)));
     } else {
         crate::text::put_refusal(3);
         put_fall(fall);
@@ -52,7 +52,7 @@ fn put_after(n: u32, file: &[u8]) {
         };
         let liquid = a.liquid;
         let old = feet_y(file);
-        let fall = falls::fall_after(fresh, old, a.motion.feet.y, a.motion.ground == 1, liquid);
+        let fall = fall_rule::fall_after(fresh, old, a.motion.feet.y, a.motion.ground == 1, liquid);
         crate::text::put(b"after ");
         crate::scenes::put_label(n);
         put_fall(fall);

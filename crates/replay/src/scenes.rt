@@ -90,7 +90,7 @@ fn put_likeness(anew: &[u8], file: &[u8]) {
 // The file as the writer makes it of its contents, or its refusal.
 fn put_rewritten(file: &[u8]) {
     let mut out = file_room();
-    let a = scene::rewrite(file, &mut out);
+    let a = scene_anew::rewrite(file, &mut out);
     if a.refusal != 0 {
         put_refusal(a.refusal);
         return;

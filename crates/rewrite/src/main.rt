@@ -1,5 +1,5 @@
 // The scene on standard input, as the writer makes it of its contents, on standard output; or `refused N`. Nothing that matters is here;
-// `scene::rewrite` has the contract, and crates/rounds shows that a file which passes 8 and 1 to 4 comes out as it went in, or, where it had the old mark,
+// `scene_anew::rewrite` has the contract, and crates/rounds shows that a file which passes 8 and 1 to 4 comes out as it went in, or, where it had the old mark,
 // with the same numbers under the new one.
 ghost use mathlib.Core.Path.{_≡_};
 ghost use lib.ListN.{length};
@@ -28,7 +28,7 @@ fn main() {
     let mut file = file_room();
     let n = io::read_full(0, &mut file);
     let mut out = file_room();
-    let a = scene::rewrite(&file[..n], &mut out);
+    let a = scene_anew::rewrite(&file[..n], &mut out);
     if a.refusal == 0 {
         put_bytes(&out, a.bytes);
     } else {

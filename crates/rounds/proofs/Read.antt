@@ -18,7 +18,8 @@ use Rattle.lent_words.specs.Words.{wideOf, windowWords}
 use Rattle.lent_words.proofs.Rounds.{low-wide, high-wide, words-back}
 use Rattle.blocks.specs.declared.Part.{Part}
 use Rattle.blocks.specs.Blocks.{blockOf, fileWord, isSecond, partWord, perBlock, bodyPart, recordPart, boxPart, windowPart, cellPart}
-use Rattle.blocks.proofs.Words.{word-fits, block-small}
+use Rattle.block_checks.proofs.Words.{word-fits}
+use Rattle.block_rules.proofs.Blocks.{block-small}
 use Rattle.files.specs.declared.Counts.{Counts}
 use Rattle.files.proofs.Told.{Told, tells}
 use Rattle.files.specs.Places.{numberPlace, wordPlace, statesPlace, boxesPlace, flapNumber, presentWord, airWord, capWord}
@@ -29,7 +30,7 @@ use Rattle.base.proofs.Listed.{listed-length, listed-from}
 use Rattle.part_writer.proofs.Parts.{fits-holds, holds-next, part-same}
 use Rattle.writer.specs.Contents.{countsFor, isAbsent, writtenNumber}
 use Rattle.writer.specs.Written.{halfOf, bodyWordOf, bytesBy, sceneBytes, sceneBlocks, roomFor, roomRefusal, refusalOf, sceneRefusal, writtenBy, answerBy}
-use Rattle.writer.proofs.Puts.{room-enough}
+use Rattle.scene_room.proofs.Rooms.{room-enough}
 use Rattle.rounds.specs.Rounds.{ComesOut, ReadThenWritten}
 use Rattle.rounds.proofs.Passed.{Passed, passed}
 use Rattle.rounds.proofs.Known.{known, number-known, shape-known}

@@ -35,7 +35,8 @@ use Rattle.base.proofs.Stored.{stored-front}
 use Rattle.part_writer.proofs.Parts.{Holds, holds-last, holds-more, holds-new, holds-fits, holds-word}
 use Rattle.writer.specs.Contents.{countsFor, isAbsent, writtenNumber, asWritten}
 use Rattle.writer.specs.Written.{halfOf, bodyWordOf, bytesBy, sceneBytes, sceneBlocks, roomFor, roomRefusal, refusalOf, sceneRefusal, writtenBy, answerBy, writtenScene, sceneAnswer}
-use Rattle.writer.proofs.Puts.{first, second, third, fourth, one-length, two-length, three-length, four-length, bytes-length, room-fits}
+use Rattle.scene_room.proofs.Rooms.{room-fits}
+use Rattle.writer.proofs.Puts.{first, second, third, fourth, one-length, two-length, three-length, four-length, bytes-length}
 use Rattle.rounds.specs.Rounds.{Typed, fileOf, ReadsBack, WrittenThenRead}
 use Rattle.writer.proofs.Refusals.{neither}
 use Rattle.rounds.proofs.Passed.{Passed, passed}

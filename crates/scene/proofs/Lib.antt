@@ -1,5 +1,4 @@
 -- Laws of this crate's definitions, on plain values.
-pub mod Held
 pub mod Scenes
 pub mod Refusals
 pub mod Recorded

@@ -11,7 +11,6 @@ use Rattle.step.proofs.Refuses.{Named, step-refusal}
 use Rattle.files.specs.declared.Counts.{Counts}
 use Rattle.files.specs.Files.{isScene, countsOf}
 use Rattle.scene.specs.Scene.{malformed, stepIn, tickOf}
-use Rattle.scene.specs.Rewritten.{rewriteAnswer}
 
 within : (n : ℕ) → (n ≡ 0) ⊎ Named n → n ≤ 8
 within n (inl e) = omega arith
@@ -34,12 +33,8 @@ tick-within file = chosen (isScene file) (stepIn file (countsOf file)) (step-wit
 pub one-digit : (file : List ℕ) → tickOf file .refusal % 10 ≡ tickOf file .refusal
 one-digit file = let h = tick-within file in omega arith
 
--- ---- a file that is no scene is refused by 8, whole: its tick, and what is written of it
+-- ---- the tick of a file that is no scene is refused by 8, whole
 
 pub tick-8 : (file : List ℕ) → isScene file ≡ false → tickOf file ≡ malformed
 unfolding tickOf choose
 tick-8 file e = rw e
-
-pub rewrite-8 : (size : ℕ) (file : List ℕ) → isScene file ≡ false → rewriteAnswer size file ≡ record { refusal = 8; bytes = 0 }
-unfolding rewriteAnswer choose
-rewrite-8 size file e = rw e

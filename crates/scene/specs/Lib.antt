@@ -1,4 +1,2 @@
--- The definitions of a scene's tick, and of a scene written anew.
-pub mod Held
+-- The definitions of a scene's tick.
 pub mod Scene
-pub mod Rewritten

@@ -1,14 +1,14 @@
 // The tick of a scene, and its answer as bytes.
-use crate::numbers::age_in;
-use crate::numbers::numbers_in;
-use crate::numbers::words_in;
-use crate::parts::held;
-use crate::parts::put_all;
 use bodies::MotionNumbers;
 use boxes::Vec3;
 use drags::Support;
 use files::Counted;
 use files::Counts;
+use scene_held::age_in;
+use scene_held::held;
+use scene_held::numbers_in;
+use scene_held::put_all;
+use scene_held::words_in;
 use step::StepAnswer;
 use tables::LiquidKind;
 use window::Window;
@@ -19,7 +19,7 @@ ghost use Rattle.step.specs.Answers.{stepEntry};
 ghost use Rattle.text.specs.Text.{written, writtenCount};
 ghost use Rattle.files.specs.Files.{blocksFor};
 ghost use Rattle.files.specs.Contents.{numbersIn, lateWords, ageIn};
-ghost use Rattle.scene.specs.Held.{heldContents};
+ghost use Rattle.scene_held.specs.Held.{heldContents};
 ghost use Rattle.scene.specs.Scene.{malformed, stepOf, stepIn, tickOf, answerText};
 
 // 8: there is no motion to hand back.

@@ -83,16 +83,7 @@ fn step_to(given: MotionNumbers, t: Tick) -> StepAnswer
 
 // For hosts that checked tables and window before, once for many bodies: 3 and 4, then 5, 6 and 7 as they come. That what it hands back is
 // finite is promised of tables that pass the check, and of no others.
-pub fn step_checked(
-    records: &[u32],
-    shapes: &[f32],
-    cells: &[u32],
-    w: Window,
-    rules: Rules,
-    body: BodyNumbers,
-    given: MotionNumbers,
-    age: u64,
-) -> StepAnswer
+pub fn step_checked(records: &[u32], shapes: &[f32], cells: &[u32], w: Window, rules: Rules, body: BodyNumbers, given: MotionNumbers, age: u64) -> StepAnswer
     ensures { λ r. ⌜ r ≡ checkedEntry (now (records .entry)) (now (shapes .entry)) (now (cells .entry)) w rules body given age ⌝ }
 {
     let refusal = number_refusal(records, rules, body, given);
@@ -116,16 +107,7 @@ pub fn step_checked(
 }
 
 // For hosts: one tick of a body, the liquid that a living body travelled in, and the sample of the block under it.
-pub fn step_body_sensed(
-    records: &[u32],
-    shapes: &[f32],
-    cells: &[u32],
-    w: Window,
-    rules: Rules,
-    body: BodyNumbers,
-    given: MotionNumbers,
-    age: u64,
-) -> StepAnswer
+pub fn step_body_sensed(records: &[u32], shapes: &[f32], cells: &[u32], w: Window, rules: Rules, body: BodyNumbers, given: MotionNumbers, age: u64) -> StepAnswer
     ensures { λ r. ⌜ r ≡ stepEntry (now (records .entry)) (now (shapes .entry)) (now (cells .entry)) w rules body given age ⌝ }
 {
     let refusal = check_lent(records, shapes, cells, w);
@@ -136,16 +118,7 @@ pub fn step_body_sensed(
 }
 
 // For hosts: the same over a window with a summary behind its words, by which the move passes over layers: 11 and 13 after 4.
-pub fn step_summed(
-    records: &[u32],
-    shapes: &[f32],
-    words: &[u32],
-    w: Window,
-    rules: Rules,
-    body: BodyNumbers,
-    given: MotionNumbers,
-    age: u64,
-) -> StepAnswer
+pub fn step_summed(records: &[u32], shapes: &[f32], words: &[u32], w: Window, rules: Rules, body: BodyNumbers, given: MotionNumbers, age: u64) -> StepAnswer
     ensures { λ r. ⌜ r ≡ stepSummed (now (records .entry)) (now (shapes .entry)) (now (words .entry)) w rules body given age ⌝ }
 {
     let cells = summary::plain_words(words, w);

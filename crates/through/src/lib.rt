@@ -82,13 +82,12 @@ fn swept_through(cap: u32, records: &[u32], shapes: &[f32], cells: &[u32], w: Wi
                 for k in 0..n {
                     let b = solids::quick_aabb(part.cube, shape, p, k);
                     if b.intersects(area) {
-                        let i = list.count;
-                        if i >= most {
+                        if list.count >= most {
                             let told = crowded(cap, records, shapes, cells, w, q, area, r); // bound first, as in `quick_part`
                             return told;
                         }
-                        list.boxes[i] = b;
-                        list.count = i + 1;
+                        list.boxes[list.count] = b;
+                        list.count += 1;
                     }
                 }
             }
@@ -104,8 +103,7 @@ fn swept_through(cap: u32, records: &[u32], shapes: &[f32], cells: &[u32], w: Wi
             let b = list.boxes[i];
             d = sweeps::clip_along(axis, b, mover, d);
         }
-        let first = s.first;
-        s = sweeps::next(pass, q, first, sweeps::gone(pass, axis, now, d));
+        s = sweeps::next(pass, q, s.first, sweeps::gone(pass, axis, now, d));
         if s.over {
             return AskedMove::To(sweeps::ended(q, s));
         }

@@ -5,9 +5,9 @@ use mathlib.Core.Path.{_≡_, refl, sym, ap, _∙_}
 use Prim.Native.Nat.{ℕ, _+_, _*_, _≤_, _<_}
 use native.Mathlib.Decide.{decLe}
 use native.Mathlib.Omega.{arith}
-use lib.Dec.{eqb, leb}
+use lib.Dec.{eqb}
 use lib.ListN.{length, length-append}
-use borrow.Author.Tests.{lt-leb, le-leb, leb-true, ne-eqb}
+use borrow.Author.Tests.{ne-eqb}
 use Rattle.base.specs.Choose.{choose}
 use Rattle.base.specs.Loop.{listed, stored}
 use Rattle.blocks.specs.declared.Part.{Part}
@@ -19,6 +19,7 @@ use Rattle.part_writer.specs.Bytes.{partBytes, partRoom, writtenPart, wordIn, b
 use Rattle.base.proofs.Listed.{listed-from}
 use Rattle.base.proofs.Stored.{stored-length}
 use Rattle.part_writer.proofs.Parts.{part-length, part-same, next-written, room-there}
+use Rattle.scene_room.proofs.Rooms.{room-many}
 use Rattle.lent_words.specs.Words.{windowWords}
 use Rattle.writer.specs.declared.Written.{Written}
 use Rattle.files.specs.Contents.{Contents}
@@ -112,29 +113,6 @@ module _ (n : Counts) where
     where
       less : n .cells ≤ 15744 → ⊥
       less r = omega arith
-
--- ---- what the room comes to
-
-pub record Fits (blocks size : ℕ) : Type 0 where
-  pub few : blocks ≤ 128
-  pub long : blocks * 512 ≤ size
-
-pub room-fits : (blocks size r : ℕ) → r ≡ roomFor blocks size → r ≡ 0 → Fits blocks size
-unfolding roomFor choose
-room-fits blocks size r e z = go (leb blocks 128) (leb-true blocks 128) (leb (blocks * 512) size) (leb-true (blocks * 512) size) (sym e ∙ z)
-  where
-    go : (a : Bool) → (a ≡ true → blocks ≤ 128) → (b : Bool) → (b ≡ true → blocks * 512 ≤ size) → _≡_ {A = ℕ} (choose a (choose b 0 11) 12) 0 → Fits blocks size
-    go true f true g z = record { few = f refl; long = g refl }
-    go true f false g z = absurd (omega arith)
-    go false f b g z = absurd (omega arith)
-
-pub room-enough : (blocks size : ℕ) → blocks ≤ 128 → blocks * 512 ≤ size → roomFor blocks size ≡ 0
-unfolding roomFor choose
-room-enough blocks size few long = rw (le-leb blocks 128 few, le-leb (blocks * 512) size long)
-
-room-many : (blocks size : ℕ) → 128 < blocks → roomFor blocks size ≡ 12
-unfolding roomFor choose
-room-many blocks size h = rw (lt-leb blocks 128 h)
 
 -- ---- what is handed back
 

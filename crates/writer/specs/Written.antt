@@ -1,10 +1,10 @@
 -- A scene as it is written. Document 01's and 02's words stand in quotes.
 use mathlib.Core.List.{List, _++_}
 use mathlib.Core.Path.{_≡_}
-use Prim.Native.Nat.{ℕ, _-_, _*_, _/_, _%_, _<_}
-use lib.Dec.{eqb, leb, ltb}
+use Prim.Native.Nat.{ℕ, _*_, _<_}
+use lib.Dec.{eqb}
 use lib.ListN.{length}
-use lib.Ieee.{Float, binary64, toBits}
+use lib.Ieee.{Float}
 use Rattle.base.specs.Choose.{choose}
 use Rattle.base.specs.Loop.{stored}
 use Rattle.cover.specs.Cover.{boxCount}
@@ -12,32 +12,18 @@ use Rattle.table_check.specs.Check.{stateCount}
 use Rattle.window.specs.declared.Window.{Window}
 use Rattle.bodies.specs.Lent.{bodyRefusal}
 use Rattle.lent.specs.Lent.{lentRefusal}
-use Rattle.lent_words.specs.Words.{lowOf, highOf, windowWords}
+use Rattle.lent_words.specs.Words.{windowWords}
 use Rattle.blocks.specs.Blocks.{bodyPart, recordPart, boxPart, windowPart, cellPart}
 use Rattle.files.specs.declared.Counts.{Counts}
-use Rattle.files.specs.Places.{agePlace, wordPlace, statesPlace, boxesPlace, capWord}
 use Rattle.files.specs.Files.{blocksFor}
 use Rattle.part_writer.specs.Bytes.{partBytes, wordIn, bitsIn}
 use Rattle.files.specs.declared.Counted.{Counted}
 use Rattle.files.specs.declared.Counted.the-variants as counted
 use Rattle.writer.specs.declared.Written.{Written}
 use Rattle.files.specs.Contents.{Contents}
-use Rattle.writer.specs.Contents.{countsBy, countsFor, writtenNumber}
-
--- ---- the words of the parts that are not lent as words
-
--- "f64 low word first", "age (low, high)": the low word of a number, and at 1 the high one
-unfoldable pub halfOf : ℕ → ℕ → ℕ
-halfOf n j = choose (eqb j 0) (lowOf n) (highOf n)
-
--- payload word i of the body: numbers, age, words, "state count, box count", and the cap as it was given: 0 "is written back as 0"
-unfoldable pub bodyWordOf : List Float → List ℕ → ℕ → Counts → ℕ → ℕ
-bodyWordOf numbers words age n i =
-    choose (ltb i agePlace) (halfOf (toBits binary64 (writtenNumber numbers words (i / 2))) (i % 2))
-    (choose (ltb i (wordPlace 0)) (halfOf age (i - agePlace))
-    (choose (ltb i statesPlace) (wordIn words (i - wordPlace 0))
-    (choose (eqb i statesPlace) (n .states)
-    (choose (eqb i boxesPlace) (n .boxes) (wordIn words capWord)))))
+use Rattle.writer.specs.Contents.{countsBy, countsFor}
+unfoldable pub use Rattle.body_words.specs.Words.{halfOf, bodyWordOf}
+unfoldable pub use Rattle.scene_room.specs.Room.{roomFor}
 
 -- ---- the scene: "Kinds in order: one 1 (body), 2, 3, one 4, 5", by the table of parts that the reader goes by
 
@@ -68,10 +54,7 @@ contentsRefusal records shapes cells w numbers words = orElse (lentRefusal recor
 abbrev pub refusalOf : Contents → ℕ
 refusalOf c = contentsRefusal (c .records) (c .shapes) (c .cells) (c .window) (c .numbers) (c .words)
 
--- 12, then 11, or 0: for so many blocks, and a buffer of this size
-unfoldable pub roomFor : ℕ → ℕ → ℕ
-roomFor blocks size = choose (leb blocks 128) (choose (leb (blocks * 512) size) 0 11) 12
-
+-- 12, then 11, or 0
 abbrev pub roomRefusal : Contents → ℕ → ℕ
 roomRefusal c size = roomFor (sceneBlocks c) size
 

@@ -1,7 +1,4 @@
-// Writes a scene into a lent buffer: the blocks of document 01, by the table of parts and the places that the reader goes by. words.rt has the words of
-// the parts that are not lent as words.
-mod words;
-
+// Writes a scene into a lent buffer: the blocks of document 01, by the table of parts and the places that the reader goes by.
 use files::Counted;
 use files::Counts;
 use window::Window;
@@ -12,7 +9,7 @@ ghost use Rattle.base.specs.Loop.{stored};
 ghost use Rattle.files.specs.Files.{blocksFor};
 ghost use Rattle.files.specs.Contents.{contentsOf};
 ghost use Rattle.writer.specs.Contents.{countsBy};
-ghost use Rattle.writer.specs.Written.{countedFor, bytesBy, contentsRefusal, roomFor, writtenChecked, checkedAnswer, writtenScene, sceneAnswer};
+ghost use Rattle.writer.specs.Written.{countedFor, bytesBy, contentsRefusal, writtenChecked, checkedAnswer, writtenScene, sceneAnswer};
 
 // What a recorder is handed: refusal 0 and how many bytes the scene has; or a refusal, and 0.
 pub struct Written {
@@ -59,19 +56,6 @@ fn counts_for(records: &[u32], shapes: &[f32], cells: &[u32]) -> Counted
     Counted::Unfit
 }
 
-// 12, then 11, or 0.
-fn room_for(blocks: usize, size: usize) -> u32
-    ensures { λ r. ⌜ r ≡ roomFor blocks size ⌝ }
-{
-    if blocks <= 128 {
-        if blocks * 512 <= size {
-            return 0;
-        }
-        return 11;
-    }
-    12
-}
-
 // The parts, one behind the other.
 fn put_scene(
     records: &[u32], shapes: &[f32], cells: &[u32], w: Window, numbers: &[f64], words: &[u32], age: u64, n: Counts, out: &mut [u8],
@@ -79,7 +63,7 @@ fn put_scene(
     requires { ⌜ (blocksFor n ≤ 128) × (blocksFor n * 512 ≤ length (now out)) ⌝ }
     ensures { λ _. ⌜ now (out .exit) ≡ stored (now (out .entry)) 0 (bytesBy (contentsOf (now (records .entry)) (now (shapes .entry)) (now (cells .entry)) w (now (numbers .entry)) (now (words .entry)) age) n) ⌝ }
 {
-    let body = words::body_words(numbers, words, age, n);
+    let body = body_words::body_words(numbers, words, age, n);
     let place = lent_words::window_words(w);
     part_writer::put_words(out, blocks::body_part(), &body);
     part_writer::put_words(out, blocks::record_part(n.states), records);
@@ -102,7 +86,7 @@ pub fn write_checked(
         },
         Counted::Are(n) => {
             let blocks = files::blocks_for(n);
-            let refusal = room_for(blocks, out.len());
+            let refusal = scene_room::room_for(blocks, out.len());
             if refusal != 0 {
                 return Written {
                     refusal,

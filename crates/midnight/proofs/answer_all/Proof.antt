@@ -5,8 +5,8 @@ use mathlib.Core.List.{List}
 use Prim.Native.Nat.{ℕ, _-_, _*_, _≤_}
 use lib.ListN.{length}
 use Rattle.base.specs.Loop.{listed, stored}
-use Rattle.midnight.specs.Rows.{Row, rowWith, rowAt, answerWidth}
-use Rattle.midnight.specs.Answers.{Lent, lentWith}
+use Rattle.night_rows.specs.Rows.{Row, rowWith, rowAt, answerWidth}
+use Rattle.night_answers.specs.Answers.{Lent, lentWith}
 use Rattle.midnight.specs.Run.{bodiesOf, rowsOf}
 use Rattle.base.proofs.Stored.{stored-length}
 use Rattle.base.proofs.Listed.{listed-length}

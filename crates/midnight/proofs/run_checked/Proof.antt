@@ -1,5 +1,5 @@
 -- `midnight::run_checked` meets its contract. Assumes nothing.
-use Rattle.midnight.specs.Answers.{Lent, lentWith}
+use Rattle.night_answers.specs.Answers.{Lent, lentWith}
 use Rattle.midnight.proofs.Orders.{refused-run, few-windows, zero-told, accepted-run}
 use borrow.Author.Needs.{needs}
 use Rattle.midnight.proofs.run_checked.Statement.{statement}

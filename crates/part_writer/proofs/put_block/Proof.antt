@@ -4,7 +4,7 @@ use Prim.Native.Nat.{_+_, _*_}
 use native.Mathlib.Omega.{arith}
 use lib.ListN.{length}
 use Rattle.base.proofs.Stored.{stored-mid}
-use Rattle.part_writer.proofs.Blocks.{block-length}
+use Rattle.block_writer.proofs.Blocks.{block-length}
 use borrow.Author.Needs.{needs}
 use Rattle.part_writer.proofs.put_block.Statement.{statement}
 use Rattle.part_writer.proofs.put_block.Tie as tie

@@ -2,7 +2,7 @@
 use mathlib.Core.Bool.{false}
 use borrow.Author.Tests.{lt-ltb, le-ltb}
 use Rattle.base.specs.Choose.{choose}
-use Rattle.midnight.specs.Rows.{rowAt}
+use Rattle.night_rows.specs.Rows.{rowAt}
 use Rattle.base.proofs.Listed.{listed-length}
 use Rattle.parties.specs.Parties.{partyRefusal, partyWritten}
 use borrow.Author.Needs.{needs}

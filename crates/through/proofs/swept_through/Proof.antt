@@ -249,7 +249,7 @@ returns-3 : tie.Need-returns-3 Inv-loop4 μ-loop4 Inv-loop3 μ-loop3 Inv-loop2 �
 returns-3 c =
     let at-next = c .before .before in
     let at-gone = at-next .before in
-    let at-loop6-test = at-gone .before .before in
+    let at-loop6-test = at-gone .before in
     let at-loop6 = at-loop6-test .before in
     let at-wanted = at-loop6 .before in
     let at-axis-of = at-wanted .before .before .before in
@@ -268,7 +268,7 @@ loop5-less c = omega arith
 loop5-again : tie.Need-loop5-again Inv-loop4 μ-loop4 Inv-loop3 μ-loop3 Inv-loop2 μ-loop2 Inv-loop μ-loop Inv-loop6 μ-loop6 Inv-loop5 μ-loop5
 loop5-again c =
     let at-gone = c .before .before in
-    let at-loop6-test = at-gone .before .before in
+    let at-loop6-test = at-gone .before in
     let at-loop6 = at-loop6-test .before in
     let at-wanted = at-loop6 .before in
     let at-axis-of = at-wanted .before .before .before in

@@ -4,7 +4,8 @@ use native.Mathlib.Omega.{arith}
 use lib.ListN.{length}
 use Rattle.base.proofs.Stored.{stored-length}
 use Rattle.files.specs.Contents.{contentsOf}
-use Rattle.writer.proofs.Puts.{room-fits, no-room, room-refused, room-written}
+use Rattle.scene_room.proofs.Rooms.{room-fits}
+use Rattle.writer.proofs.Puts.{no-room, room-refused, room-written}
 use borrow.Author.Needs.{needs}
 use Rattle.writer.proofs.write_checked.Statement.{statement}
 use Rattle.writer.proofs.write_checked.Tie as tie

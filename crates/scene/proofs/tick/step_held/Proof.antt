@@ -2,7 +2,7 @@
 use mathlib.Core.Path.{ap, _∙_}
 use lib.ListN.{length-take}
 use native.Mathlib.Omega.{arith}
-use Rattle.scene.proofs.Held.{handed-on}
+use Rattle.scene_held.proofs.Arrays.{handed-on}
 use Rattle.scene.specs.Scene.{stepOf}
 use borrow.Author.Needs.{needs}
 use Rattle.scene.proofs.tick.step_held.Statement.{statement}

@@ -3,7 +3,7 @@ use mathlib.Core.Path.{ap, _∙_}
 use lib.ListN.{length-replicate}
 use Prim.Native.Nat.{ℕ}
 use lib.Ieee.{Float, ofBits, binary32}
-use Rattle.scene.proofs.Held.{all-held}
+use Rattle.scene_held.proofs.Arrays.{all-held}
 use Rattle.scene.specs.Scene.{stepOf, stepIn}
 use borrow.Author.Needs.{needs}
 use Rattle.scene.proofs.tick.step_in.Statement.{statement}

@@ -1,0 +1,2 @@
+-- The definitions of a block's words, marks and checks.
+pub mod Checks

@@ -1,0 +1,20 @@
+-- `block_rules::used_or_zero` meets its contract. Assumes nothing.
+use borrow.Author.Tests.{lt-ltb, le-ltb}
+use borrow.Author.Needs.{needs}
+use Rattle.block_rules.proofs.used_or_zero.Statement.{statement}
+use Rattle.block_rules.proofs.used_or_zero.Tie as tie
+
+returns : tie.Need-returns
+returns c = rw (lt-ltb _ _ (c .if1 .taken))
+
+add-word : tie.Need-add-word
+add-word c = search needs
+
+word-requires : tie.Need-word-requires
+word-requires c κs = search needs
+
+returns-2 : tie.Need-returns-2
+returns-2 c = rw (le-ltb _ _ (c .before .if1 .left), ← c .word .ensures)
+
+pub used-or-zero-spec : {M : Type 1} → statement M
+used-or-zero-spec = tie.close (tie.spec returns add-word word-requires returns-2)

@@ -1,0 +1,2 @@
+-- The definitions of what binds in every block.
+pub mod Rules

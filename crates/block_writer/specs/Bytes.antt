@@ -1,0 +1,49 @@
+-- What the writer makes of a block, byte for byte. Document 01's and 02's words stand in quotes. A block's words are a function f of their places.
+use mathlib.Core.List.{List, [], _∷_, _++_}
+use Prim.Native.Nat.{ℕ, zero, suc, _*_, _/_, _%_, _^_}
+use lib.Dec.{ltb}
+use lib.ListN.{getD}
+use Rattle.base.specs.Choose.{choose}
+use Rattle.block_checks.specs.Checks.{newMark, checkOf, secondOf}
+
+-- lists one behind the other: g 0, g 1 and so on, as many as the number says
+unfoldable pub joined : (ℕ → List ℕ) → ℕ → List ℕ
+joined g zero = []
+joined g (suc n) = joined g n ++ g n
+
+-- ---- words as bytes: "little-endian words"
+
+abbrev pub byteOf : ℕ → ℕ → ℕ
+byteOf w j = w / 2 ^ (j * 8) % 256
+
+unfoldable pub wordBytes : ℕ → List ℕ
+wordBytes w = byteOf w 0 ∷ byteOf w 1 ∷ byteOf w 2 ∷ byteOf w 3 ∷ []
+
+-- the bytes of so many words
+unfoldable pub bytesOf : (ℕ → ℕ) → ℕ → List ℕ
+bytesOf word n = joined (λ k. wordBytes (word k)) n
+
+-- ---- a block
+
+-- "The mark becomes 53 43 4E 32", "word 1 the kind; word 2 the block's number from 0"
+unfoldable pub headBytes : ℕ → ℕ → List ℕ
+headBytes number kind = newMark ++ (wordBytes kind ++ wordBytes number)
+
+-- "3 to 125 payload", "unused words zero": word 3 + i
+unfoldable pub payloadWord : (ℕ → ℕ) → ℕ → ℕ → ℕ
+payloadWord f used i = choose (ltb i used) (f i) 0
+
+-- "Word 126 becomes the second check" of what stands before it
+unfoldable pub withSecond : List ℕ → List ℕ
+withSecond before = before ++ wordBytes (secondOf before)
+
+-- "127 the check" of what stands before it, word 126 with it
+unfoldable pub withCheck : List ℕ → List ℕ
+withCheck before = before ++ wordBytes (checkOf before)
+
+unfoldable pub blockBytes : ℕ → ℕ → (ℕ → ℕ) → ℕ → List ℕ
+blockBytes number kind f used = withCheck (withSecond (headBytes number kind ++ bytesOf (payloadWord f used) 123))
+
+-- word i of lent words; one that is not there is 0
+abbrev pub wordIn : List ℕ → ℕ → ℕ
+wordIn words i = getD words i 0

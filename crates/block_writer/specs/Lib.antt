@@ -1,0 +1,2 @@
+-- The definitions of what the writer makes of a block.
+pub mod Bytes

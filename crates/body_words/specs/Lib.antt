@@ -1,0 +1,2 @@
+-- The definitions of the words of a body as they are written.
+pub mod Words

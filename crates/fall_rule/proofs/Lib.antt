@@ -1,0 +1,2 @@
+-- The laws of the fall record's rule.
+pub mod Fits

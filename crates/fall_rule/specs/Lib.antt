@@ -1,0 +1,2 @@
+-- The definitions of the fall record's rule.
+pub mod Rule

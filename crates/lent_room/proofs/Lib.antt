@@ -1,0 +1,2 @@
+-- Laws of lengths and room.
+pub mod Short

@@ -1,0 +1,2 @@
+-- The definitions of lengths and room.
+pub mod Room

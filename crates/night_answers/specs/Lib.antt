@@ -1,0 +1,2 @@
+-- The definitions of one body's answer in the midnight run.
+pub mod Answers

@@ -1,0 +1,2 @@
+-- The definitions of the rows of the midnight run.
+pub mod Rows

@@ -1,0 +1,2 @@
+-- The definitions of the windows of the midnight run.
+pub mod Windows

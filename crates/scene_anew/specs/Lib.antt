@@ -1,0 +1,2 @@
+-- The definitions of a scene written anew.
+pub mod Rewritten

@@ -1,0 +1,2 @@
+-- The definitions of how the program holds a scene's words.
+pub mod Held

@@ -1,0 +1,2 @@
+-- The definition of whether a scene has room.
+pub mod Room
