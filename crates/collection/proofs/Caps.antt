@@ -1,6 +1,6 @@
 -- The cap of a collection. Raising it alters no outcome other than a refusal 6 (`raised`); and with room for no box, the first box that overlaps
 -- the area is the refusal 6, which tells of a hit (`told-by-none`). Assumes nothing.
-use mathlib.Core.Path.{_≡_, refl, sym, ap, _∙_}
+use mathlib.Core.Path.{_≡_, refl, sym, ap, subst, _∙_}
 use mathlib.Core.Bool.{Bool, true, false}
 use mathlib.Core.Logic.{_⊎_, inl, inr}
 use mathlib.Core.List.{List, [], _∷_, _++_}
@@ -21,6 +21,7 @@ use Rattle.window.specs.Look.{lookAt}
 use Rattle.ranges.specs.declared.Range.{Range}
 use Rattle.ranges.specs.Walk.{line, layer, walk}
 use Rattle.collection.specs.Collect.{CellShape, aabbsOf, cellShape, offer, offerAll, visit, push, pushed, hit, isHit, rangeOf, collectBlockBoxes, collidesWithBlocks}
+use Rattle.collection.specs.Past.{layerPast, walkPast, collectInPast}
 use Rattle.collection.specs.Answers.{heldAsked}
 use Rattle.collection.proofs.Refuses.{Refuses, Five, FiveOrSix, look-refuses, cell-refuses, collect-refuses}
 
@@ -36,6 +37,20 @@ list-told h (refused n) f e z = never (f .only n refl) (sym (ap (λ (x : Held). 
 pub refusal-told : (h : Held) (m : Ask (List Aabb)) → h ≡ heldAsked m → (h .refusal ≡ 0 → ⊥) → m ≡ refused (h .refusal)
 refusal-told h (found bs) e z = absurd (z (ap (λ (x : Held). x .refusal) e))
 refusal-told h (refused n) e z = rw e
+
+no-list : {n : ℕ} {bs : List Aabb} → _≡_ {A = Ask (List Aabb)} (refused n) (found bs) → ⊥
+no-list e = subst Refusal e tt
+  where
+    Refusal : Ask (List Aabb) → Type 0
+    Refusal (refused n) = Unit
+    Refusal (found bs) = ⊥
+
+number : {n k : ℕ} → _≡_ {A = Ask (List Aabb)} (refused n) (refused k) → n ≡ k
+number e = ap told e
+  where
+    told : Ask (List Aabb) → ℕ
+    told (refused n) = n
+    told (found bs) = 0
 
 -- ---- two walks side by side: both refuse 5, or both go on, or the first refuses 6
 data Beside {S U : Type 0} (P : S → U → Type 0) (Q : Ask (Turn U Bool) → Type 0) (m : Ask (Turn S Bool)) (n : Ask (Turn U Bool)) : Type 0 where
@@ -56,11 +71,22 @@ module _ {S U : Type 0} (P : S → U → Type 0) (Q : Ask (Turn U Bool) → Type
   turns f g h zero i s u p = going s u p refl refl
   turns f g h (suc k) i s u p = after (f i s) (g i u) (turning f k (i + 1)) (turning g k (i + 1)) (h i s u p) (turns f g h k (i + 1))
 
-  walks : (f : Pos → S → Ask (Turn S Bool)) (g : Pos → U → Ask (Turn U Bool)) (r : Range) → ((p : Pos) (s : S) (u : U) → P s u → Beside P Q (f p s) (g p u))
-      → (s : S) (u : U) → P s u → Beside P Q (walk f r s) (walk g r u)
-  unfolding walk layer line
-  walks f g r h =
-      turns (layer f r) (layer g r) (λ y. turns (line f r y) (line g r y) (λ x. turns _ _ (λ z. h _) (r .z .count) 0) (r .x .count) 0) (r .y .count) 0
+  module _ (f : Pos → S → Ask (Turn S Bool)) (g : Pos → U → Ask (Turn U Bool)) (r : Range) (h : (p : Pos) (s : S) (u : U) → P s u → Beside P Q (f p s) (g p u)) where
+    layers : (y : ℕ) (s : S) (u : U) → P s u → Beside P Q (layer f r y s) (layer g r y u)
+    unfolding layer line
+    layers y = turns (line f r y) (line g r y) (λ x. turns _ _ (λ z. h _) (r .z .count) 0) (r .x .count) 0
+
+    walks : (s : S) (u : U) → P s u → Beside P Q (walk f r s) (walk g r u)
+    unfolding walk
+    walks = turns (layer f r) (layer g r) layers (r .y .count) 0
+
+    walks-past : (over : ℕ → Bool) (s : S) (u : U) → P s u → Beside P Q (walkPast over f r s) (walkPast over g r u)
+    unfolding walkPast layerPast choose
+    walks-past over = turns (layerPast over f r) (layerPast over g r) (λ y s u p. either (over y) y s u p) (r .y .count) 0
+      where
+        either : (t : Bool) (y : ℕ) (s : S) (u : U) → P s u → Beside P Q (choose t (found (next s)) (layer f r y s)) (choose t (found (next u)) (layer g r y u))
+        either true y s u p = going s u p refl refl
+        either false y s u p = layers y s u p
 
   module _ (accept : Aabb → S → Ask (Turn S Bool)) (other : Aabb → U → Ask (Turn U Bool)) (both : (b : Aabb) (s : S) (u : U) → P s u → Beside P Q (accept b s) (other b u)) (area : Aabb) where
     one : (t : Bool) (b : Aabb) (s : S) (u : U) → P s u → Beside P Q (choose t (accept b s) (found (next s))) (choose t (other b u) (found (next u)))
@@ -74,18 +100,19 @@ module _ {S U : Type 0} (P : S → U → Type 0) (Q : Ask (Turn U Bool) → Type
     offers (b ∷ bs) s u p =
         after (offer accept area b s) (offer other area b u) (offerAll accept area bs) (offerAll other area bs) (one (overlap b area) b s u p) (offers bs)
 
+    visits : (cells : List ℕ) (w : Window) (records : List ℕ) (shapes : List Float) (p : Pos) (s : S) (u : U) → P s u
+        → Beside P Q (visit accept area (lookAt cells w) records shapes p s) (visit other area (lookAt cells w) records shapes p u)
+    unfolding visit
+    visits cells w records shapes p s u q = cell (cellShape (lookAt cells w) records p) (cell-refuses (lookAt cells w) (look-refuses cells w) records p)
+      where
+        cell : (m : Ask CellShape) → Refuses Five m
+            → Beside P Q (m >>= λ shape. offerAll accept area (aabbsOf shapes p shape) s) (m >>= λ shape. offerAll other area (aabbsOf shapes p shape) u)
+        cell (refused k) f = outside (ap refused (f .only k refl)) (ap refused (f .only k refl))
+        cell (found shape) f = offers (aabbsOf shapes p shape) s u q
+
     collections : (cells : List ℕ) (w : Window) (records : List ℕ) (shapes : List Float) (s : S) (u : U) → P s u
         → Beside P Q (walk (visit accept area (lookAt cells w) records shapes) (rangeOf area) s) (walk (visit other area (lookAt cells w) records shapes) (rangeOf area) u)
-    unfolding visit
-    collections cells w records shapes = walks _ _ (rangeOf area) visits
-      where
-        cell : (p : Pos) (s : S) (u : U) → P s u → (m : Ask CellShape) → Refuses Five m
-            → Beside P Q (m >>= λ shape. offerAll accept area (aabbsOf shapes p shape) s) (m >>= λ shape. offerAll other area (aabbsOf shapes p shape) u)
-        cell p s u q (refused k) f = outside (ap refused (f .only k refl)) (ap refused (f .only k refl))
-        cell p s u q (found shape) f = offers (aabbsOf shapes p shape) s u q
-
-        visits : (p : Pos) (s : S) (u : U) → P s u → Beside P Q (visit accept area (lookAt cells w) records shapes p s) (visit other area (lookAt cells w) records shapes p u)
-        visits p s u q = cell p s u q (cellShape (lookAt cells w) records p) (cell-refuses (lookAt cells w) (look-refuses cells w) records p)
+    collections cells w records shapes = walks _ _ (rangeOf area) (visits cells w records shapes)
 
 module _ (cells : List ℕ) (w : Window) (records : List ℕ) (shapes : List Float) (area : Aabb) where
   abbrev upTo : ℕ → Ask (List Aabb)
@@ -108,14 +135,36 @@ module _ (cells : List ℕ) (w : Window) (records : List ℕ) (shapes : List Flo
       go true false p q = absurd (omega (arith, ltb-true, ltb-false))
       go false v p q = full refl refl
 
+  alike : (m n : Ask (Turn (List Aabb) Bool)) → Beside Same Any m n → ((m >>= λ t. found (pushed t)) ≡ refused 6) ⊎ ((m >>= λ t. found (pushed t)) ≡ (n >>= λ t. found (pushed t)))
+  alike m n (outside p q) = inr (rw (p, q))
+  alike m n (going s u e p q) = inr (rw (p, q, e))
+  alike m n (full p q) = inl (rw p)
+
   pub raised : (a b : ℕ) → a ≤ b → (upTo a ≡ refused 6) ⊎ (upTo a ≡ upTo b)
   unfolding collectBlockBoxes
-  raised a b h = go _ _ (collections Same Any (λ n l q. refl) (push a) (push b) (pushes a b h) area cells w records shapes [] [] refl)
-    where
-      go : (m n : Ask (Turn (List Aabb) Bool)) → Beside Same Any m n → ((m >>= λ t. found (pushed t)) ≡ refused 6) ⊎ ((m >>= λ t. found (pushed t)) ≡ (n >>= λ t. found (pushed t)))
-      go m n (outside p q) = inr (rw (p, q))
-      go m n (going s u e p q) = inr (rw (p, q, e))
-      go m n (full p q) = inl (rw p)
+  raised a b h = alike _ _ (collections Same Any (λ n l q. refl) (push a) (push b) (pushes a b h) area cells w records shapes [] [] refl)
+
+  -- the same past layers, by what the lower cap comes to
+  module _ (over : ℕ → Bool) (r : Range) (a b : ℕ) (h : a ≤ b) where
+    abbrev under : ℕ → Ask (List Aabb)
+    under cap = collectInPast over cap (lookAt cells w) records shapes area r
+
+    raised-past : (under a ≡ refused 6) ⊎ (under a ≡ under b)
+    raised-past = alike _ _ (walks-past Same Any (λ n l q. refl) _ _ r (visits Same Any (λ n l q. refl) (push a) (push b) (pushes a b h) area cells w records shapes) over [] [] refl)
+
+    pub found-under : (bs : List Aabb) → under a ≡ found bs → under b ≡ found bs
+    found-under bs e = go raised-past
+      where
+        go : (under a ≡ refused 6) ⊎ (under a ≡ under b) → under b ≡ found bs
+        go (inl six) = absurd (no-list (sym six ∙ e))
+        go (inr same) = sym same ∙ e
+
+    pub refused-under : (n : ℕ) → under a ≡ refused n → (n ≡ 6 → ⊥) → under b ≡ refused n
+    refused-under n e other = go raised-past
+      where
+        go : (under a ≡ refused 6) ⊎ (under a ≡ under b) → under b ≡ refused n
+        go (inl six) = absurd (other (number (sym e ∙ six)))
+        go (inr same) = sym same ∙ e
 
   -- ---- no room at all
   abbrev None : List Aabb → Bool → Type 0

@@ -211,7 +211,7 @@ empty-list l e = rw e (record { whole = length-replicate room noBox; counts = om
 
 -- ---- the answers
 module _ (over : ℕ → Bool) (cap : ℕ) (look : Pos → Ask Block) (records : List ℕ) (shapes : List Float) (area : Aabb) (r : Range) where
-  was-collected : (bs : List Aabb) → found (next bs) ≡ allPast (push cap) look records shapes area r over [] → collectInPast over cap look records shapes area r ≡ found bs
+  pub was-collected : (bs : List Aabb) → found (next bs) ≡ allPast (push cap) look records shapes area r over [] → collectInPast over cap look records shapes area r ≡ found bs
   was-collected bs h = rw (← h)
 
   was-refused : (k : ℕ) → refused k ≡ allPast (push cap) look records shapes area r over [] → collectInPast over cap look records shapes area r ≡ refused k

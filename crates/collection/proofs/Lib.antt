@@ -5,3 +5,4 @@ pub mod Order
 pub mod Caps
 pub mod Unique
 pub mod Past
+pub mod Lent

@@ -11,7 +11,8 @@ use sweeps::Collected;
 use window::Pos;
 use window::Window;
 ghost use mathlib.Core.Path.{_≡_};
-ghost use Prim.Native.Nat.{_≤_};
+ghost use Prim.Native.Nat.{_*_, _≤_};
+ghost use lib.ListN.{length};
 ghost use Rattle.sweeps.specs.Lists.{room, capOf, heldIn};
 ghost use Rattle.tables.specs.Tables.{boxesAt};
 ghost use Rattle.passing.specs.Passing.{passesBy, passes};
@@ -20,11 +21,17 @@ ghost use Rattle.solids.specs.Parts.{countOf, nthAabb};
 ghost use Rattle.window.specs.Look.{lookAt};
 ghost use Rattle.collection.specs.Collect.{rangeOf, sweptArea, collectBlockBoxes, collidesWithBlocks};
 ghost use Rattle.collection.specs.Past.{collectInPast};
-ghost use Rattle.collection.specs.Answers.{heldAsked, hitAsked};
+ghost use Rattle.collection.specs.Answers.{heldAsked, heldLent, hitAsked};
 
 pub enum AskedHit {
     Is(bool),
     Refused(u32),
+}
+
+// How many boxes were collected into lent numbers, or the number of a refusal and none.
+pub struct Counted {
+    pub count: usize,
+    pub refusal: u32,
 }
 
 // The area that a move sweeps: towards its delta, and up by the step height.
@@ -94,12 +101,40 @@ fn collect_up_to(cap: usize, records: &[u32], shapes: &[f32], cells: &[u32], w: 
     Collected { list, refusal: 0 }
 }
 
-// Collection into the list from the cells of a range that is known already, under a cap of the rules, by the summary behind the window's words
-// where there is one. It refuses 5 and 6 alone.
-pub fn collect_range(cap: u32, records: &[u32], shapes: &[f32], cells: &[u32], w: Window, area: Aabb, r: Range) -> Collected
-    ensures { λ c. ⌜ heldIn c ≡ heldAsked (collectInPast (passes (now (cells .entry)) w r) (capOf cap) (lookAt (now (cells .entry)) w) (now (records .entry)) (now (shapes .entry)) area r) ⌝ }
+// The same into lent numbers, six to a box, for the move: from the cells of a range that is known already, by the summary behind the window's words
+// where there is one. It refuses 5 and 6 alone. What it calls for each cell and box, it calls alone, so that the compiler puts it in place.
+pub fn collect_into(room: &mut [f64], cap: usize, records: &[u32], shapes: &[f32], cells: &[u32], w: Window, area: Aabb, r: Range) -> Counted
+    requires { ⌜ cap * 6 ≤ length (now room) ⌝ }
+    ensures { λ c. ⌜ heldLent c (now (room .exit)) ≡ heldAsked (collectInPast (passes (now (cells .entry)) w r) cap (lookAt (now (cells .entry)) w) (now (records .entry)) (now (shapes .entry)) area r) ⌝ }
+    ensures { λ c. ⌜ c .count ≤ cap ⌝ }
 {
-    collect_up_to(sweeps::cap_of(cap), records, shapes, cells, w, area, r, passing::reach_in(cells, w, r))
+    let over = passing::reach_in(cells, w, r);
+    let mut count = 0usize;
+    for y in 0..r.y.count {
+        let lines = passing::lines_at(cells, w, r, over, y);
+        for x in 0..lines {
+            for z in 0..r.z.count {
+                let p = ranges::place(r, At { x, y, z });
+                let part = match solids::part_at(records, cells, w, p) {
+                    AskedShape::Refused(n) => return Counted { count: 0, refusal: n },
+                    AskedShape::Is(s) => s,
+                };
+                let shape = tables::boxes_at(shapes, part.first, part.count);
+                let n = solids::count_of(part.cube, part.count, shape);
+                for k in 0..n {
+                    let b = solids::nth_aabb(part.cube, shape, p, k);
+                    if b.intersects(area) {
+                        if count >= cap {
+                            return Counted { count: 0, refusal: 6 };
+                        }
+                        lent_boxes::put_box(room, count, b);
+                        count += 1;
+                    }
+                }
+            }
+        }
+    }
+    Counted { count, refusal: 0 }
 }
 
 // The same from the cells that the area reaches, each of them.

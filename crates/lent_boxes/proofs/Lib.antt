@@ -1,3 +1,4 @@
 -- Laws of this crate's definitions, on plain values.
 pub mod Answers
 pub mod Lent
+pub mod Put

@@ -1,6 +1,6 @@
 -- Boxes in lent numbers, six to a box.
 use mathlib.Core.Bool.{Bool, _&&_}
-use mathlib.Core.List.{List}
+use mathlib.Core.List.{List, [], _∷_}
 use Prim.Native.Nat.{ℕ, _*_, _/_, _%_}
 use lib.ListN.{length}
 use lib.Dec.{eqb}
@@ -14,12 +14,20 @@ use Rattle.movers.specs.Movers.{aabbAt}
 abbrev pub boxOf : List Float → ℕ → Aabb
 boxOf numbers k = aabbAt numbers (k * 6)
 
+-- the first n of them
+abbrev pub boxesIn : List Float → ℕ → List Aabb
+boxesIn numbers n = listed (boxOf numbers) n 0
+
 -- how many whole boxes there are
 abbrev pub lentCount : List Float → ℕ
 lentCount numbers = length numbers / 6
 
 abbrev pub boxesOf : List Float → List Aabb
-boxesOf numbers = listed (boxOf numbers) (lentCount numbers) 0
+boxesOf numbers = boxesIn numbers (lentCount numbers)
+
+-- the six of a box
+abbrev pub sixOf : Aabb → List Float
+sixOf b = b .min .x ∷ b .min .y ∷ b .min .z ∷ b .max .x ∷ b .max .y ∷ b .max .z ∷ []
 
 -- six numbers to a box and none left over, and every one within the limits of a box
 unfoldable pub lentFit : List Float → Bool

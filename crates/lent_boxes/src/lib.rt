@@ -3,14 +3,16 @@ mod moved;
 
 pub use moved::move_over_any;
 pub use moved::move_over_lent;
+pub use moved::moved_over;
 use boxes::Aabb;
 use boxes::Vec3;
 ghost use mathlib.Core.Path.{_≡_};
-ghost use Prim.Native.Nat.{_+_, _<_};
+ghost use Prim.Native.Nat.{_+_, _*_, _<_};
 ghost use lib.ListN.{length};
+ghost use Rattle.base.specs.Loop.{stored};
 ghost use Rattle.boxes.specs.Limits.{areBoxes};
 ghost use Rattle.movers.specs.Movers.{aabbAt};
-ghost use Rattle.lent_boxes.specs.Boxes.{boxesOf, lentFit};
+ghost use Rattle.lent_boxes.specs.Boxes.{boxesOf, sixOf, lentFit};
 
 // The box whose six numbers begin at a place; they are there, so that reading them takes no test.
 fn box_at(numbers: &[f64], at: usize) -> Aabb
@@ -29,6 +31,20 @@ fn box_at(numbers: &[f64], at: usize) -> Aabb
             z: numbers[at + 5],
         },
     }
+}
+
+// A box among the numbers, as the box with this number.
+pub fn put_box(numbers: &mut [f64], k: usize, b: Aabb)
+    requires { ⌜ k * 6 + 5 < length (now numbers) ⌝ }
+    ensures { λ _. ⌜ now (numbers .exit) ≡ stored (now (numbers .entry)) (k * 6) (sixOf b) ⌝ }
+{
+    let at = k * 6;
+    numbers[at] = b.min.x;
+    numbers[at + 1] = b.min.y;
+    numbers[at + 2] = b.min.z;
+    numbers[at + 3] = b.max.x;
+    numbers[at + 4] = b.max.y;
+    numbers[at + 5] = b.max.z;
 }
 
 fn are_boxes(numbers: &[f64]) -> bool

@@ -7,10 +7,11 @@ use movers::request_of;
 use sweeps::MoveResult;
 use sweeps::Request;
 ghost use mathlib.Core.Path.{_≡_};
+ghost use Prim.Native.Nat.{_*_, _≤_};
 ghost use lib.ListN.{length};
 ghost use Rattle.sweeps.specs.Move.{moveOver};
 ghost use Rattle.lent_numbers.specs.Written.{writtenBy};
-ghost use Rattle.lent_boxes.specs.Boxes.{boxesOf};
+ghost use Rattle.lent_boxes.specs.Boxes.{boxesIn};
 ghost use Rattle.lent_boxes.specs.Moves.{listRefusal, moveListOf, moveAnyOf};
 
 // 3, 4, 11 and 6 in order, or 0.
@@ -31,11 +32,11 @@ fn list_refusal(cap: u32, boxes: &[f64], mover: &[f64], step: f64, ground: u32, 
     0
 }
 
-// The move itself. The boxes are read where they lie: a list of them would be made at each call, and copied where it is handed on.
-fn moved_over(numbers: &[f64], q: Request) -> MoveResult
-    ensures { λ r. ⌜ r ≡ moveOver (boxesOf (now (numbers .entry))) (q .aabb) (q .delta) (q .step) (q .ground) ⌝ }
+// The move over the first n boxes. They are read where they lie: a list of them would be made at each call, and copied where it is handed on.
+pub fn moved_over(numbers: &[f64], n: usize, q: Request) -> MoveResult
+    requires { ⌜ n * 6 ≤ length (now numbers) ⌝ }
+    ensures { λ r. ⌜ r ≡ moveOver (boxesIn (now (numbers .entry)) n) (q .aabb) (q .delta) (q .step) (q .ground) ⌝ }
 {
-    let n = numbers.len() / 6;
     let mut s = sweeps::begun(q);
     let mut pass = 0u32;
     while pass < 7 {
@@ -69,7 +70,7 @@ pub fn move_over_lent(cap: u32, boxes: &[f64], mover: &[f64], step: f64, ground:
     if refusal != 0 {
         return refusal;
     }
-    put_result(out, moved_over(boxes, request_of(mover, step, ground)));
+    put_result(out, moved_over(boxes, boxes.len() / 6, request_of(mover, step, ground)));
     0
 }
 
@@ -83,6 +84,6 @@ pub fn move_over_any(boxes: &[f64], mover: &[f64], step: f64, ground: u32, out: 
     if count > sweeps::ROOM {
         return 6;
     }
-    put_result(out, moved_over(boxes, request_of(mover, step, ground)));
+    put_result(out, moved_over(boxes, count, request_of(mover, step, ground)));
     0
 }

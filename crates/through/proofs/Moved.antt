@@ -12,6 +12,7 @@ use Rattle.boxes.specs.declared.Aabb.{Aabb}
 use Rattle.sweeps.specs.declared.Request.{Request}
 use Rattle.sweeps.specs.declared.Sweep.{Sweep}
 use Rattle.sweeps.specs.declared.MoveResult.{MoveResult}
+use Rattle.sweeps.specs.Move.{moveOver}
 use Rattle.sweeps.specs.Passes.{sweepOf, endOfMove}
 use Rattle.sweeps.proofs.Shape.{moves}
 use Rattle.sweeps.specs.Lists.{Held, noBox}
@@ -30,7 +31,7 @@ use Rattle.through.specs.declared.Few.{Few}
 use Rattle.boxes.specs.declared.Vec3.{Vec3}
 use Rattle.collection.proofs.Collects.{Room, allPast}
 use Rattle.collection.proofs.Past.{in-range}
-use Rattle.collection.proofs.Caps.{list-told, refusal-told}
+use Rattle.collection.proofs.Caps.{list-told, refusal-told, found-under, refused-under}
 use Rattle.collection.proofs.Refuses.{Refuses, FiveOrSix, finds, after, past-refuses, collect-refuses}
 
 module _ (cap : ℕ) (over : ℕ → Bool) (cells : List ℕ) (w : Window) (records : List ℕ) (shapes : List Float) (q : Request) (area : Aabb) (r : Range) where
@@ -45,15 +46,24 @@ module _ (cap : ℕ) (over : ℕ → Bool) (cells : List ℕ) (w : Window) (reco
   unfolding moveFrom
   not-moved k h = rw (← h)
 
-  -- from the answer of a collection
-  module _ (h : Held) (e : h ≡ heldAsked (collectInPast over cap (lookAt cells w) records shapes area r)) where
-    pub moved-over : h .refusal ≡ 0 → (s : Sweep) → s ≡ sweepOf (h .boxes) q → (m : MoveResult) → m ≡ endOfMove q s → found m ≡ whole-move
+  -- from the answer of a collection under a cap that may be lower
+  module _ (least : ℕ) (within : least ≤ cap) (h : Held) (e : h ≡ heldAsked (collectInPast over least (lookAt cells w) records shapes area r)) where
+    pub moved-over : h .refusal ≡ 0 → (m : MoveResult) → m ≡ moveOver (h .boxes) (q .aabb) (q .delta) (q .step) (q .ground) → found m ≡ whole-move
     unfolding moveFrom
-    moved-over z s es m em = rw (list-told h (collectInPast over cap (lookAt cells w) records shapes area r) (past-refuses over cap cells w records shapes area r) e z, em, moves (h .boxes) q s es)
+    moved-over z m em =
+        let low = list-told h (collectInPast over least (lookAt cells w) records shapes area r) (past-refuses over least cells w records shapes area r) e z in
+        rw (found-under cells w records shapes area over r least cap within (h .boxes) low, em)
 
-    pub told-refused : (h .refusal ≡ 0 → ⊥) → refused (h .refusal) ≡ whole-move
+    pub told-refused : (h .refusal ≡ 0 → ⊥) → (h .refusal ≡ 6 → ⊥) → refused (h .refusal) ≡ whole-move
     unfolding moveFrom
-    told-refused z = rw (refusal-told h (collectInPast over cap (lookAt cells w) records shapes area r) e z)
+    told-refused z s =
+        let low = refusal-told h (collectInPast over least (lookAt cells w) records shapes area r) e z in
+        rw (refused-under cells w records shapes area over r least cap within (h .refusal) low s)
+
+  -- under the cap itself 6 is told too
+  pub told-any : (h : Held) → h ≡ heldAsked (collectInPast over cap (lookAt cells w) records shapes area r) → (h .refusal ≡ 0 → ⊥) → refused (h .refusal) ≡ whole-move
+  unfolding moveFrom
+  told-any h e z = rw (refusal-told h (collectInPast over cap (lookAt cells w) records shapes area r) e z)
 
 -- for the range of the swept area, as `range_of` answers it
 pub as-asked : (cap : ℕ) (over : Range → ℕ → Bool) (cells : List ℕ) (w : Window) (records : List ℕ) (shapes : List Float) (q : Request) (area : Aabb) (r : Range) → area ≡ sweptArea (q .aabb) (q .delta) (q .step) → r ≡ trimmed (rangeOf area)

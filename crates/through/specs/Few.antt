@@ -1,5 +1,5 @@
--- How the program makes a move in two ways: over a list with room for few boxes, and where more come over the whole list. No contract of a host's
--- function cites this file.
+-- How the program makes a move: over a list with room for few boxes, and where more come with more room. No contract of a host's function
+-- cites this file.
 use mathlib.Core.Bool.{Bool}
 use mathlib.Core.List.{List}
 use Prim.Native.Nat.{ℕ, min}
@@ -20,9 +20,9 @@ use Rattle.through.specs.declared.Few.{Few}
 abbrev pub few : ℕ
 few = 42
 
--- how many boxes are held in it under a cap of the rules
-abbrev pub fewOf : ℕ → ℕ
-fewOf cap = min (capOf cap) few
+-- how many boxes are collected where there is room for so many, under a cap of the rules
+abbrev pub within : ℕ → ℕ → ℕ
+within most cap = min (capOf cap) most
 
 unfoldable pub emptyFew : Few
 emptyFew = record { boxes = replicate few noBox; count = 0 }

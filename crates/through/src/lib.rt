@@ -12,7 +12,7 @@ ghost use Rattle.sweeps.specs.Lists.{capOf};
 ghost use Rattle.window.specs.Look.{lookAt};
 ghost use Rattle.passing.specs.Passing.{passes};
 ghost use Rattle.through.specs.Through.{movedAsked, moveAabbPast};
-ghost use Rattle.through.specs.Few.{fewOf, emptyFew, moveFrom};
+ghost use Rattle.through.specs.Few.{within, emptyFew, moveFrom};
 
 // A move, or the number of a refusal.
 pub enum AskedMove {
@@ -38,26 +38,43 @@ impl Few {
     }
 }
 
-// How many boxes are held in it under a cap of the rules.
-fn few_of(cap: u32) -> usize
-    ensures { λ r. ⌜ r ≡ fewOf cap ⌝ }
+// How many boxes are collected where there is room for so many, under a cap of the rules.
+fn within(most: usize, cap: u32) -> usize
+    ensures { λ r. ⌜ r ≡ within most cap ⌝ }
 {
-    let most = sweeps::cap_of(cap);
-    if most < 42 { most } else { 42 }
+    let all = sweeps::cap_of(cap);
+    if all < most { all } else { most }
 }
 
-// A move of more boxes than a few, or than the cap, from its range on, over the whole list. It is here that 6 is refused. It has two callers, so that the compiler
-// leaves it out of the loop below, which is slower with it inside.
+// A move from its range on, with room for every box that a cap allows. It is here that 6 is refused.
 fn crowded(cap: u32, records: &[u32], shapes: &[f32], cells: &[u32], w: Window, q: Request, area: Aabb, r: Range) -> AskedMove
     ensures { λ m. ⌜ movedAsked m ≡ moveFrom (capOf cap) (passes (now (cells .entry)) w r) (lookAt (now (cells .entry)) w) (now (records .entry)) (now (shapes .entry)) q area r ⌝ }
 {
-    let c = collection::collect_range(cap, records, shapes, cells, w, area, r);
-    let refusal = c.refusal;
-    if refusal == 0 {
-        let s = list_moves::swept_over(c.list, q);
-        return AskedMove::To(sweeps::ended(q, s));
+    let mut room = [0.0; 3072];
+    let c = collection::collect_into(&mut room, sweeps::cap_of(cap), records, shapes, cells, w, area, r);
+    if c.refusal == 0 {
+        return AskedMove::To(lent_boxes::moved_over(&room, c.count, q));
     }
-    AskedMove::Refused(refusal)
+    AskedMove::Refused(c.refusal)
+}
+
+// The same with room for 128 boxes, and where more come with room for all. `crowded` is called twice, so that the compiler leaves it, and its room,
+// out of this function; and so is this one below.
+fn many(cap: u32, records: &[u32], shapes: &[f32], cells: &[u32], w: Window, q: Request, area: Aabb, r: Range) -> AskedMove
+    ensures { λ m. ⌜ movedAsked m ≡ moveFrom (capOf cap) (passes (now (cells .entry)) w r) (lookAt (now (cells .entry)) w) (now (records .entry)) (now (shapes .entry)) q area r ⌝ }
+{
+    if (r.x.count > 11) & (r.z.count > 11) {
+        return crowded(cap, records, shapes, cells, w, q, area, r); // one layer of ground is more than 128 boxes
+    }
+    let mut room = [0.0; 768];
+    let c = collection::collect_into(&mut room, within(128, cap), records, shapes, cells, w, area, r);
+    if c.refusal == 0 {
+        return AskedMove::To(lent_boxes::moved_over(&room, c.count, q));
+    }
+    if c.refusal == 6 {
+        return crowded(cap, records, shapes, cells, w, q, area, r);
+    }
+    AskedMove::Refused(c.refusal)
 }
 
 // A move of a few boxes. Collection and passes stand in one function, so that the list is read where it was built: handed on by value, it would be
@@ -65,7 +82,7 @@ fn crowded(cap: u32, records: &[u32], shapes: &[f32], cells: &[u32], w: Window, 
 fn swept_through(cap: u32, records: &[u32], shapes: &[f32], cells: &[u32], w: Window, q: Request, area: Aabb, r: Range) -> AskedMove
     ensures { λ m. ⌜ movedAsked m ≡ moveFrom (capOf cap) (passes (now (cells .entry)) w r) (lookAt (now (cells .entry)) w) (now (records .entry)) (now (shapes .entry)) q area r ⌝ }
 {
-    let most = few_of(cap);
+    let most = within(42, cap);
     let over = passing::reach_in(cells, w, r);
     let mut list = Few::new();
     for y in 0..r.y.count {
@@ -83,7 +100,7 @@ fn swept_through(cap: u32, records: &[u32], shapes: &[f32], cells: &[u32], w: Wi
                     let b = solids::quick_aabb(part.cube, shape, p, k);
                     if b.intersects(area) {
                         if list.count >= most {
-                            let told = crowded(cap, records, shapes, cells, w, q, area, r); // bound first, as in `quick_part`
+                            let told = many(cap, records, shapes, cells, w, q, area, r); // bound first, as in `quick_part`
                             return told;
                         }
                         list.boxes[list.count] = b;
@@ -124,7 +141,7 @@ pub fn move_through(cap: u32, records: &[u32], shapes: &[f32], cells: &[u32], w:
     let area = collection::swept_area(aabb, delta, step);
     let r = collection::range_of(area);
     if (r.x.count > 6) & (r.z.count > 6) {
-        let told = crowded(cap, records, shapes, cells, w, q, area, r); // one layer of ground is more than a few boxes
+        let told = many(cap, records, shapes, cells, w, q, area, r); // one layer of ground is more than a few boxes
         return told;
     }
     swept_through(cap, records, shapes, cells, w, q, area, r)

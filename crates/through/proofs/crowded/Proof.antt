@@ -1,23 +1,42 @@
 -- `through::crowded` meets its contract. Assumes nothing.
-use Rattle.through.proofs.Moved.{moved-over, told-refused}
+use native.Mathlib.Omega.{arith}
+use lib.ListN.{length-replicate}
+use lib.Ieee.{Float, ofBits, binary64}
+use Rattle.sweeps.proofs.Caps.{cap-in-room}
+use Rattle.through.proofs.Moved.{moved-over, told-any}
 use borrow.Author.Needs.{needs}
 use Rattle.through.proofs.crowded.Statement.{statement}
 use Rattle.through.proofs.crowded.Tie as tie
 
-collect-range-requires : tie.Need-collect-range-requires
-collect-range-requires c κs = search needs
+slice-aggregate-collect-into : tie.Need-slice-aggregate-collect-into
+slice-aggregate-collect-into c = search needs
 
-swept-over-requires : tie.Need-swept-over-requires
-swept-over-requires c κs = search needs
+cap-of-requires : tie.Need-cap-of-requires
+cap-of-requires c κs = search needs
 
-ended-requires : tie.Need-ended-requires
-ended-requires c κs = search needs
+collect-into-requires : tie.Need-collect-into-requires
+collect-into-requires c κs = let n = c .cap-of .ensures in let m = cap-in-room (c .before .before .before .before .before .args .cap) in let l = length-replicate {0} {A = Float} 3072 (ofBits binary64 0) in omega arith
+
+slice-aggregate-moved-over : tie.Need-slice-aggregate-moved-over
+slice-aggregate-moved-over c = search needs
+
+moved-over-requires : tie.Need-moved-over-requires
+moved-over-requires c κs = let n = c .before .before .before .before .before .cap-of .ensures in let m = cap-in-room (c .before .before .before .before .before .before .before .before .before .before .args .cap) in let k = c .before .before .before .before .collect-into .ensures .1 in let l = length-replicate {0} {A = Float} 3072 (ofBits binary64 0) in omega arith
 
 returns : tie.Need-returns
-returns c = moved-over _ _ _ _ _ _ _ _ _ _ (c .before .before .before .collect-range .ensures) (c .before .before .if1 .taken) _ (c .before .swept-over .ensures) _ (c .ended .ensures)
+returns c = let n = c .before .before .before .before .before .before .cap-of .ensures in moved-over _ _ _ _ _ _ _ _ _ _ (omega arith) _ (c .before .before .before .before .before .collect-into .ensures .0) (c .before .before .if1 .taken) _ (c .moved-over .ensures)
 
 returns-2 : tie.Need-returns-2
-returns-2 c = told-refused _ _ _ _ _ _ _ _ _ _ (c .before .collect-range .ensures) (c .if1 .left)
+returns-2 c = let n = c .before .before .before .before .cap-of .ensures in told-any _ _ _ _ _ _ _ _ _ _ (rw n at (c .before .before .before .collect-into .ensures .0)) (c .if1 .left)
 
 pub crowded-spec : {M : Type 1} → statement M
-crowded-spec = tie.close (tie.spec collect-range-requires swept-over-requires ended-requires returns returns-2)
+crowded-spec =
+    tie.close
+    (tie.spec
+    slice-aggregate-collect-into
+    cap-of-requires
+    collect-into-requires
+    slice-aggregate-moved-over
+    moved-over-requires
+    returns
+    returns-2)

@@ -9,7 +9,7 @@ use lib.ListN.{take, drop}
 use Rattle.boxes.specs.declared.Aabb.{Aabb}
 use Rattle.sweeps.specs.Lists.{capOf}
 use Rattle.through.specs.declared.Few.{Few}
-use Rattle.through.specs.Few.{few, fewOf}
+use Rattle.through.specs.Few.{few, within}
 use Rattle.sweeps.specs.Move.{clipAll}
 use Rattle.sweeps.specs.Passes.{clipAlong, passesFrom, sweepOf}
 use Rattle.sweeps.proofs.Turns.{clip-turn, made, pass-on, pass-over, passes-end}
@@ -65,8 +65,8 @@ Inv-loop5 cap records shapes cells q most list s₀ pass₀ s pass =
 abbrev μ-loop5 : tie.MeasureT-loop5
 μ-loop5 cap records shapes cells q most list s₀ pass₀ s pass = 7 - pass
 
-few-of-requires : tie.Need-few-of-requires Inv-loop4 μ-loop4 Inv-loop3 μ-loop3 Inv-loop2 μ-loop2 Inv-loop μ-loop Inv-loop6 μ-loop6 Inv-loop5 μ-loop5
-few-of-requires c κs = search needs
+within-requires : tie.Need-within-requires Inv-loop4 μ-loop4 Inv-loop3 μ-loop3 Inv-loop2 μ-loop2 Inv-loop μ-loop Inv-loop6 μ-loop6 Inv-loop5 μ-loop5
+within-requires c κs = search needs
 
 reach-in-requires :
     tie.Need-reach-in-requires Inv-loop4 μ-loop4 Inv-loop3 μ-loop3 Inv-loop2 μ-loop2 Inv-loop μ-loop Inv-loop6 μ-loop6 Inv-loop5 μ-loop5
@@ -133,22 +133,22 @@ intersects-requires :
     tie.Need-intersects-requires Inv-loop4 μ-loop4 Inv-loop3 μ-loop3 Inv-loop2 μ-loop2 Inv-loop μ-loop Inv-loop6 μ-loop6 Inv-loop5 μ-loop5
 intersects-requires c κs = search needs
 
-crowded-requires :
-    tie.Need-crowded-requires Inv-loop4 μ-loop4 Inv-loop3 μ-loop3 Inv-loop2 μ-loop2 Inv-loop μ-loop Inv-loop6 μ-loop6 Inv-loop5 μ-loop5
-crowded-requires c κs = search needs
+many-requires :
+    tie.Need-many-requires Inv-loop4 μ-loop4 Inv-loop3 μ-loop3 Inv-loop2 μ-loop2 Inv-loop μ-loop Inv-loop6 μ-loop6 Inv-loop5 μ-loop5
+many-requires c κs = search needs
 
 returns-2 : tie.Need-returns-2 Inv-loop4 μ-loop4 Inv-loop3 μ-loop3 Inv-loop2 μ-loop2 Inv-loop μ-loop Inv-loop6 μ-loop6 Inv-loop5 μ-loop5
-returns-2 c = c .crowded .ensures
+returns-2 c = c .many .ensures
 
 mul-b : tie.Need-mul-b Inv-loop4 μ-loop4 Inv-loop3 μ-loop3 Inv-loop2 μ-loop2 Inv-loop μ-loop Inv-loop6 μ-loop6 Inv-loop5 μ-loop5
-mul-b c = let i = c .before .before .before .before .before .loop4 .inv .0 .whole in let m = c .before .before .before .before .before .before .before .before .before .before .before .before .before .before .before .before .before .before .before .before .before .before .few-of .ensures in omega arith
+mul-b c = let i = c .before .before .before .before .before .loop4 .inv .0 .whole in let m = c .before .before .before .before .before .before .before .before .before .before .before .before .before .before .before .before .before .before .before .before .before .before .within .ensures in omega arith
 
 element-set-from-b :
     tie.Need-element-set-from-b Inv-loop4 μ-loop4 Inv-loop3 μ-loop3 Inv-loop2 μ-loop2 Inv-loop μ-loop Inv-loop6 μ-loop6 Inv-loop5 μ-loop5
-element-set-from-b c = let i = c .before .before .before .before .before .loop4 .inv .0 .whole in let m = c .before .before .before .before .before .before .before .before .before .before .before .before .before .before .before .before .before .before .before .before .before .before .few-of .ensures in omega arith
+element-set-from-b c = let i = c .before .before .before .before .before .loop4 .inv .0 .whole in let m = c .before .before .before .before .before .before .before .before .before .before .before .before .before .before .before .before .before .before .before .before .before .before .within .ensures in omega arith
 
 add-list : tie.Need-add-list Inv-loop4 μ-loop4 Inv-loop3 μ-loop3 Inv-loop2 μ-loop2 Inv-loop μ-loop Inv-loop6 μ-loop6 Inv-loop5 μ-loop5
-add-list c = let i = c .before .before .before .before .before .loop4 .inv .0 .whole in let m = c .before .before .before .before .before .before .before .before .before .before .before .before .before .before .before .before .before .before .before .before .before .before .few-of .ensures in omega arith
+add-list c = let i = c .before .before .before .before .before .loop4 .inv .0 .whole in let m = c .before .before .before .before .before .before .before .before .before .before .before .before .before .before .before .before .before .before .before .before .before .before .within .ensures in omega arith
 
 add-k : tie.Need-add-k Inv-loop4 μ-loop4 Inv-loop3 μ-loop3 Inv-loop2 μ-loop2 Inv-loop μ-loop Inv-loop6 μ-loop6 Inv-loop5 μ-loop5
 add-k c = omega arith
@@ -164,7 +164,7 @@ loop4-again c =
     let o = sym (c .before .intersects .ensures) in
     let boxes-in : Few → List Aabb = λ x. x .boxes in
     let count-in : Few → ℕ = λ x. x .count in
-    let m = ⊎-elim (λ w. let b : l .count < fewOf cap = rw (c .before .before .before .before .before .before .before .before .before .before .before .before .before .before .before .before .before .before .before .before .before .few-of .ensures) at (w .1 .left) in kept few (capOf cap) _ _ (l .boxes) (c .if1 .list .boxes) (l .count) (c .if1 .list .count) (i .0) (ap boxes-in (w .2)) (ap count-in (w .2)) (omega arith) (omega arith) (o ∙ w .0 .taken)) (λ w. passed few (capOf cap) _ _ (l .boxes) (c .if1 .list .boxes) (l .count) (c .if1 .list .count) (i .0) (ap boxes-in (w .1)) (ap count-in (w .1)) (o ∙ w .0 .left)) (c .if1 .came) in
+    let m = ⊎-elim (λ w. let b : l .count < within few cap = rw (c .before .before .before .before .before .before .before .before .before .before .before .before .before .before .before .before .before .before .before .before .before .within .ensures) at (w .1 .left) in kept few (capOf cap) _ _ (l .boxes) (c .if1 .list .boxes) (l .count) (c .if1 .list .count) (i .0) (ap boxes-in (w .2)) (ap count-in (w .2)) (omega arith) (omega arith) (o ∙ w .0 .taken)) (λ w. passed few (capOf cap) _ _ (l .boxes) (c .if1 .list .boxes) (l .count) (c .if1 .list .count) (i .0) (ap boxes-in (w .1)) (ap count-in (w .1)) (o ∙ w .0 .left)) (c .if1 .came) in
     (m .0, sym (box-next (push _) _ _ _ _ _ _ _ (c .before .before .before .loop4-test .taken) (c .before .before .quick-aabb .ensures) _ (m .1)) ∙ i .1)
 
 add-z : tie.Need-add-z Inv-loop4 μ-loop4 Inv-loop3 μ-loop3 Inv-loop2 μ-loop2 Inv-loop μ-loop Inv-loop6 μ-loop6 Inv-loop5 μ-loop5
@@ -304,7 +304,7 @@ swept-through-spec =
     μ-loop6
     Inv-loop5
     μ-loop5
-    few-of-requires
+    within-requires
     reach-in-requires
     new-requires
     loop-holds
@@ -321,7 +321,7 @@ swept-through-spec =
     loop4-holds
     quick-aabb-requires
     intersects-requires
-    crowded-requires
+    many-requires
     returns-2
     mul-b
     element-set-from-b
