@@ -1,0 +1,64 @@
+-- From what the program finds of a file to what the definitions say of it. Assumes nothing.
+use mathlib.Core.Bool.{Bool, true, false, true≢false, false≢true}
+use mathlib.Core.List.{List, []}
+use mathlib.Core.Path.{_≡_, refl, sym, ap, _∙_}
+use Prim.Native.Nat.{ℕ, _-_, _*_, _≤_}
+use native.Mathlib.Omega.{arith}
+use lib.Dec.{leb}
+use lib.ListN.{length, take, drop, length-take}
+use lib.Seq.{take-all}
+use borrow.Author.Tests.{le-leb}
+use Rattle.base.specs.Choose.{choose}
+use Rattle.base.specs.Ask.{Ask, refused, found}
+use Rattle.files.specs.declared.Counts.{Counts}
+use Rattle.files.specs.Files.{countsFit, countsOf, blocksFor}
+use Rattle.logs.specs.Logs.{firstBlocks, sceneIn}
+
+-- ---- the scene at a file's start
+
+abbrev isFound : {A : Type 0} → Ask A → Bool
+isFound (refused k) = false
+isFound (found n) = true
+
+abbrev countsOr : Counts → Ask Counts → Counts
+countsOr d (refused k) = d
+countsOr d (found n) = n
+
+module _ (file : List ℕ) where
+  pub none-in : refused 8 ≡ choose (countsFit file) (found (countsOf file)) (refused 8) → [] ≡ sceneIn file
+  unfolding sceneIn choose
+  none-in e = go (countsFit file) e
+    where
+      go : (t : Bool) → refused 8 ≡ choose t (found (countsOf file)) (refused 8) → [] ≡ choose t (firstBlocks file (blocksFor (countsOf file))) []
+      go true e = absurd (false≢true (ap isFound e))
+      go false e = refl
+
+  pub some-in : (n : Counts) → found n ≡ choose (countsFit file) (found (countsOf file)) (refused 8) → firstBlocks file (blocksFor n) ≡ sceneIn file
+  unfolding sceneIn choose
+  some-in n e = go (countsFit file) e
+    where
+      go : (t : Bool) → found n ≡ choose t (found (countsOf file)) (refused 8) → firstBlocks file (blocksFor n) ≡ choose t (firstBlocks file (blocksFor (countsOf file))) []
+      go true e = ap (λ (m : Counts). firstBlocks file (blocksFor m)) (ap (countsOr n) e)
+      go false e = absurd (true≢false (ap isFound e))
+
+  -- a file that has no more than these blocks
+  pub first-whole : (b : ℕ) → b ≤ 128 → length file ≤ b * 512 → take (length file - 0) (drop 0 file) ≡ firstBlocks file b
+  unfolding firstBlocks choose
+  first-whole b h l = rw (le-leb b 128 h) (take-all (length file - 0) file (omega arith) ∙ sym (take-all (b * 512) file l))
+
+  -- it is a part of the file
+  first-most : (b : ℕ) → length (firstBlocks file b) ≤ length file
+  unfolding firstBlocks choose
+  first-most b = go (leb b 128)
+    where
+      go : (t : Bool) → length (choose t (take (b * 512) file) []) ≤ length file
+      go true = let e = length-take (b * 512) file in omega arith
+      go false = omega arith
+
+  pub scene-most : length (sceneIn file) ≤ length file
+  unfolding sceneIn choose
+  scene-most = go (countsFit file)
+    where
+      go : (t : Bool) → length (choose t (firstBlocks file (blocksFor (countsOf file))) []) ≤ length file
+      go true = first-most (blocksFor (countsOf file))
+      go false = omega arith
