@@ -380,3 +380,18 @@ pub fn set_cell(records: &[u32], words: &mut [u32], w: Window, p: Pos, state: u3
     }
     11
 }
+
+// The same of a cell counted from the window's origin.
+pub fn set_at(records: &[u32], words: &mut [u32], w: Window, t: Place, state: u32) -> u32
+    ensures { λ r. ⌜ r ≡ setRefusal (now (words .entry)) w (cellAt w (t .x) (t .y) (t .z)) ⌝ }
+    ensures { λ _. ⌜ now (words .exit) ≡ afterSet (now (records .entry)) (now (words .entry)) w (cellAt w (t .x) (t .y) (t .z)) state ⌝ }
+{
+    if has_summary(words, w) {
+        if is_in(w.sizes, t) {
+            set_in(records, words, w, t, state);
+            return 0;
+        }
+        return 5;
+    }
+    11
+}
