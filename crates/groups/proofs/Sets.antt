@@ -32,7 +32,7 @@ less : {j i : ℕ} → j < i → j ≡ i → ⊥
 less h e = omega arith
 
 module _ {A : Type 0} (d : A) where
-  stored-long : (l : List A) (i : ℕ) (xs : List A) → length (stored l i xs) ≡ length l
+  pub stored-long : (l : List A) (i : ℕ) (xs : List A) → length (stored l i xs) ≡ length l
   unfolding stored
   stored-long l i [] = refl
   stored-long l i (x ∷ xs) = stored-long (set l i x) (i + 1) xs ∙ length-set l i x

@@ -1,18 +1,22 @@
 -- From what the program finds of a file to what the definitions say of it. Assumes nothing.
-use mathlib.Core.Bool.{Bool, true, false, true≢false, false≢true}
+use mathlib.Core.Bool.{Bool, true, false, _&&_, true≢false, false≢true}
 use mathlib.Core.List.{List, []}
 use mathlib.Core.Path.{_≡_, refl, sym, ap, _∙_}
-use Prim.Native.Nat.{ℕ, _-_, _*_, _≤_}
+use Prim.Native.Nat.{ℕ, _+_, _-_, _*_, _%_, _≤_}
 use native.Mathlib.Omega.{arith}
-use lib.Dec.{leb}
+use lib.Dec.{eqb, ltb, leb}
 use lib.ListN.{length, take, drop, length-take}
 use lib.Seq.{take-all}
-use borrow.Author.Tests.{le-leb}
+use borrow.Author.Tests.{le-leb, le-ltb}
 use Rattle.base.specs.Choose.{choose}
 use Rattle.base.specs.Ask.{Ask, refused, found}
+use Rattle.base.proofs.Every.{both, and-right}
+use Rattle.blocks.specs.Blocks.{partFits, logPart}
 use Rattle.files.specs.declared.Counts.{Counts}
-use Rattle.files.specs.Files.{countsFit, countsOf, blocksFor}
-use Rattle.logs.specs.Logs.{firstBlocks, sceneIn}
+use Rattle.files.specs.Files.{countsFit, countsOf, flapFits, blocksFor, blocksFit, isScene}
+use Rattle.files.proofs.Told.{tells}
+use Rattle.logs.specs.declared.Log.{Log}
+use Rattle.logs.specs.Logs.{endFits, eventsFit, firstBlocks, sceneIn, blocksIn, logWord, logOf, logFits, wholeLog, isLog}
 
 -- ---- the scene at a file's start
 
@@ -62,3 +66,34 @@ module _ (file : List ℕ) where
       go : (t : Bool) → length (choose t (firstBlocks file (blocksFor (countsOf file))) []) ≤ length file
       go true = first-most (blocksFor (countsOf file))
       go false = omega arith
+
+-- ---- a file that is a scene is no log: nothing lies behind it
+
+none-behind : (word : ℕ → ℕ) (blocks e : ℕ) → blocks ≡ 0 → eventsFit word blocks e ≡ false
+unfolding eventsFit endFits
+none-behind word blocks e z =
+    let h : blocks * 30 ≤ e = omega arith in
+    let n = and-right (leb (blocks * 30) (e + 30)) (ltb e (blocks * 30)) (le-ltb e (blocks * 30) h) in
+    rw n
+
+module _ (file : List ℕ) (s : isScene file ≡ true) where
+  scene-whole : sceneIn file ≡ file
+  unfolding isScene sceneIn firstBlocks choose
+  scene-whole =
+      let t = tells file s in
+      let size = t .size in
+      let c = both (countsFit file) (flapFits file && blocksFit file (countsOf file)) s .one in
+      rw (c, le-leb (blocksFor (countsOf file)) 128 (t .few)) (take-all (blocksFor (countsOf file) * 512) file (omega arith))
+
+  no-block : logOf file .blocks ≡ 0
+  no-block = ap (λ (f : List ℕ). blocksIn file - blocksIn f) scene-whole ∙ itself (blocksIn file)
+    where
+      itself : (n : ℕ) → n - n ≡ 0
+      itself n = omega arith
+
+  pub scene-no-log : isLog file ≡ false
+  unfolding isLog wholeLog logFits
+  scene-no-log =
+      let l : Log = logOf file in
+      let e = none-behind (logWord file (l .scene) (l .blocks)) (l .blocks) (l .events) no-block in
+      and-right (isScene (sceneIn file)) _ (and-right (leb (blocksIn file) 128) _ (and-right (eqb (length file % 512) 0) _ (and-right (partFits file (logPart (l .scene) (l .blocks))) _ e)))

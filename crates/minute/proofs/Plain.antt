@@ -81,8 +81,8 @@ module _ (records words : List ℕ) (w : Window) (there : hasSummary words w ≡
 
 -- ---- a set leaves the window's check as it is
 
-apart : {n k i : ℕ} → i < n → n + k ≡ i → ⊥
-apart h e = omega arith
+apart : {n i : ℕ} (k : ℕ) → i < n → n + k ≡ i → ⊥
+apart k h e = omega arith
 
 module _ (cells : List ℕ) (w : Window) (i x : ℕ) (h : i < cellCount (w .sizes)) where
   window-kept : windowFits (set cells i x) w ≡ windowFits cells w
@@ -90,7 +90,7 @@ module _ (cells : List ℕ) (w : Window) (i x : ℕ) (h : i < cellCount (w .size
   window-kept =
       let n = length-set cells i x in
       let c = every-same (λ k. columnFits (set cells i x) (cellCount (w .sizes) + k)) (λ k. columnFits cells (cellCount (w .sizes) + k))
-          (λ k. ap (λ (v : ℕ). leb v 1) (getD-set-other cells i (cellCount (w .sizes) + k) x 0 (apart h))) (columnCount (w .sizes)) in
+          (λ k. ap (λ (v : ℕ). leb v 1) (getD-set-other cells i (cellCount (w .sizes) + k) x 0 (apart k h))) (columnCount (w .sizes)) in
       λ j. sizesFit (w .sizes) && originFits (w .origin) && heightsFit (w .lowest) (w .highest) && eqb (n j) (cellCount (w .sizes) + columnCount (w .sizes)) && c j
 
   pub lent-kept : (records : List ℕ) (shapes : List Float) → lentRefusal records shapes (set cells i x) w ≡ lentRefusal records shapes cells w

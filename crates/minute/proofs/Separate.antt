@@ -24,7 +24,7 @@ use Rattle.falls.specs.Answers.{fallingEntry}
 use Rattle.logs.specs.declared.CellSet.{CellSet as LogSet}
 use Rattle.logs.specs.declared.Event.{Event}
 use Rattle.logs.specs.declared.Event.the-variants as event
-use Rattle.minute.specs.Minute.{Lent, State, older, stepOn, ticked, setPlace, changed, eventOn, after, startRefusal, start, minute}
+use Rattle.minute.specs.Minute.{Lent, State, older, stepOn, ended, stepped, ticked, setPlace, changed, eventOn, after, startRefusal, start, minute}
 use Rattle.minute.specs.Separate.{singleStep, setAlone, eventAlone, separately, Equals}
 use Rattle.minute.proofs.Plain.{plain-built, plain-set, lent-kept, tick-plain}
 
@@ -53,7 +53,7 @@ module _ (l : Lent) (s t : State) (a : Alike l s t) where
   unfolding ticked choose
   ticked-alike r = go (eqb (r .step .refusal) 0)
     where
-      go : (b : Bool) → Alike l (choose {A = State} b _ _) (choose {A = State} b _ _)
+      go : (b : Bool) → Alike l (choose b (stepped s r) (ended s (r .step .refusal))) (choose b (stepped t r) (ended t (r .step .refusal)))
       go true =
           record {
             motion = refl;
@@ -114,11 +114,12 @@ all-alike l [] s t a = a
 all-alike l (e ∷ es) s t a =
     subst (λ (b : Bool). Alike l (choose (eqb (s .refusal) 0) (after l (eventOn l s e) es) s) (choose b (separately l (eventAlone l t e) es) t))
     (ap (λ (n : ℕ). eqb n 0) (a .refusal))
-    (go (eqb (s .refusal) 0))
+    (go (eqb (s .refusal) 0) (λ k. all-alike l es (eventOn l s e) (eventAlone l t e) k))
   where
-    go : (b : Bool) → Alike l (choose b (after l (eventOn l s e) es) s) (choose b (separately l (eventAlone l t e) es) t)
-    go true = all-alike l es (eventOn l s e) (eventAlone l t e) (event-alike l s t a e)
-    go false = a
+    go : (b : Bool) → (Alike l (eventOn l s e) (eventAlone l t e) → Alike l (after l (eventOn l s e) es) (separately l (eventAlone l t e) es))
+        → Alike l (choose b (after l (eventOn l s e) es) s) (choose b (separately l (eventAlone l t e) es) t)
+    go true again = again (event-alike l s t a e)
+    go false again = a
 
 -- ---- the start
 
@@ -135,10 +136,10 @@ second n m h = go (eqb n 0) refl h
     go true e h = (eqb→eq n 0 (subst T (sym e) tt), h)
     go false e h = absurd (true≢false (sym (eq-eqb n 0 h) ∙ e))
 
-there-by : (b : Bool) → choose b 0 11 ≡ 0 → b ≡ true
+there-by : (b : Bool) → choose {A = ℕ} b 0 11 ≡ 0 → b ≡ true
 unfolding choose
 there-by true h = refl
-there-by false h = let z : 11 ≡ 0 = h in absurd (omega arith)
+there-by false h = let z : _≡_ {A = ℕ} 11 0 = h in absurd (omega arith)
 
 starts : (l : Lent) (words : List ℕ) (given : MotionNumbers) → startRefusal l words given ≡ 0 → Starts l words
 unfolding startRefusal buildRefusal

@@ -6,18 +6,21 @@ use Prim.Native.Nat.{ℕ, suc, _+_, _-_, _*_, _≤_, _<_}
 use native.Mathlib.Omega.{arith}
 use lib.Dec.{eqb}
 use lib.Ieee.{Float}
-use lib.ListN.{length, length-append}
+use lib.ListN.{length, set, length-append, length-set}
 use borrow.Author.Tests.{eq-eqb, ne-eqb}
 use Rattle.base.specs.Choose.{choose}
 use Rattle.base.specs.Loop.{listed, stored}
 use Rattle.base.proofs.Fill.{stored-then}
+use Rattle.floats.specs.Numbers.{zero64}
 use Rattle.boxes.specs.declared.Vec3.{Vec3}
+use Rattle.groups.specs.Summary.{hasSummary, isInside, setIn, afterSet}
+use Rattle.groups.proofs.Sets.{stored-long}
 use Rattle.falls.specs.declared.FallingAnswer.{FallingAnswer}
 use Rattle.logs.specs.declared.Event.{Event}
 use Rattle.logs.specs.declared.Event.the-variants as event
 use Rattle.minute.specs.declared.Minute.{Minute}
-use Rattle.minute.specs.Minute.{Lent, State, ticked, eventOn, after, numbersOf}
-use Rattle.minute.specs.Turns.{minuteOf, stateOf, stepBy, tickedBy, feetNumbers, feetBy, turnedBy, wordsBy, feetAfter}
+use Rattle.minute.specs.Minute.{Lent, State, ended, stepped, ticked, setPlace, eventOn, after, numbersOf}
+use Rattle.minute.specs.Turns.{minuteOf, stateOf, endedWith, stepBy, steppedBy, tickedBy, feetNumbers, feetBy, turnedBy, wordsBy, feetAfter}
 
 -- ---- the lines as numbers
 
@@ -46,7 +49,7 @@ module _ (m : Minute) (words : List ℕ) (lines : List Vec3) (a : FallingAnswer)
   unfolding ticked tickedBy choose line
   ticked-is = go (eqb (a .step .refusal) 0)
     where
-      go : (b : Bool) → choose {A = State} b _ _ ≡ stateOf (choose {A = Minute} b _ _) words (choose b (lines ++ (a .step .motion .feet ∷ [])) lines)
+      go : (b : Bool) → choose b (stepped (stateOf m words lines) a) (ended (stateOf m words lines) (a .step .refusal)) ≡ stateOf (choose b (steppedBy m a) (endedWith m (a .step .refusal))) words (choose b (lines ++ (a .step .motion .feet ∷ [])) lines)
       go true = refl
       go false = refl
 
@@ -54,7 +57,7 @@ module _ (m : Minute) (words : List ℕ) (lines : List Vec3) (a : FallingAnswer)
   unfolding tickedBy choose line
   ticked-count e = go (eqb (a .step .refusal) 0)
     where
-      go : (b : Bool) → (choose {A = Minute} b _ _) .ticks ≡ length (choose b (lines ++ (a .step .motion .feet ∷ [])) lines)
+      go : (b : Bool) → (choose b (steppedBy m a) (endedWith m (a .step .refusal))) .ticks ≡ length (choose b (lines ++ (a .step .motion .feet ∷ [])) lines)
       go true = let p = length-append lines (a .step .motion .feet ∷ []) in omega arith
       go false = e
 
@@ -62,7 +65,7 @@ module _ (m : Minute) (words : List ℕ) (lines : List Vec3) (a : FallingAnswer)
   unfolding tickedBy choose
   ticked-few = go (eqb (a .step .refusal) 0)
     where
-      go : (b : Bool) → (choose {A = Minute} b _ _) .ticks ≤ m .ticks + 1
+      go : (b : Bool) → (choose b (steppedBy m a) (endedWith m (a .step .refusal))) .ticks ≤ m .ticks + 1
       go true = omega arith
       go false = omega arith
 
@@ -70,9 +73,6 @@ module _ (m : Minute) (words : List ℕ) (lines : List Vec3) (a : FallingAnswer)
   unfolding feetBy choose line
   ticked-feet feet₀ feet n e = go (eqb (a .step .refusal) 0)
     where
-      v : Vec3
-      v = a .step .motion .feet
-
       go : (b : Bool) → choose b (stored feet (m .ticks * 3) (feetNumbers (a .step .motion .feet))) feet ≡ stored feet₀ 0 (numbersOf (choose b (lines ++ (a .step .motion .feet ∷ [])) lines))
       go true =
           let at : m .ticks * 3 ≡ 0 + length (numbersOf lines) = let g = numbers-length lines in omega arith in
@@ -100,6 +100,18 @@ module _ (l : Lent) (words : List ℕ) (m : Minute) (lines : List Vec3) where
   event-feet event.Tick feet₀ feet h p = ticked-feet m words lines (stepBy l words m) feet₀ feet h p
   event-feet (event.Set q) feet₀ feet h p = p
 
+-- ---- nothing grows
+
+words-long : (l : Lent) (words : List ℕ) (e : Event) → length (wordsBy l words e) ≡ length words
+unfolding afterSet choose
+words-long l words event.Tick = refl
+words-long l words (event.Set q) = go (hasSummary words (l .window)) (isInside (l .window) (setPlace l q))
+  where
+    go : (b c : Bool) → length (choose b (choose c (setIn (l .records) words (l .window) (setPlace l q) (q .state)) words) words) ≡ length words
+    go true true = length-set (set words _ _) _ _ ∙ length-set words _ _
+    go true false = refl
+    go false c = refl
+
 -- ---- after i of n events: what is left comes to the whole
 
 pub record Held (l : Lent) (ev : ℕ → Event) (n : ℕ) (whole : State) (feet₀ : List Float) (i : ℕ) (m : Minute) (words : List ℕ) (feet : List Float) : Type 0 where
@@ -109,11 +121,21 @@ pub record Held (l : Lent) (ev : ℕ → Event) (n : ℕ) (whole : State) (feet�
   pub here : feet ≡ stored feet₀ 0 (numbersOf lines)
   pub rest : after l (stateOf m words lines) (listed ev (n - i) i) ≡ whole
 
+-- and no refusal has come so far
+pub record Going (l : Lent) (ev : ℕ → Event) (n : ℕ) (whole : State) (words₀ : List ℕ) (feet₀ : List Float) (i : ℕ) (m : Minute) (words : List ℕ) (feet : List Float) : Type 0 where
+  pub held : Held l ev n whole feet₀ i m words feet
+  pub fine : m .refusal ≡ 0
+  pub words-same : length words ≡ length words₀
+
 -- and after the last
 pub record Done (whole : State) (feet₀ : List Float) (m : Minute) (words : List ℕ) (feet : List Float) : Type 0 where
   pub is : m ≡ minuteOf whole
   pub cells : words ≡ whole .words
   pub numbers : feet ≡ stored feet₀ 0 (numbersOf (whole .lines))
+
+pub feet-same : {l : Lent} {ev : ℕ → Event} {n : ℕ} {whole : State} {feet₀ : List Float} {i : ℕ} {m : Minute} {words : List ℕ} {feet : List Float} → Held l ev n whole feet₀ i m words feet
+    → length feet ≡ length feet₀
+feet-same h = ap length (h .here) ∙ stored-long zero64 _ 0 (numbersOf (h .lines))
 
 pub held-first : (l : Lent) (ev : ℕ → Event) (n : ℕ) (feet : List Float) (m : Minute) (words : List ℕ) → m .ticks ≡ 0
     → Held l ev n (after l (stateOf m words []) (listed ev n 0)) feet 0 m words feet
@@ -121,6 +143,10 @@ unfolding stored numbersOf
 held-first l ev n feet m words e =
     let q : n - 0 ≡ n = omega arith in
     record { lines = []; count = e; few = omega arith; here = refl; rest = ap (λ (k : ℕ). after l (stateOf m words []) (listed ev k 0)) q }
+
+pub going-first : (l : Lent) (ev : ℕ → Event) (n : ℕ) (feet : List Float) (m : Minute) (words : List ℕ) → m .ticks ≡ 0 → m .refusal ≡ 0
+    → Going l ev n (after l (stateOf m words []) (listed ev n 0)) words feet 0 m words feet
+going-first l ev n feet m words e f = record { held = held-first l ev n feet m words e; fine = f; words-same = refl }
 
 module _ (l : Lent) (ev : ℕ → Event) (n : ℕ) (whole : State) (feet₀ : List Float) (i : ℕ) (m : Minute) (words : List ℕ) (feet : List Float) (h : Held l ev n whole feet₀ i m words feet) where
   pub held-next : i < n → m .refusal ≡ 0 → (e : Event) → e ≡ ev i
@@ -160,3 +186,17 @@ module _ (l : Lent) (ev : ℕ → Event) (n : ℕ) (whole : State) (feet₀ : Li
   pub held-end : n ≤ i → Done whole feet₀ m words feet
   unfolding after listed
   held-end least = let q : n - i ≡ 0 = omega arith in finish (rw q at (h .rest))
+
+-- ---- a turn of the loop, by what the calls answer
+
+module _ (l : Lent) (ev : ℕ → Event) (n : ℕ) (whole : State) (words₀ : List ℕ) (feet₀ : List Float) (i : ℕ) (m : Minute) (words : List ℕ) (feet : List Float)
+    (g : Going l ev n whole words₀ feet₀ i m words feet) (less : i < n) (e : Event) (is : e ≡ ev i)
+    (m′ : Minute) (words′ : List ℕ) (feet′ : List Float) (em : m′ ≡ turnedBy l words m e) (ew : words′ ≡ wordsBy l words e) (ef : feet′ ≡ feetAfter l words m feet e) where
+  pub turn-held : Held l ev n whole feet₀ (i + 1) m′ words′ feet′
+  turn-held = rw (em, ew, ef) (held-next l ev n whole feet₀ i m words feet (g .held) less (g .fine) e is)
+
+  pub turn-words : length words′ ≡ length words₀
+  turn-words = ap length ew ∙ words-long l words e ∙ g .words-same
+
+  pub turn-going : m′ .refusal ≡ 0 → Going l ev n whole words₀ feet₀ (i + 1) m′ words′ feet′
+  turn-going f = record { held = turn-held; fine = f; words-same = turn-words }

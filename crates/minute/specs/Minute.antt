@@ -49,20 +49,19 @@ pub record State : Type 0 where
 
 -- ---- a tick: the step over the window as it then is, with its own 3 and 4
 
-abbrev pub stepOn : Lent → State → FallingAnswer
-stepOn l s = fallingChecked (l .records) (l .shapes) (s .words) (l .window) (l .rules) (l .body) (s .motion) (s .age) (s .fall)
-
 -- "its age rising by one after each tick", and it "wraps at 2^64 to 0"
 abbrev pub older : ℕ → ℕ
 older age = (age + 1) % 18446744073709551616
+
+abbrev pub stepOn : Lent → State → FallingAnswer
+stepOn l s = fallingChecked (l .records) (l .shapes) (s .words) (l .window) (l .rules) (l .body) (s .motion) (s .age) (s .fall)
 
 -- a refusal leaves all as it was
 abbrev pub ended : State → ℕ → State
 ended s n = record { motion = s .motion; age = s .age; fall = s .fall; words = s .words; lines = s .lines; refusal = n }
 
-unfoldable pub ticked : State → FallingAnswer → State
-ticked s a =
-    choose (eqb (a .step .refusal) 0)
+abbrev pub stepped : State → FallingAnswer → State
+stepped s a =
     record {
       motion = a .step .motion;
       age = older (s .age);
@@ -71,7 +70,9 @@ ticked s a =
       lines = s .lines ++ (a .step .motion .feet ∷ []);
       refusal = 0;
     }
-    (ended s (a .step .refusal))
+
+unfoldable pub ticked : State → FallingAnswer → State
+ticked s a = choose (eqb (a .step .refusal) 0) (stepped s a) (ended s (a .step .refusal))
 
 -- ---- a set: one cell is written and one word of the summary mended; "5 for a set outside the window"
 

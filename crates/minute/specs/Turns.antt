@@ -31,11 +31,11 @@ endedWith m n = record { motion = m .motion; age = m .age; fall = m .fall; ticks
 abbrev pub stepBy : Lent → List ℕ → Minute → FallingAnswer
 stepBy l words m = fallingChecked (l .records) (l .shapes) words (l .window) (l .rules) (l .body) (m .motion) (m .age) (m .fall)
 
+abbrev pub steppedBy : Minute → FallingAnswer → Minute
+steppedBy m a = record { motion = a .step .motion; age = older (m .age); fall = a .fall; ticks = m .ticks + 1; refusal = 0 }
+
 unfoldable pub tickedBy : Minute → FallingAnswer → Minute
-tickedBy m a =
-    choose (eqb (a .step .refusal) 0)
-    record { motion = a .step .motion; age = older (m .age); fall = a .fall; ticks = m .ticks + 1; refusal = 0 }
-    (endedWith m (a .step .refusal))
+tickedBy m a = choose (eqb (a .step .refusal) 0) (steppedBy m a) (endedWith m (a .step .refusal))
 
 abbrev pub feetNumbers : Vec3 → List Float
 feetNumbers v = v .x ∷ v .y ∷ v .z ∷ []

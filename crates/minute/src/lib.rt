@@ -13,11 +13,11 @@ use window::Window;
 ghost use mathlib.Core.Path.{_≡_};
 ghost use mathlib.Core.List.{[]};
 ghost use Prim.Native.Nat.{_<_, _*_};
-ghost use Rattle.base.specs.Loop.{stored};
+ghost use Rattle.base.specs.Loop.{listed, stored};
 ghost use Rattle.window.specs.Numbers.{withAir};
 ghost use Rattle.groups.specs.Groups.{cellAt};
 ghost use Rattle.groups.specs.Summary.{setRefusal, afterSet};
-ghost use Rattle.logs.specs.Logs.{eventsBy};
+ghost use Rattle.logs.specs.Logs.{logWord, eventAt, eventsBy};
 ghost use Rattle.minute.specs.Minute.{lentBy, older, after, start, startRefusal, minute, numbersOf};
 ghost use Rattle.minute.specs.Turns.{minuteOf, stateOf, endedWith, stepBy, tickedBy, feetNumbers, feetBy, turnedBy, wordsBy, feetAfter};
 
@@ -120,20 +120,20 @@ fn turn(
     }
 }
 
-// All events of a log, one after the other; the first refusal ends it.
+// The first n events of a log, one after the other; the first refusal ends it.
 fn play(
     records: &[u32], shapes: &[f32], words: &mut [u32], w: Window, rules: Rules, body: BodyNumbers, begun: Minute, file: &[u8], log: Log,
-    feet: &mut [f64],
+    n: u16, feet: &mut [f64],
 ) -> Minute
     requires { ⌜ begun .ticks ≡ 0 ⌝ }
     requires { ⌜ begun .refusal ≡ 0 ⌝ }
-    ensures { λ r. ⌜ r ≡ minuteOf (after (lentBy (now (records .entry)) (now (shapes .entry)) w rules body) (stateOf begun (now (words .entry)) []) (eventsBy (now (file .entry)) log)) ⌝ }
-    ensures { λ _. ⌜ now (words .exit) ≡ after (lentBy (now (records .entry)) (now (shapes .entry)) w rules body) (stateOf begun (now (words .entry)) []) (eventsBy (now (file .entry)) log) .words ⌝ }
-    ensures { λ _. ⌜ now (feet .exit) ≡ stored (now (feet .entry)) 0 (numbersOf (after (lentBy (now (records .entry)) (now (shapes .entry)) w rules body) (stateOf begun (now (words .entry)) []) (eventsBy (now (file .entry)) log) .lines)) ⌝ }
+    ensures { λ r. ⌜ r ≡ minuteOf (after (lentBy (now (records .entry)) (now (shapes .entry)) w rules body) (stateOf begun (now (words .entry)) []) (listed (eventAt (logWord (now (file .entry)) (log .scene) (log .blocks))) n 0)) ⌝ }
+    ensures { λ _. ⌜ now (words .exit) ≡ after (lentBy (now (records .entry)) (now (shapes .entry)) w rules body) (stateOf begun (now (words .entry)) []) (listed (eventAt (logWord (now (file .entry)) (log .scene) (log .blocks))) n 0) .words ⌝ }
+    ensures { λ _. ⌜ now (feet .exit) ≡ stored (now (feet .entry)) 0 (numbersOf (after (lentBy (now (records .entry)) (now (shapes .entry)) w rules body) (stateOf begun (now (words .entry)) []) (listed (eventAt (logWord (now (file .entry)) (log .scene) (log .blocks))) n 0) .lines)) ⌝ }
 {
     let mut m = begun;
     let mut i = 0u16;
-    while i < log.events {
+    while i < n {
         let e = logs::event_at(file, log, i);
         m = turn(records, shapes, words, w, rules, body, m, e, feet);
         if m.refusal != 0 {
@@ -192,5 +192,5 @@ pub fn run(
         return begin(given, age, refusal);
     }
     groups::build(records, words, window::with_air(w, rules.air));
-    play(records, shapes, words, w, rules, body, begin(given, age, 0), file, log, feet)
+    play(records, shapes, words, w, rules, body, begin(given, age, 0), file, log, log.events, feet)
 }
