@@ -54,6 +54,10 @@ minuteNumbers m =
     ∷ ofInt binary64 (pos (m .motion .ground)) ∷ m .fall .sum ∷ m .fall .landed
     ∷ ofInt binary64 (pos (m .ticks)) ∷ ofInt binary64 (pos (lowOf (m .age))) ∷ ofInt binary64 (pos (highOf (m .age))) ∷ []
 
+-- the log came to its end, or a tick was done
+abbrev pub hasMoved : Minute → Bool
+hasMoved m = eqb (m .refusal) 0 || ltb 0 (m .ticks)
+
 -- a refusal before the first tick writes nothing
 unfoldable pub minuteWritten : List Float → Minute → List Float
-minuteWritten out m = choose (eqb (m .refusal) 0 || ltb 0 (m .ticks)) (stored out 0 (minuteNumbers m)) out
+minuteWritten out m = choose (hasMoved m) (stored out 0 (minuteNumbers m)) out

@@ -20,7 +20,7 @@ ghost use Rattle.lent_words.specs.Words.{lowOf, highOf};
 ghost use Rattle.logs.specs.Logs.{eventsBy};
 ghost use Rattle.minute.specs.Minute.{lentBy, minute, numbersOf};
 ghost use Rattle.minute.specs.Turns.{minuteOf};
-ghost use Rattle.minutes.specs.Calls.{wholeBody, shortAt, minuteAt, minuteNumbers, minuteWritten};
+ghost use Rattle.minutes.specs.Calls.{wholeBody, shortAt, minuteAt, minuteNumbers, hasMoved, minuteWritten};
 
 fn whole_body(numbers: &[f64], words: &[u32], places: usize) -> bool
     ensures { λ r. ⌜ r ≡ wholeBody (now (numbers .entry)) (now (words .entry)) places ⌝ }
@@ -73,17 +73,21 @@ fn put_minute(out: &mut [f64], m: Minute)
     put_counts(out, m.ticks, m.age);
 }
 
+fn has_moved(m: Minute) -> bool
+    ensures { λ r. ⌜ r ≡ hasMoved m ⌝ }
+{
+    (m.refusal == 0) | (0 < m.ticks)
+}
+
 // A refusal before the first tick writes nothing.
 fn minute_into(out: &mut [f64], m: Minute) -> u32
     ensures { λ r. ⌜ r ≡ m .refusal ⌝ }
     ensures { λ _. ⌜ now (out .exit) ≡ minuteWritten (now (out .entry)) m ⌝ }
 {
-    if m.refusal != 0 {
-        if m.ticks == 0 {
-            return m.refusal;
-        }
+    if has_moved(m) {
+        put_minute(out, m);
+        return m.refusal;
     }
-    put_minute(out, m);
     m.refusal
 }
 
