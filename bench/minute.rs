@@ -5,6 +5,7 @@
 use std::hint::black_box;
 use std::time::Instant;
 
+#[allow(dead_code)]
 mod palette;
 #[allow(dead_code)]
 mod standins;
@@ -44,7 +45,7 @@ unsafe extern "C" {
 const TICKS: usize = 1200;
 const SETS: usize = 600;
 const RUNS: usize = 12;
-const PASSES: usize = 40;
+const PASSES: usize = 100;
 const N: u32 = SIZE as u32;
 const GROUPS: usize = 64;
 

@@ -38,7 +38,7 @@ SENTENCES = {
     10: "In the midnight run: the body names no window.",
     11: "In a direct call: the memory lent for the answer is too short; or, in a call over a summary, there are not as many words behind cells and "
         "columns as the window has groups.",
-    12: "In a direct call that writes a scene: it has more than 128 blocks.",
+    12: "In a direct call that writes a scene or a log: it has more than 128 blocks, those of the scene counted in.",
     13: "In a call over a summary, and in the midnight run for a body of its air state: the word of a group disagrees with its cells.",
     14: "In the midnight run: more than 16 windows, or more than 4,096 bodies (2,048 of each of two parties).",
 }
