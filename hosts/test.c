@@ -296,6 +296,7 @@ static void minute_refused(uint32_t theirs, struct lengths n) {
 }
 
 static void minute(void) {
+    if (chance(4) == 0) body[38] = UINT32_MAX - chance(20), body[39] = UINT32_MAX; /* an age that wraps at 2^64 to 0 */
     size_t events_len = events_at_random(), bytes = log_of(events_len);
     if (!bytes) return;
     struct lengths n = {20 * (size_t)body[46], cells_len() + groups_len(), 19, 12, bytes}, m = n;
