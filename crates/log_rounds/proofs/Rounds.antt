@@ -1,34 +1,30 @@
 -- A log that was written is a log, and holds the scene and the events that were handed over. Assumes nothing.
-use mathlib.Core.Bool.{Bool, true, false, _&&_, _||_, true≢false}
+use mathlib.Core.Bool.{true, true≢false}
 use mathlib.Core.List.{List, _++_}
-use mathlib.Core.Path.{_≡_, refl, sym, ap, subst, _∙_}
-use Prim.Native.Nat.{ℕ, zero, suc, _+_, _-_, _*_, _/_, _%_, _<_, _≤_}
+use mathlib.Core.Path.{_≡_, refl, sym, ap, _∙_}
+use Prim.Native.Nat.{ℕ, zero, suc, _+_, _-_, _*_, _%_, _<_, _≤_}
 use native.Mathlib.Decide.{decLt}
 use native.Mathlib.Omega.{arith}
-use lib.Dec.{eqb, ltb, leb}
-use lib.ListN.{length, getD, take, drop, take-append-drop, length-append, List·getD-eq-default}
-use lib.Seq.{take-append-le, take-at, take-take, drop-at, take-length}
+use lib.Dec.{eqb}
+use lib.ListN.{length, take, drop, take-append-drop, length-append, List·getD-eq-default}
+use lib.Seq.{take-append-le, take-at, take-take, drop-at}
 use borrow.Author.Tests.{lt-ltb, le-ltb, le-leb, eq-eqb, ne-eqb, eqb-true}
 use Rattle.base.specs.Choose.{choose}
 use Rattle.base.specs.Every.{every}
-use Rattle.base.specs.Loop.{listed, stored}
+use Rattle.base.specs.Loop.{listed}
 use Rattle.base.proofs.Every.{both, and-true, every-at, every-from}
 use Rattle.base.proofs.Stored.{stored-parts}
-use Rattle.blocks.specs.declared.Part.{Part}
-use Rattle.blocks.specs.Blocks.{blockOf, marked, isSecond, perBlock, blocksOf, endOf, partFits, partWord, bodyPart, logPart}
+use Rattle.blocks.specs.Blocks.{marked, isSecond, perBlock, blocksOf, endOf, partFits, partWord, bodyPart}
 use Rattle.blocks.proofs.Words.{block-is}
-use Rattle.files.specs.Files.{countsOf, blocksFor, isScene}
-use Rattle.files.specs.Contents.{Contents, contentsIn}
+use Rattle.files.specs.Files.{isScene}
+use Rattle.files.specs.Contents.{Contents}
 use Rattle.files.proofs.Told.{tells}
-use Rattle.part_writer.specs.Bytes.{partBytes, wordIn}
+use Rattle.part_writer.specs.Bytes.{wordIn}
 use Rattle.part_writer.proofs.Parts.{Holds, part-length, holds-last, holds-fits, holds-word}
-use Rattle.writer.specs.Contents.{asWritten}
-use Rattle.writer.specs.Written.{sceneRefusal, writtenScene, sceneAnswer}
-use Rattle.rounds.specs.Rounds.{Typed, fileOf}
+use Rattle.writer.specs.Written.{writtenScene, sceneAnswer}
+use Rattle.rounds.specs.Rounds.{fileOf}
 use Rattle.rounds.proofs.Written.{written-then-read}
-use Rattle.logs.specs.declared.Log.{Log}
-use Rattle.logs.specs.declared.Event.{Event}
-use Rattle.logs.specs.Logs.{isTick, isSet, eventFits, eventAt, endFrom, endFits, restZero, eventsFit, sceneIn, blocksIn, logWord, logBehind, logOf, logFits, wholeLog, isLog, eventsBy, eventsOf}
+use Rattle.logs.specs.Logs.{isTick, isSet, eventFits, eventAt, endFrom, endFits, restZero, eventsFit, sceneIn, blocksIn, logWord, logOf, logFits, wholeLog, isLog, eventsBy, eventsOf}
 use Rattle.log_writer.specs.Written.{lentCount, lentFit, lentEvents, sceneThere, sceneBlocks, logBlocks, allBlocks, partOf, logBytes, logRefusal, writtenLog, logAnswer}
 use Rattle.log_writer.proofs.Puts.{log-blocks, Passes, passes}
 use Rattle.log_rounds.specs.Rounds.{logFile, ReadsBack, Words, LoggedThenRead, MinuteThenRead}

@@ -1,20 +1,18 @@
 -- A scene at the start of a longer file is the scene that is found there. Assumes nothing.
-use mathlib.Core.Bool.{Bool, true, false, _&&_, false≢true}
+use mathlib.Core.Bool.{Bool, true, false, _&&_}
 use mathlib.Core.List.{List, [], _++_}
-use mathlib.Core.Path.{_≡_, refl, sym, ap, _∙_}
+use mathlib.Core.Path.{_≡_, refl, sym, _∙_}
 use Prim.Native.Nat.{ℕ, _+_, _*_, _/_, _<_, _≤_, min}
 use native.Mathlib.Decide.{decLt}
 use native.Mathlib.Omega.{arith}
 use lib.Dec.{leb}
 use lib.ListN.{length, take, drop, length-append, length-take, length-drop}
-use lib.Seq.{take-append-le, drop-append-le, take-at, take-take, take-all}
+use lib.Seq.{take-append-le, drop-append-le, take-at, take-all}
 use borrow.Author.Tests.{lt-ltb, le-ltb, le-leb}
 use Rattle.base.specs.Choose.{choose}
 use Rattle.base.proofs.Every.{both}
-use Rattle.window.specs.declared.Sizes.{Sizes}
-use Rattle.lent_words.specs.Words.{windowFrom}
 use Rattle.blocks.specs.declared.Part.{Part}
-use Rattle.blocks.specs.Blocks.{blockOf, fileWord, perBlock, endOf, partWord, bodyPart, windowPart}
+use Rattle.blocks.specs.Blocks.{blockOf, perBlock, endOf, partWord, bodyPart, windowPart}
 use Rattle.blocks.proofs.Words.{block-is}
 use Rattle.files.specs.declared.Counts.{Counts}
 use Rattle.files.specs.Places.{statesPlace, boxesPlace}

@@ -8,7 +8,7 @@ use lib.ListN.{length}
 use borrow.Author.Tests.{ne-eqb}
 use Rattle.base.specs.Choose.{choose}
 use Rattle.base.proofs.Every.{both}
-use Rattle.blocks.specs.Blocks.{perBlock, blocksOf, endOf, logPart}
+use Rattle.blocks.specs.Blocks.{perBlock, blocksOf, logPart}
 use Rattle.part_writer.specs.Bytes.{writtenPart, wordIn}
 use Rattle.part_writer.proofs.Parts.{room-there}
 use Rattle.writer.specs.Written.{roomFor}
