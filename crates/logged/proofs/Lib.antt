@@ -1,0 +1,6 @@
+-- Laws of this crate's definitions, on plain values.
+pub mod Alone
+pub mod Scenes
+pub mod Files
+pub mod Few
+pub mod Back

@@ -1,0 +1,82 @@
+-- `logged::run::run_among` meets its contract. Assumes nothing.
+use mathlib.Core.Path.{ap, _∙_}
+use Rattle.base.specs.Loop.{stored}
+use Rattle.logs.specs.Logs.{eventsBy}
+use Rattle.minute.specs.Minute.{State, numbersOf}
+use Rattle.minute.specs.Turns.{minuteOf}
+use Rattle.logged.proofs.Scenes.{among}
+use borrow.Author.Needs.{needs}
+use Rattle.logged.proofs.run.run_among.Statement.{statement}
+use Rattle.logged.proofs.run.run_among.Tie as tie
+
+numbers-in-requires : tie.Need-numbers-in-requires
+numbers-in-requires c κs = search needs
+
+words-in-requires : tie.Need-words-in-requires
+words-in-requires c κs = search needs
+
+slice-aggregate-rules-from : tie.Need-slice-aggregate-rules-from
+slice-aggregate-rules-from c = search needs
+
+slice-aggregate-rules-from-2 : tie.Need-slice-aggregate-rules-from-2
+slice-aggregate-rules-from-2 c = search needs
+
+rules-from-requires : tie.Need-rules-from-requires
+rules-from-requires c κs = search needs
+
+slice-aggregate-body-from : tie.Need-slice-aggregate-body-from
+slice-aggregate-body-from c = search needs
+
+slice-aggregate-body-from-2 : tie.Need-slice-aggregate-body-from-2
+slice-aggregate-body-from-2 c = search needs
+
+body-from-requires : tie.Need-body-from-requires
+body-from-requires c κs = search needs
+
+slice-aggregate-motion-from : tie.Need-slice-aggregate-motion-from
+slice-aggregate-motion-from c = search needs
+
+slice-aggregate-motion-from-2 : tie.Need-slice-aggregate-motion-from-2
+slice-aggregate-motion-from-2 c = search needs
+
+motion-from-requires : tie.Need-motion-from-requires
+motion-from-requires c κs = search needs
+
+age-in-requires : tie.Need-age-in-requires
+age-in-requires c κs = search needs
+
+run-requires : tie.Need-run-requires
+run-requires c κs = search needs
+
+same-length : tie.Need-same-length
+same-length c = search needs
+
+same-length-2 : tie.Need-same-length-2
+same-length-2 c = search needs
+
+returns : tie.Need-returns
+returns c =
+    let a = c .before .before .before .before .before .before .before .before .before .before .before .before .before .before .before .before .before .before .before .before .before .before .before .before .before .args in
+    let same = among (a .records .now) (a .shapes .now) (a .words .now) (a .w) (eventsBy (a .file .now) (a .log)) _ _ _ _ _ _ _ _ _ (c .before .before .before .before .before .before .before .before .before .before .before .before .before .before .rules-from .ensures) (c .before .before .before .before .before .before .before .before .before .before .before .body-from .ensures) (c .before .before .before .before .before .before .before .before .motion-from .ensures) (c .before .before .before .before .before .before .before .age-in .ensures) (c .before .before .before .before .before .before .before .before .before .before .before .before .before .before .before .before .before .before .numbers-in .ensures) (c .before .before .before .before .before .before .before .before .before .before .before .before .before .before .before .before .before .words-in .ensures) in
+    (c .before .before .before .before .run .ensures .0 ∙ ap minuteOf same, c .before .before .before .before .run .ensures .1 .1 ∙ ap (λ (k : State). stored (a .feet .now) 0 (numbersOf (k .lines))) same)
+
+pub run-among-spec : {M : Type 1} → statement M
+run-among-spec =
+    tie.close
+    (tie.spec
+    numbers-in-requires
+    words-in-requires
+    slice-aggregate-rules-from
+    slice-aggregate-rules-from-2
+    rules-from-requires
+    slice-aggregate-body-from
+    slice-aggregate-body-from-2
+    body-from-requires
+    slice-aggregate-motion-from
+    slice-aggregate-motion-from-2
+    motion-from-requires
+    age-in-requires
+    run-requires
+    same-length
+    same-length-2
+    returns)
