@@ -4,3 +4,5 @@ pub mod Scenes
 pub mod Files
 pub mod Few
 pub mod Back
+pub mod Room
+pub mod Refusals

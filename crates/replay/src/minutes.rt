@@ -1,5 +1,5 @@
 // The logs of data/, by number: each with what `oneminute` prints of it, its lines joined by `; `; then with the fall record after each of its ticks, and
-// the refusal that ends it.
+// the refusal that ends it; and what `onetick` prints of each that is a log.
 use logs::Event;
 use logs::Log;
 use logs::Logged;
@@ -77,6 +77,19 @@ fn put_falls(file: &[u8]) -> bool {
     }
 }
 
+// A log is no scene.
+fn put_tick(n: u32, file: &[u8]) {
+    match logs::log_of(file) {
+        Logged::Is(_) => {
+            crate::text::put(b"onetick ");
+            crate::scenes::put_label(n);
+            crate::scenes::put_lines(file);
+            crate::text::put(b"\n");
+        }
+        Logged::Unfit => {}
+    }
+}
+
 // The refusal that ends a minute.
 fn put_end(file: &[u8], first: bool) {
     let mut feet = feet_room();
@@ -105,6 +118,7 @@ fn run(n: u32) {
     let first = put_falls(file);
     put_end(file, first);
     crate::text::put(b"\n");
+    put_tick(n, file);
 }
 
 pub(crate) fn run_all() {

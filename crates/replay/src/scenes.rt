@@ -49,7 +49,7 @@ pub(crate) fn put_joined(text: &[u8]) {
     }
 }
 
-fn put_lines(file: &[u8]) {
+pub(crate) fn put_lines(file: &[u8]) {
     let mut out = answer_room();
     let m = scene::answer(file, &mut out);
     put_joined(crate::text::part(&out, 0, m));
