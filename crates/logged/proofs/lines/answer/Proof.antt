@@ -26,9 +26,14 @@ same-length : tie.Need-same-length
 same-length c = search needs
 
 returns : tie.Need-returns
-returns c = 
-    printed (c .before .before .before .before .before .before .before .before .before .before .before .before .before .before .before .args .file .now) (c .before .before .before .before .before .before .before .before .before .before .before .before .feet-room .result) (c .before .before .before .before .before .before .before .before .before .before .run-log .last .1 .0) (c .before .before .before .before .before .before .before .before .before .before .run-log .result) (c .before .before .before .before .before .before .before .before .before .before .before .before .before .before .before .args .out .now) (c .before .before .before .before .before .before .put-lines .last .0) (c .before .before .put-ending .last .0) (c .before .before .before .before .before .before .put-lines .result) (c .before .before .put-ending .result)
-    (c .before .before .before .before .before .before .before .before .before .before .before .before .feet-room .ensures) (c .before .before .before .before .before .before .before .before .before .before .run-log .ensures .0) (c .before .before .before .before .before .before .before .before .before .before .run-log .ensures .1) (c .before .before .before .before .before .before .put-lines .ensures) (c .before .before .put-ending .ensures)
+returns c =
+    let at-put-ending = c .before .before in
+    let at-put-lines = at-put-ending .before .before .before .before in
+    let at-run-log = at-put-lines .before .before .before .before in
+    let at-feet-room = at-run-log .before .before in
+    let start = at-feet-room .before .before .before in
+    printed (start .args .file .now) (at-feet-room .feet-room .result) (at-run-log .run-log .last .1 .0) (at-run-log .run-log .result) (start .args .out .now) (at-put-lines .put-lines .last .0) (at-put-ending .put-ending .last .0) (at-put-lines .put-lines .result) (at-put-ending .put-ending .result)
+    (at-feet-room .feet-room .ensures) (at-run-log .run-log .ensures .0) (at-run-log .run-log .ensures .1) (at-put-lines .put-lines .ensures) (at-put-ending .put-ending .ensures)
 
 pub answer-spec : {M : Type 1} → statement M
 answer-spec =

@@ -19,7 +19,10 @@ same-length c = search needs
 
 returns-2 : tie.Need-returns-2
 unfolding ending choose
-returns-2 c = rw (ne-eqb _ _ (c .before .before .before .before .if1 .left)) (c .before .before .put-refusal .ensures)
+returns-2 c =
+    let at-put-refusal = c .before .before in
+    let at-if1 = at-put-refusal .before .before in
+    rw (ne-eqb _ _ (at-if1 .if1 .left)) (at-put-refusal .put-refusal .ensures)
 
 pub put-ending-spec : {M : Type 1} → statement M
 put-ending-spec = tie.close (tie.spec returns put-refusal-requires same-length returns-2)

@@ -31,13 +31,21 @@ loop-less : tie.Need-loop-less Inv-loop μ-loop
 loop-less c = search needs
 
 loop-again : tie.Need-loop-again Inv-loop μ-loop
-loop-again c = (search needs, lines-turn (feetAt (c .before .before .before .before .before .before .before .before .before .args .feet .now)) (c .before .before .before .before .before .before .loop .i) (c .before .before .before .before .before .before .loop .inv .1) (rw (c .before .before .before .feet-at .ensures) at (c .before .before .put-feet .ensures)))
+loop-again c =
+    let at-put-feet = c .before .before in
+    let at-feet-at = at-put-feet .before in
+    let at-loop = at-feet-at .before .before .before in
+    let start = at-loop .before .before .before in
+    (search needs, lines-turn (feetAt (start .args .feet .now)) (at-loop .loop .i) (at-loop .loop .inv .1) (rw (at-feet-at .feet-at .ensures) at (at-put-feet .put-feet .ensures)))
 
 same-length : tie.Need-same-length Inv-loop μ-loop
 same-length c = same-size (c .before .loop .inv .1)
 
 returns : tie.Need-returns Inv-loop μ-loop
-returns c = lines-end (feetAt (c .before .before .before .before .args .feet .now)) (c .before .before .before .before .args .ticks) (c .before .loop .i) (c .before .loop .inv .0) (c .loop-test .left) (c .before .loop .inv .1)
+returns c =
+    let at-loop = c .before in
+    let start = at-loop .before .before .before in
+    lines-end (feetAt (start .args .feet .now)) (start .args .ticks) (at-loop .loop .i) (at-loop .loop .inv .0) (c .loop-test .left) (at-loop .loop .inv .1)
 
 pub put-lines-spec : {M : Type 1} → statement M
 put-lines-spec =

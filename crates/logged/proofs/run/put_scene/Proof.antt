@@ -31,8 +31,14 @@ same-length-3 : tie.Need-same-length-3
 same-length-3 c = search needs
 
 returns : tie.Need-returns
-returns c = 
-    (rw (c .before .before .before .before .before .before .before .before .before .before .before .before .before .record-part .ensures) at (c .before .before .before .before .before .before .before .before .before .before .before .before .put-words .ensures), (rw (c .before .before .before .before .before .before .before .before .box-part .ensures) at (c .before .before .before .before .before .before .before .put-singles .ensures), rw (c .before .before .before .cell-part .ensures) at (c .before .before .put-words2 .ensures)))
+returns c =
+    let at-put-words2 = c .before .before in
+    let at-cell-part = at-put-words2 .before in
+    let at-put-singles = at-cell-part .before .before .before .before in
+    let at-box-part = at-put-singles .before in
+    let at-put-words = at-box-part .before .before .before .before in
+    let at-record-part = at-put-words .before in
+    (rw (at-record-part .record-part .ensures) at (at-put-words .put-words .ensures), (rw (at-box-part .box-part .ensures) at (at-put-singles .put-singles .ensures), rw (at-cell-part .cell-part .ensures) at (at-put-words2 .put-words2 .ensures)))
 
 pub put-scene-spec : {M : Type 1} → statement M
 put-scene-spec =

@@ -56,9 +56,17 @@ same-length-2 c = search needs
 
 returns : tie.Need-returns
 returns c =
-    let a = c .before .before .before .before .before .before .before .before .before .before .before .before .before .before .before .before .before .before .before .before .before .before .before .before .before .args in
-    let same = among (a .records .now) (a .shapes .now) (a .words .now) (a .w) (eventsBy (a .file .now) (a .log)) _ _ _ _ _ _ _ _ _ (c .before .before .before .before .before .before .before .before .before .before .before .before .before .before .rules-from .ensures) (c .before .before .before .before .before .before .before .before .before .before .before .body-from .ensures) (c .before .before .before .before .before .before .before .before .motion-from .ensures) (c .before .before .before .before .before .before .before .age-in .ensures) (c .before .before .before .before .before .before .before .before .before .before .before .before .before .before .before .before .before .before .numbers-in .ensures) (c .before .before .before .before .before .before .before .before .before .before .before .before .before .before .before .before .before .words-in .ensures) in
-    (c .before .before .before .before .run .ensures .0 ∙ ap minuteOf same, c .before .before .before .before .run .ensures .1 .1 ∙ ap (λ (k : State). stored (a .feet .now) 0 (numbersOf (k .lines))) same)
+    let at-run = c .before .before .before .before in
+    let at-age-in = at-run .before .before .before in
+    let at-motion-from = at-age-in .before in
+    let at-body-from = at-motion-from .before .before .before in
+    let at-rules-from = at-body-from .before .before .before in
+    let at-words-in = at-rules-from .before .before .before in
+    let at-numbers-in = at-words-in .before in
+    let start = at-numbers-in .before .before .before .before .before .before .before in
+    let a = start .args in
+    let same = among (a .records .now) (a .shapes .now) (a .words .now) (a .w) (eventsBy (a .file .now) (a .log)) _ _ _ _ _ _ _ _ _ (at-rules-from .rules-from .ensures) (at-body-from .body-from .ensures) (at-motion-from .motion-from .ensures) (at-age-in .age-in .ensures) (at-numbers-in .numbers-in .ensures) (at-words-in .words-in .ensures) in
+    (at-run .run .ensures .0 ∙ ap minuteOf same, at-run .run .ensures .1 .1 ∙ ap (λ (k : State). stored (a .feet .now) 0 (numbersOf (k .lines))) same)
 
 pub run-among-spec : {M : Type 1} → statement M
 run-among-spec =

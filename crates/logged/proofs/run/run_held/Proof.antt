@@ -62,11 +62,18 @@ same-length-2 : tie.Need-same-length-2
 same-length-2 c = search needs
 
 returns : tie.Need-returns
-returns c = 
-    let a = c .before .before .before .before .before .before .before .before .before .before .before .before .before .before .before .before .before .before .before .before .before .before .args in
-    let same = handed-on (a .scene .now) (a .n) (a .records .now) (a .singles .now) (a .words .now) (c .before .before .before .before .before .before .before .before .before .before .before .before .before .before .held .result) (c .before .before .before .before .before .before .before .before .before .before .before .before .held2 .result) (c .before .before .before .before .before .before .before .before .before .held3 .result) (c .before .before .before .before .before .before .before .before .before .before .summed-words .result) (c .before .before .before .before .before .before .before .before .before .before .before .window-in .result) (c .before .before .before .before .before .before .before .before .before .before .before .before .before .before .held .ensures) (c .before .before .before .before .before .before .before .before .before .before .before .before .held2 .ensures) (c .before .before .before .before .before .before .before .before .before .held3 .ensures) (c .before .before .before .before .before .before .before .before .before .before .summed-words .ensures) (c .before .before .before .before .before .before .before .before .before .before .before .window-in .ensures) in
-    (c .before .before .before .before .run-among .ensures .0 ∙ ap (λ (k : Contents). minuteOf (heldMinute k (eventsBy (a .file .now) (a .log)))) same,
-     c .before .before .before .before .run-among .ensures .1 ∙ ap (λ (k : Contents). stored (a .feet .now) 0 (numbersOf (heldMinute k (eventsBy (a .file .now) (a .log)) .lines))) same)
+returns c =
+    let at-run-among = c .before .before .before .before in
+    let at-held3 = at-run-among .before .before .before .before .before in
+    let at-summed-words = at-held3 .before in
+    let at-window-in = at-summed-words .before in
+    let at-held2 = at-window-in .before in
+    let at-held = at-held2 .before .before in
+    let start = at-held .before .before .before .before .before .before .before .before in
+    let a = start .args in
+    let same = handed-on (a .scene .now) (a .n) (a .records .now) (a .singles .now) (a .words .now) (at-held .held .result) (at-held2 .held2 .result) (at-held3 .held3 .result) (at-summed-words .summed-words .result) (at-window-in .window-in .result) (at-held .held .ensures) (at-held2 .held2 .ensures) (at-held3 .held3 .ensures) (at-summed-words .summed-words .ensures) (at-window-in .window-in .ensures) in
+    (at-run-among .run-among .ensures .0 ∙ ap (λ (k : Contents). minuteOf (heldMinute k (eventsBy (a .file .now) (a .log)))) same,
+     at-run-among .run-among .ensures .1 ∙ ap (λ (k : Contents). stored (a .feet .now) 0 (numbersOf (heldMinute k (eventsBy (a .file .now) (a .log)) .lines))) same)
 
 pub run-held-spec : {M : Type 1} → statement M
 run-held-spec =

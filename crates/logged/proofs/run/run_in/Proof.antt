@@ -41,13 +41,16 @@ same-length : tie.Need-same-length
 same-length c = search needs
 
 returns : tie.Need-returns
-returns c = 
-    let a = c .before .before .before .before .before .before .before .before .before .before .before .before .before .before .before .before .before .before .args in
-    let put = c .before .before .before .before .before .before .before .before .before .before .before .put-scene .ensures in
-    let same = held-by (a .scene .now) (a .n) (eventsBy (a .file .now) (a .log)) (c .before .before .before .before .before .before .before .before .before .before .before .put-scene .last .0) (c .before .before .before .before .before .before .before .before .before .before .before .put-scene .last .1 .0) (c .before .before .before .before .before .before .before .before .before .before .before .put-scene .last .1 .1 .0) _ _ _ (length-replicate {0} {A = ℕ} 15744 0) (length-replicate {0} {A = Float} 15744 (ofBits binary32 0)) (length-replicate {0} {A = ℕ} 19840 0)
+returns c =
+    let at-run-held = c .before .before .before in
+    let at-put-scene = at-run-held .before .before .before .before .before .before .before .before in
+    let start = at-put-scene .before .before .before .before .before .before .before in
+    let a = start .args in
+    let put = at-put-scene .put-scene .ensures in
+    let same = held-by (a .scene .now) (a .n) (eventsBy (a .file .now) (a .log)) (at-put-scene .put-scene .last .0) (at-put-scene .put-scene .last .1 .0) (at-put-scene .put-scene .last .1 .1 .0) _ _ _ (length-replicate {0} {A = ℕ} 15744 0) (length-replicate {0} {A = Float} 15744 (ofBits binary32 0)) (length-replicate {0} {A = ℕ} 19840 0)
         (search needs) (search needs) (search needs) (put .0) (put .1 .0) (put .1 .1) in
-    (λ s e. c .before .before .before .run-held .ensures .0 ∙ same s e .is,
-     λ s e. c .before .before .before .run-held .ensures .1 ∙ ap (λ (l : List Vec3). stored (a .feet .now) 0 (numbersOf l)) (same s e .lines))
+    (λ s e. at-run-held .run-held .ensures .0 ∙ same s e .is,
+     λ s e. at-run-held .run-held .ensures .1 ∙ ap (λ (l : List Vec3). stored (a .feet .now) 0 (numbersOf l)) (same s e .lines))
 
 pub run-in-spec : {M : Type 1} → statement M
 run-in-spec =

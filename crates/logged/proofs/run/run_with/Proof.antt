@@ -30,20 +30,29 @@ run-in-requires : tie.Need-run-in-requires
 run-in-requires c κs = search needs
 
 returns : tie.Need-returns
-returns c = 
-    let none = no-counts (c .before .before .before .before .before .before .before .args .file .now) (c .before .before .before .before .scene-in .result .now) (c .before .before .before .before .scene-in .ensures) (ap countsAsked (sym (c .before .enum-told .given .1)) ∙ c .before .before .before .counts-of .ensures) in
+returns c =
+    let at-enum-told = c .before in
+    let at-counts-of = at-enum-told .before .before in
+    let at-scene-in = at-counts-of .before in
+    let start = at-scene-in .before .before .before in
+    let none = no-counts (start .args .file .now) (at-scene-in .scene-in .result .now) (at-scene-in .scene-in .ensures) (ap countsAsked (sym (at-enum-told .enum-told .given .1)) ∙ at-counts-of .counts-of .ensures) in
     (λ t. absurd (none t), λ t. absurd (none t))
 
 same-length : tie.Need-same-length
 same-length c = search needs
 
 returns-2 : tie.Need-returns-2
-returns-2 c = 
-    let a = c .before .before .before .before .before .before .before .before .before .before .before .args in
-    let s = scene (c .before .before .before .before .before .before .before .before .scene-in .result .now) _ (ap countsAsked (sym (c .before .before .before .before .before .n .given .1)) ∙ c .before .before .before .before .before .before .before .counts-of .ensures) in
-    let same = minute-by (a .file .now) (c .before .before .before .before .before .before .before .before .scene-in .result .now) (c .before .before .before .before .before .before .before .before .scene-in .ensures) _ (eventsBy (a .file .now) (a .log)) (s .same) in
-    (λ t. c .before .before .run-in .ensures .0 (s .test) (s .same) ∙ ap minuteOf same,
-     λ t. c .before .before .run-in .ensures .1 (s .test) (s .same) ∙ ap (λ (k : State). stored (a .feet .now) 0 (numbersOf (k .lines))) same)
+returns-2 c =
+    let at-run-in = c .before .before in
+    let at-n = at-run-in .before .before .before in
+    let at-counts-of = at-n .before .before in
+    let at-scene-in = at-counts-of .before in
+    let start = at-scene-in .before .before .before in
+    let a = start .args in
+    let s = scene (at-scene-in .scene-in .result .now) _ (ap countsAsked (sym (at-n .n .given .1)) ∙ at-counts-of .counts-of .ensures) in
+    let same = minute-by (a .file .now) (at-scene-in .scene-in .result .now) (at-scene-in .scene-in .ensures) _ (eventsBy (a .file .now) (a .log)) (s .same) in
+    (λ t. at-run-in .run-in .ensures .0 (s .test) (s .same) ∙ ap minuteOf same,
+     λ t. at-run-in .run-in .ensures .1 (s .test) (s .same) ∙ ap (λ (k : State). stored (a .feet .now) 0 (numbersOf (k .lines))) same)
 
 pub run-with-spec : {M : Type 1} → statement M
 run-with-spec =
