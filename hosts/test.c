@@ -19,7 +19,7 @@ static struct count ticks = {"tick", 0, 0}, steps = {"step", 0, 0}, checked = {"
                     lengths = {"lengths, ground and room", 0, 0}, windows = {"heights, columns and air", 0, 0},
                     falling = {"step_falling", 0, 0}, records_kept = {"fall records", 0, 0}, nights = {"midnight", 0, 0}, pairs = {"midnight_two", 0, 0},
                     writes = {"write_scene", 0, 0}, rewrites = {"write_checked", 0, 0}, palettes = {"classroom palette", 0, 0},
-                    logs = {"write_log", 0, 0}, minutes = {"minute", 0, 0};
+                    logs = {"write_log", 0, 0}, minutes = {"minute", 0, 0}, stored_minutes = {"stored minutes", 0, 0};
 
 static void add(struct count *c, const char *ours, const char *theirs) {
     if (strcmp(ours, theirs) == 0) {
@@ -161,9 +161,9 @@ static uint32_t chance(uint32_t n) {
     return (uint32_t)(seed % n);
 }
 
-enum { EVENTS = 80, MOST = 4 * 3840 };
-static uint32_t events[MOST];
-static uint8_t recorded[ROOM];
+enum { EVENTS = 80, FEET = 3 * BOLTJUNIPER_MOST_EVENTS };
+static uint32_t events[4 * EVENTS + 1];
+static uint8_t recorded[ROOM + 512]; /* a block more: a log may have one too many */
 
 /* Ticks, and here and there a set of a cell in the window or, now and then, beside it. Returns how many words they have. */
 static size_t events_at_random(void) {
@@ -225,7 +225,7 @@ static size_t log_of(size_t events_len) {
 }
 
 /* What a minute leaves, and what the same ticks and sets leave that are made one by one over cells and columns. */
-struct left { uint32_t refusal, ticks; double feet[3 * EVENTS], out[12]; uint32_t words[WORDS + 4096]; };
+struct left { uint32_t refusal, ticks; double feet[FEET], out[12]; uint32_t words[WORDS + 4096]; };
 static struct left at_once, one_by_one;
 
 static size_t groups_len(void) {
@@ -244,10 +244,10 @@ static void run_minute(struct left *l, struct lengths n) {
     memcpy(l->words, cells, 4 * cells_len());
     for (size_t k = 0; k < groups_len(); k++) l->words[cells_len() + k] = 7;
     for (int k = 0; k < 12; k++) l->out[k] = -1;
-    for (int k = 0; k < 3 * EVENTS; k++) l->feet[k] = -1;
+    for (int k = 0; k < FEET; k++) l->feet[k] = -1;
     l->refusal = boltjuniper_minute(records, n.states, shapes, 6 * (size_t)body[47], l->words, n.cells, (int32_t)window[0], (int32_t)window[1], (int32_t)window[2],
                                     window[3], window[4], window[5], (int32_t)window[6], (int32_t)window[7], numbers, n.numbers, late, 7, age, recorded, n.log,
-                                    l->feet, 3 * EVENTS, l->out, n.out);
+                                    l->feet, FEET, l->out, n.out);
 }
 
 static void run_one_by_one(struct left *l, size_t events_len) {
@@ -258,7 +258,7 @@ static void run_one_by_one(struct left *l, size_t events_len) {
     memset(l, 0, sizeof *l);
     memcpy(l->words, cells, 4 * cells_len());
     for (int k = 0; k < 12; k++) l->out[k] = -1;
-    for (int k = 0; k < 3 * EVENTS; k++) l->feet[k] = -1;
+    for (int k = 0; k < FEET; k++) l->feet[k] = -1;
     for (size_t k = 0; k < events_len && !l->refusal; k += 4) {
         uint32_t at = events[k + 1], x = at & 255, y = at >> 8 & 255, z = at >> 16;
         if (events[k] == 2) {
@@ -288,7 +288,7 @@ static void minute_refused(uint32_t theirs, struct lengths n) {
     int kept = 1;
     run_minute(&at_once, n);
     for (int k = 0; k < 12; k++) kept &= at_once.out[k] == -1;
-    for (int k = 0; k < 3 * EVENTS; k++) kept &= at_once.feet[k] == -1;
+    for (int k = 0; k < FEET; k++) kept &= at_once.feet[k] == -1;
     kept &= !memcmp(at_once.words, cells, 4 * cells_len());
     for (size_t k = 0; k < groups_len(); k++) kept &= at_once.words[cells_len() + k] == 7;
     sprintf(a, "refused %" PRIu32 "%s", at_once.refusal, kept ? "" : ", and something written"), sprintf(b, "refused %" PRIu32, theirs);
@@ -314,6 +314,32 @@ static void minute(void) {
     m.numbers = 18, minute_refused(3, m), m.numbers = 20, m.out = 0, minute_refused(3, m), m = n;
     m.out = 11, minute_refused(11, m), m = n;
     m.cells--, minute_refused(11, m), m.cells = cells_len(), minute_refused(11, m);
+}
+
+/* minute NUMBER lines, then falls NUMBER records: a stored log, run over its own scene's parts; one that is no log, over those at hand. Of the records the
+   last is held to. */
+static void stored_minute(const char *stored, int lines) {
+    static char ours[ROOM];
+    char path[64], *to = ours;
+    snprintf(path, sizeof path, "crates/replay/data/%.4s.log", stored);
+    size_t bytes = read_file(path);
+    const char *theirs = stored[4] ? stored + 5 : "";
+    if (bytes > sizeof recorded) exit(2);
+    memcpy(recorded, file, bytes);
+    if (strcmp(theirs, "refused 8")) parts();
+    run_minute(&at_once, (struct lengths){20 * (size_t)body[46], cells_len() + groups_len(), 19, 12, bytes});
+    int ticks = at_once.out[9] < 0 ? 0 : (int)at_once.out[9];
+    *to = 0;
+    if (lines) {
+        for (int k = 0; k < ticks; k++) to = put(to, k ? "; feet" : "feet", at_once.feet + 3 * k, 3);
+        if (at_once.refusal) sprintf(to, "%srefused %" PRIu32, ticks ? "; " : "", at_once.refusal);
+        add(&stored_minutes, ours, theirs);
+    } else if (ticks) {
+        put(to, "fall", at_once.out + 7, 2);
+        const char *last = theirs, *at = theirs;
+        while ((at = strstr(at, "fall"))) last = at++;
+        add(&stored_minutes, strncmp(ours, last, strlen(ours)) ? "another record" : "the last record", "the last record");
+    }
 }
 
 /* The scene's step with a fresh fall record: the same tick, or what the record is after it. A refusal writes nothing. */
@@ -750,6 +776,8 @@ int main(void) {
         if (line[0] >= '0' && line[0] <= '9') one_scene(line);
         if (!strncmp(line, "movelist ", 9)) one_list(line);
         if (!strncmp(line, "after ", 6)) one_record(line);
+        if (!strncmp(line, "minute ", 7)) stored_minute(line + 7, 1);
+        if (!strncmp(line, "falls ", 6)) stored_minute(line + 6, 0);
     }
     fclose(f);
     case_a();
@@ -763,7 +791,7 @@ int main(void) {
     all_pairs();
     classroom();
     const struct count *all[] = {&ticks, &steps, &checked, &tables, &moves, &lists, &collects, &lengths, &windows, &falling, &records_kept,
-                                 &nights, &pairs, &writes, &rewrites, &palettes, &logs, &minutes};
+                                 &nights, &pairs, &writes, &rewrites, &palettes, &logs, &minutes, &stored_minutes};
     int bad = 0;
     for (size_t k = 0; k < sizeof all / sizeof *all; k++) bad |= tell(all[k]);
     return bad;

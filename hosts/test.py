@@ -454,6 +454,21 @@ def minutes(name, scene, written):
     COUNTS["minute"].add(name, asked(b.minute, tables, window, body, written), b.Refused(8))
 
 
+def stored_minute(name, theirs):
+    """A stored log, run over its own scene's parts; one that is no log, over case A's."""
+    with open("crates/replay/data/%s.log" % name, "rb") as f:
+        log = f.read()
+    no_log = theirs == "refused 8"
+    scene, events = (example("case-a"), None) if no_log else scenelog.unpacked(log)
+    tables, window, body = parts(scene)
+    ours = asked(b.minute, tables, window, body, log)
+    refused = ours if isinstance(ours, b.Refused) else ours.refused
+    lines = [] if isinstance(ours, b.Refused) else ["feet" + bits(feet) for feet in ours.lines]
+    COUNTS["minute"].add(name, "; ".join(lines + (["refused %d" % refused.number] if refused else [])), theirs)
+    if not no_log and log[:4] == b"SCN2" and theirs[:9] not in ("refused 1", "refused 2", "refused 3", "refused 4"):
+        COUNTS["write_log beside tools/scene"].add(name, asked(b.write_log, b.write_scene(tables, window, body), events) == log, True)
+
+
 def doors():
     """What docs/MODERATORS.md says of two ticks at a door: the first ends one rounding inside it, the second behind it."""
     first, second = example("door-1"), example("door-2")
@@ -499,6 +514,8 @@ def main():
                 one_list(*line.split("=> ", 1))
             elif line.startswith("after "):
                 one_record(*line[6:].split(" ", 1))
+            elif line.startswith("minute "):
+                stored_minute(*line[7:].split(" ", 1))
     case_a()
     recorder()
     windows()

@@ -512,6 +512,23 @@ fn main() {
             checked.add(name, &tick_text(step_checked(t, w, &s.body), theirs), theirs);
         }
     }
+    // minute NUMBER lines: a stored log, run over its own scene's parts; one that is no log, over no tables
+    for (name, theirs) in calls.iter().filter_map(|l| l.strip_prefix("minute ")?.split_once(' ')) {
+        let log = std::fs::read(format!("crates/replay/data/{name}.log")).unwrap();
+        let s = (theirs != "refused 8").then(|| scene(&log));
+        let none = Body { numbers: [0.0; 19], words: [0; 7], age: 0 };
+        let (t, w, body) = s.as_ref().map_or((Tables { records: &[], shapes: &[] }, Window { cells: &[], origin: [0; 3], sizes: [0; 3], lowest: 0, highest: 0 }, none), |s| {
+            let w = Window { cells: &s.cells, origin: s.origin, sizes: s.sizes, lowest: s.lowest, highest: s.highest };
+            (Tables { records: &s.records, shapes: &s.shapes }, w, s.body)
+        });
+        let mut words = w.cells.to_vec();
+        words.extend(std::iter::repeat_n(7, summary_words(w.sizes)));
+        let mut feet = vec![[7.0; 3]; MOST_EVENTS];
+        let (refusal, after) = minute(t, &mut words, w, &body, &log, &mut feet);
+        let mut ours: Vec<String> = feet[..after.map_or(0, |m| m.ticks as usize)].iter().map(|v| format!("feet{}", bits(v))).collect();
+        ours.extend((refusal != 0).then(|| format!("refused {refusal}")));
+        minute_runs.add(name, &ours.join("; "), theirs);
+    }
     for line in calls.iter().filter(|l| l.starts_with("movelist ")) {
         let (call, theirs) = line.split_once("=> ").unwrap();
         let words: Vec<&str> = call.split_whitespace().collect();

@@ -183,11 +183,11 @@ fn log_fits(file: &[u8], l: Log) -> bool
     false
 }
 
-fn first_blocks(file: &[u8], blocks: usize) -> &[u8]
-    ensures { λ r. ⌜ now r ≡ firstBlocks (now (file .entry)) blocks ⌝ }
+fn first_blocks(file: &[u8], count: usize) -> &[u8]
+    ensures { λ r. ⌜ now r ≡ firstBlocks (now (file .entry)) count ⌝ }
 {
-    if blocks <= 128 {
-        let n = blocks * 512;
+    if count <= 128 {
+        let n = count * 512;
         if n < file.len() {
             return &file[0..n];
         }

@@ -28,7 +28,14 @@ singleStep l s = fallingEntry (l .records) (l .shapes) (s .words) (windowOf l) (
 unfoldable pub setAlone : Lent → State → CellSet → State
 setAlone l s q =
     choose (isInside (windowOf l) (setPlace l q))
-    record { motion = s .motion; age = s .age; fall = s .fall; words = set (s .words) (indexOf (windowOf l) (setPlace l q)) (q .state); lines = s .lines; refusal = 0 }
+    record {
+      motion = s .motion;
+      age = s .age;
+      fall = s .fall;
+      words = set (s .words) (indexOf (windowOf l) (setPlace l q)) (q .state);
+      lines = s .lines;
+      refusal = 0;
+    }
     (ended s 5)
 
 abbrev pub eventAlone : Lent → State → Event → State

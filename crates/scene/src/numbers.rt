@@ -15,7 +15,7 @@ fn body_float(file: &[u8], k: u8) -> f64
     floats::float_of_bits(join(low, high))
 }
 
-pub(crate) fn numbers_in(file: &[u8]) -> [f64; 19]
+pub fn numbers_in(file: &[u8]) -> [f64; 19]
     ensures { λ r. ⌜ r ≡ numbersIn (now (file .entry)) ⌝ }
 {
     let mut numbers = [0.0; 19];
@@ -28,7 +28,7 @@ pub(crate) fn numbers_in(file: &[u8]) -> [f64; 19]
 }
 
 // The words behind the numbers and the age; the last of them is the cap, behind the two counts.
-pub(crate) fn words_in(file: &[u8]) -> [u32; 7]
+pub fn words_in(file: &[u8]) -> [u32; 7]
     ensures { λ r. ⌜ r ≡ lateWords (now (file .entry)) ⌝ }
 {
     let mut words = [0; 7];
@@ -41,7 +41,7 @@ pub(crate) fn words_in(file: &[u8]) -> [u32; 7]
     words
 }
 
-pub(crate) fn age_in(file: &[u8]) -> u64
+pub fn age_in(file: &[u8]) -> u64
     ensures { λ r. ⌜ r ≡ ageIn (now (file .entry)) ⌝ }
 {
     let low = body_word(file, places::AGE);

@@ -14,7 +14,7 @@ ghost use Rattle.blocks.specs.Blocks.{partWord, recordPart, boxPart, cellPart};
 ghost use Rattle.scene.specs.Held.{heldRecords, heldCells, heldShapes};
 
 // How many words there is room for, of so many.
-pub(crate) fn held(words: u32, room: usize) -> usize
+pub fn held(words: u32, room: usize) -> usize
     ensures { λ r. ⌜ r ≡ min words room ⌝ }
 {
     let n = words as usize;
@@ -22,7 +22,7 @@ pub(crate) fn held(words: u32, room: usize) -> usize
 }
 
 // Puts the words of a part one after the other, as many as there is room for.
-fn put_words(to: &mut [u32], file: &[u8], p: Part)
+pub fn put_words(to: &mut [u32], file: &[u8], p: Part)
     ensures { λ _. ⌜ take (min (p .words) (length (now (to .entry)))) (now (to .exit)) ≡ listed (partWord (now (file .entry)) p) (min (p .words) (length (now (to .entry)))) 0 ⌝ }
 {
     let n = held(p.words, to.len());
@@ -40,7 +40,7 @@ fn single_at(file: &[u8], p: Part, i: u32) -> f32
 }
 
 // The same words as f32.
-fn put_singles(to: &mut [f32], file: &[u8], p: Part)
+pub fn put_singles(to: &mut [f32], file: &[u8], p: Part)
     ensures { λ _. ⌜ take (min (p .words) (length (now (to .entry)))) (now (to .exit)) ≡ listed (λ i. ofBits binary32 (partWord (now (file .entry)) p i)) (min (p .words) (length (now (to .entry)))) 0 ⌝ }
 {
     let n = held(p.words, to.len());
@@ -52,7 +52,7 @@ fn put_singles(to: &mut [f32], file: &[u8], p: Part)
 }
 
 // Puts a scene's records, its cells behind them, and its shapes, each as far as there is room.
-pub(crate) fn put_all(words: &mut [u32], singles: &mut [f32], file: &[u8], n: Counts)
+pub fn put_all(words: &mut [u32], singles: &mut [f32], file: &[u8], n: Counts)
     ensures { λ _. ⌜ take (heldRecords n (length (now (words .entry)))) (now (words .exit)) ≡ listed (partWord (now (file .entry)) (recordPart (n .states))) (heldRecords n (length (now (words .entry)))) 0 ⌝ }
     ensures { λ _. ⌜ take (heldCells n (length (now (words .entry)))) (drop (heldRecords n (length (now (words .entry)))) (now (words .exit))) ≡ listed (partWord (now (file .entry)) (cellPart (n .states) (n .boxes) (n .cells))) (heldCells n (length (now (words .entry)))) 0 ⌝ }
     ensures { λ _. ⌜ take (heldShapes n (length (now (singles .entry)))) (now (singles .exit)) ≡ listed (λ i. ofBits binary32 (partWord (now (file .entry)) (boxPart (n .states) (n .boxes)) i)) (heldShapes n (length (now (singles .entry)))) 0 ⌝ }

@@ -21,7 +21,11 @@ number-at-requires : tie.Need-number-at-requires Inv-loop μ-loop
 number-at-requires c κs = search needs
 
 returns : tie.Need-returns Inv-loop μ-loop
-returns c = end-here _ _ _ _ (c .before .before .loop-test .taken) (sym (c .before .number-at .ensures) ∙ c .if1 .taken) (c .before .before .before .loop .inv)
+returns c =
+    let at-number-at = c .before in
+    let at-loop-test = at-number-at .before in
+    let at-loop = at-loop-test .before in
+    end-here _ _ _ _ (at-loop-test .loop-test .taken) (sym (at-number-at .number-at .ensures) ∙ c .if1 .taken) (at-loop .loop .inv)
 
 add-i : tie.Need-add-i Inv-loop μ-loop
 add-i c = search needs
@@ -30,7 +34,11 @@ loop-less : tie.Need-loop-less Inv-loop μ-loop
 loop-less c = search needs
 
 loop-again : tie.Need-loop-again Inv-loop μ-loop
-loop-again c = end-on _ _ _ _ (c .before .before .loop-test .taken) (λ z. c .if1 .left (c .before .number-at .ensures ∙ z)) (c .before .before .before .loop .inv)
+loop-again c =
+    let at-number-at = c .before in
+    let at-loop-test = at-number-at .before in
+    let at-loop = at-loop-test .before in
+    end-on _ _ _ _ (at-loop-test .loop-test .taken) (λ z. c .if1 .left (at-number-at .number-at .ensures ∙ z)) (at-loop .loop .inv)
 
 returns-2 : tie.Need-returns-2 Inv-loop μ-loop
 returns-2 c = end-none _ _ _ _ (c .loop-test .left) (c .before .loop .inv)

@@ -27,7 +27,13 @@ set-of-requires c κs = search needs
 
 returns-2 : tie.Need-returns-2
 unfolding eventAt choose
-returns-2 c = rw (← c .before .before .before .before .before .log-part .ensures, ← c .before .before .before .before .number-at .ensures, ne-eqb _ _ (c .before .before .before .if1 .left), ← c .before .before .event-word .ensures, ← c .before .event-word2 .ensures, ← c .set-of .ensures)
+returns-2 c =
+    let at-event-word2 = c .before in
+    let at-event-word = at-event-word2 .before in
+    let at-if1 = at-event-word .before in
+    let at-number-at = at-if1 .before in
+    let at-log-part = at-number-at .before in
+    rw (← at-log-part .log-part .ensures, ← at-number-at .number-at .ensures, ne-eqb _ _ (at-if1 .if1 .left), ← at-event-word .event-word .ensures, ← at-event-word2 .event-word2 .ensures, ← c .set-of .ensures)
 
 pub event-at-spec : {M : Type 1} → statement M
 event-at-spec =

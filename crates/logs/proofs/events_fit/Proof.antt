@@ -15,11 +15,20 @@ rest-zero-requires c κs = search needs
 
 returns : tie.Need-returns
 unfolding eventsFit
-returns c = rw (← c .before .before .before .before .end-fits .ensures, c .before .before .before .if1 .taken, ← c .before .before .all-fit .ensures, c .before .if2 .taken, ← c .rest-zero .ensures)
+returns c =
+    let at-if2 = c .before in
+    let at-all-fit = at-if2 .before in
+    let at-if1 = at-all-fit .before in
+    let at-end-fits = at-if1 .before in
+    rw (← at-end-fits .end-fits .ensures, at-if1 .if1 .taken, ← at-all-fit .all-fit .ensures, at-if2 .if2 .taken, ← c .rest-zero .ensures)
 
 returns-2 : tie.Need-returns-2
 unfolding eventsFit
-returns-2 c = rw (← c .before .before .before .end-fits .ensures, c .before .before .if1 .taken, ← c .before .all-fit .ensures, c .if2 .left)
+returns-2 c =
+    let at-all-fit = c .before in
+    let at-if1 = at-all-fit .before in
+    let at-end-fits = at-if1 .before in
+    rw (← at-end-fits .end-fits .ensures, at-if1 .if1 .taken, ← at-all-fit .all-fit .ensures, c .if2 .left)
 
 returns-3 : tie.Need-returns-3
 unfolding eventsFit

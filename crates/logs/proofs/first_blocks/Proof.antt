@@ -24,7 +24,10 @@ part-result-end c = search needs
 
 returns : tie.Need-returns
 unfolding firstBlocks choose
-returns c = let m : c .before .before .before .args .blocks * 512 - 0 ≡ c .before .before .before .args .blocks * 512 = omega arith in rw (le-leb _ _ (c .before .before .if1 .taken), m)
+returns c =
+    let at-if1 = c .before .before in
+    let start = at-if1 .before in
+    let m : start .args .count * 512 - 0 ≡ start .args .count * 512 = omega arith in rw (le-leb _ _ (at-if1 .if1 .taken), m)
 
 sub-result-2 : tie.Need-sub-result-2
 sub-result-2 c = search needs

@@ -16,11 +16,20 @@ event-word-requires-2 c κs = search needs
 
 returns : tie.Need-returns
 unfolding isSet
-returns c = rw (← c .before .before .before .before .number-at .ensures, eq-eqb _ _ (c .before .before .before .if1 .taken), ← c .before .before .event-word .ensures, lt-ltb _ _ (c .before .if2 .taken), ← c .event-word2 .ensures)
+returns c =
+    let at-if2 = c .before in
+    let at-event-word = at-if2 .before in
+    let at-if1 = at-event-word .before in
+    let at-number-at = at-if1 .before in
+    rw (← at-number-at .number-at .ensures, eq-eqb _ _ (at-if1 .if1 .taken), ← at-event-word .event-word .ensures, lt-ltb _ _ (at-if2 .if2 .taken), ← c .event-word2 .ensures)
 
 returns-2 : tie.Need-returns-2
 unfolding isSet
-returns-2 c = rw (← c .before .before .before .number-at .ensures, eq-eqb _ _ (c .before .before .if1 .taken), ← c .before .event-word .ensures, le-ltb _ _ (c .if2 .left))
+returns-2 c =
+    let at-event-word = c .before in
+    let at-if1 = at-event-word .before in
+    let at-number-at = at-if1 .before in
+    rw (← at-number-at .number-at .ensures, eq-eqb _ _ (at-if1 .if1 .taken), ← at-event-word .event-word .ensures, le-ltb _ _ (c .if2 .left))
 
 returns-3 : tie.Need-returns-3
 unfolding isSet

@@ -19,15 +19,32 @@ event-word-requires-3 c κs = search needs
 
 returns : tie.Need-returns
 unfolding isTick
-returns c = rw (← c .before .before .before .before .before .before .number-at .ensures, eq-eqb _ _ (c .before .before .before .before .before .if1 .taken), ← c .before .before .before .before .event-word .ensures, eq-eqb _ _ (c .before .before .before .if2 .taken), ← c .before .before .event-word2 .ensures, eq-eqb _ _ (c .before .if3 .taken), ← c .event-word3 .ensures)
+returns c =
+    let at-if3 = c .before in
+    let at-event-word2 = at-if3 .before in
+    let at-if2 = at-event-word2 .before in
+    let at-event-word = at-if2 .before in
+    let at-if1 = at-event-word .before in
+    let at-number-at = at-if1 .before in
+    rw (← at-number-at .number-at .ensures, eq-eqb _ _ (at-if1 .if1 .taken), ← at-event-word .event-word .ensures, eq-eqb _ _ (at-if2 .if2 .taken), ← at-event-word2 .event-word2 .ensures, eq-eqb _ _ (at-if3 .if3 .taken), ← c .event-word3 .ensures)
 
 returns-2 : tie.Need-returns-2
 unfolding isTick
-returns-2 c = rw (← c .before .before .before .before .before .number-at .ensures, eq-eqb _ _ (c .before .before .before .before .if1 .taken), ← c .before .before .before .event-word .ensures, eq-eqb _ _ (c .before .before .if2 .taken), ← c .before .event-word2 .ensures, ne-eqb _ _ (c .if3 .left))
+returns-2 c =
+    let at-event-word2 = c .before in
+    let at-if2 = at-event-word2 .before in
+    let at-event-word = at-if2 .before in
+    let at-if1 = at-event-word .before in
+    let at-number-at = at-if1 .before in
+    rw (← at-number-at .number-at .ensures, eq-eqb _ _ (at-if1 .if1 .taken), ← at-event-word .event-word .ensures, eq-eqb _ _ (at-if2 .if2 .taken), ← at-event-word2 .event-word2 .ensures, ne-eqb _ _ (c .if3 .left))
 
 returns-3 : tie.Need-returns-3
 unfolding isTick
-returns-3 c = rw (← c .before .before .before .number-at .ensures, eq-eqb _ _ (c .before .before .if1 .taken), ← c .before .event-word .ensures, ne-eqb _ _ (c .if2 .left))
+returns-3 c =
+    let at-event-word = c .before in
+    let at-if1 = at-event-word .before in
+    let at-number-at = at-if1 .before in
+    rw (← at-number-at .number-at .ensures, eq-eqb _ _ (at-if1 .if1 .taken), ← at-event-word .event-word .ensures, ne-eqb _ _ (c .if2 .left))
 
 returns-4 : tie.Need-returns-4
 unfolding isTick

@@ -15,7 +15,11 @@ events-fit-requires c κs = search needs
 
 returns : tie.Need-returns
 unfolding logFits
-returns c = rw (← c .before .before .before .log-part .ensures, ← c .before .before .part-fits .ensures, c .before .if1 .taken, ← c .events-fit .ensures)
+returns c =
+    let at-if1 = c .before in
+    let at-part-fits = at-if1 .before in
+    let at-log-part = at-part-fits .before in
+    rw (← at-log-part .log-part .ensures, ← at-part-fits .part-fits .ensures, at-if1 .if1 .taken, ← c .events-fit .ensures)
 
 returns-2 : tie.Need-returns-2
 unfolding logFits

@@ -23,11 +23,21 @@ log-fits-requires c κs = search needs
 
 returns : tie.Need-returns
 unfolding wholeLog choose
-returns c = rw (le-leb _ _ (c .before .before .before .before .if1 .taken), eq-eqb _ _ (c .before .before .before .if2 .taken), ← c .before .before .log-behind .ensures, ← c .before .log-fits .ensures, c .if3 .taken)
+returns c =
+    let at-log-fits = c .before in
+    let at-log-behind = at-log-fits .before in
+    let at-if2 = at-log-behind .before in
+    let at-if1 = at-if2 .before in
+    rw (le-leb _ _ (at-if1 .if1 .taken), eq-eqb _ _ (at-if2 .if2 .taken), ← at-log-behind .log-behind .ensures, ← at-log-fits .log-fits .ensures, c .if3 .taken)
 
 returns-2 : tie.Need-returns-2
 unfolding wholeLog choose
-returns-2 c = rw (le-leb _ _ (c .before .before .before .before .if1 .taken), eq-eqb _ _ (c .before .before .before .if2 .taken), ← c .before .before .log-behind .ensures, ← c .before .log-fits .ensures, c .if3 .left)
+returns-2 c =
+    let at-log-fits = c .before in
+    let at-log-behind = at-log-fits .before in
+    let at-if2 = at-log-behind .before in
+    let at-if1 = at-if2 .before in
+    rw (le-leb _ _ (at-if1 .if1 .taken), eq-eqb _ _ (at-if2 .if2 .taken), ← at-log-behind .log-behind .ensures, ← at-log-fits .log-fits .ensures, c .if3 .left)
 
 returns-3 : tie.Need-returns-3
 unfolding wholeLog choose

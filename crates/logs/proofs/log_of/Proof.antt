@@ -16,11 +16,18 @@ is-scene-requires : tie.Need-is-scene-requires
 is-scene-requires c κs = search needs
 
 log-in-requires : tie.Need-log-in-requires
-log-in-requires c κs = let m = scene-most (c .before .before .before .before .args .file .now) in let e = ap length (c .before .before .scene-in .ensures) in omega arith
+log-in-requires c κs =
+    let at-scene-in = c .before .before in
+    let start = at-scene-in .before .before in
+    let m = scene-most (start .args .file .now) in let e = ap length (at-scene-in .scene-in .ensures) in omega arith
 
 returns : tie.Need-returns
 unfolding isLog choose
-returns c = rw (← c .before .before .before .scene-in .ensures, ← c .before .before .is-scene .ensures, c .before .if1 .taken) (c .log-in .ensures)
+returns c =
+    let at-if1 = c .before in
+    let at-is-scene = at-if1 .before in
+    let at-scene-in = at-is-scene .before in
+    rw (← at-scene-in .scene-in .ensures, ← at-is-scene .is-scene .ensures, at-if1 .if1 .taken) (c .log-in .ensures)
 
 returns-2 : tie.Need-returns-2
 unfolding isLog choose

@@ -45,7 +45,11 @@ loop-again c = (search needs, below-more _ _ (c .before .before .before .loop .i
 
 returns : tie.Need-returns Inv-loop μ-loop
 unfolding restZero
-returns c = let l = c .before .before .before .before .words-left .ensures in sym (every-not _ _ (c .before .before .before .loop .k) (omega arith) (ne-eqb _ _ (λ z. c .if1 .left (c .before .part-word .ensures ∙ z))))
+returns c =
+    let at-part-word = c .before in
+    let at-loop = at-part-word .before .before in
+    let at-words-left = at-loop .before in
+    let l = at-words-left .words-left .ensures in sym (every-not _ _ (at-loop .loop .k) (omega arith) (ne-eqb _ _ (λ z. c .if1 .left (at-part-word .part-word .ensures ∙ z))))
 
 returns-2 : tie.Need-returns-2 Inv-loop μ-loop
 unfolding restZero

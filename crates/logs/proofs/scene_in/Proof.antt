@@ -34,7 +34,11 @@ returns : tie.Need-returns
 returns c = none-in _ (ap countsAsked (sym (c .before .enum-told .given .1)) ∙ c .before .before .before .counts-within .ensures)
 
 returns-2 : tie.Need-returns-2
-returns-2 c = (rw (c .before .blocks-for .ensures) at (c .first-blocks .ensures)) ∙ some-in _ _ (ap countsAsked (sym (c .before .before .before .n .given .1)) ∙ c .before .before .before .before .before .counts-within .ensures)
+returns-2 c =
+    let at-blocks-for = c .before in
+    let at-n = at-blocks-for .before .before in
+    let at-counts-within = at-n .before .before in
+    (rw (at-blocks-for .blocks-for .ensures) at (c .first-blocks .ensures)) ∙ some-in _ _ (ap countsAsked (sym (at-n .n .given .1)) ∙ at-counts-within .counts-within .ensures)
 
 pub scene-in-spec : {M : Type 1} → statement M
 scene-in-spec =

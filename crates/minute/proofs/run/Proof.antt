@@ -44,8 +44,14 @@ same-length-3 c = search needs
 returns-2 : tie.Need-returns-2
 unfolding minute eventsBy choose
 returns-2 c =
-    let played = rw (c .before .before .before .before .before .before .begin2 .ensures, c .before .before .before .before .before .before .before .before .before .before .build .ensures .1, c .before .before .before .before .before .before .before .before .before .before .before .with-air .ensures) at (c .before .before .before .before .play .ensures) in
-    rw (← c .before .before .before .before .before .before .before .before .before .before .before .before .before .before .start-refusal .ensures, eq-eqb _ _ (c .before .before .before .before .before .before .before .before .before .before .before .before .before .if1 .left)) played
+    let at-play = c .before .before .before .before in
+    let at-begin2 = at-play .before .before in
+    let at-build = at-begin2 .before .before .before .before in
+    let at-with-air = at-build .before in
+    let at-if1 = at-with-air .before .before in
+    let at-start-refusal = at-if1 .before in
+    let played = rw (at-begin2 .begin2 .ensures, at-build .build .ensures .1, at-with-air .with-air .ensures) at (at-play .play .ensures) in
+    rw (← at-start-refusal .start-refusal .ensures, eq-eqb _ _ (at-if1 .if1 .left)) played
 
 pub run-spec : {M : Type 1} → statement M
 run-spec =

@@ -18,7 +18,11 @@ ended-with-requires c κs = search needs
 
 returns : tie.Need-returns
 unfolding tickedBy feetBy choose
-returns c = rw (← c .before .before .before .with-air .ensures, ← c .before .before .step-falling-checked .ensures, ne-eqb _ _ (c .before .if1 .taken)) (c .ended-with .ensures, refl)
+returns c =
+    let at-if1 = c .before in
+    let at-step-falling-checked = at-if1 .before in
+    let at-with-air = at-step-falling-checked .before in
+    rw (← at-with-air .with-air .ensures, ← at-step-falling-checked .step-falling-checked .ensures, ne-eqb _ _ (at-if1 .if1 .taken)) (c .ended-with .ensures, refl)
 
 put-feet-requires : tie.Need-put-feet-requires
 put-feet-requires c κs = search needs
@@ -37,7 +41,13 @@ same-length c = search needs
 
 returns-2 : tie.Need-returns-2
 unfolding tickedBy feetBy choose
-returns-2 c = rw (← c .before .before .before .before .before .before .before .before .before .before .before .with-air .ensures, ← c .before .before .before .before .before .before .before .before .before .before .step-falling-checked .ensures, eq-eqb _ _ (c .before .before .before .before .before .before .before .before .before .if1 .left), ← c .before .before .older-than .ensures) (c .minute-of .ensures, c .before .before .before .before .before .before .before .put-feet .ensures)
+returns-2 c =
+    let at-older-than = c .before .before in
+    let at-put-feet = at-older-than .before .before .before .before .before in
+    let at-if1 = at-put-feet .before .before in
+    let at-step-falling-checked = at-if1 .before in
+    let at-with-air = at-step-falling-checked .before in
+    rw (← at-with-air .with-air .ensures, ← at-step-falling-checked .step-falling-checked .ensures, eq-eqb _ _ (at-if1 .if1 .left), ← at-older-than .older-than .ensures) (c .minute-of .ensures, at-put-feet .put-feet .ensures)
 
 pub tick-spec : {M : Type 1} → statement M
 tick-spec =

@@ -26,13 +26,19 @@ same-length-2 : tie.Need-same-length-2
 same-length-2 c = search needs
 
 returns : tie.Need-returns
-returns c = rw (c .before .before .before .before .before .enum-told .given .1) (c .before .before .tick .ensures .0, (refl, c .before .before .tick .ensures .1))
+returns c =
+    let at-tick = c .before .before in
+    let at-enum-told = at-tick .before .before .before in
+    rw (at-enum-told .enum-told .given .1) (at-tick .tick .ensures .0, (refl, at-tick .tick .ensures .1))
 
 same-length-3 : tie.Need-same-length-3
 same-length-3 c = search needs
 
 returns-2 : tie.Need-returns-2
-returns-2 c = rw (c .before .before .before .before .before .before .e .given .1, ← c .before .before .before .set-cell .ensures .0) (c .ended-with .ensures, (c .before .before .before .set-cell .ensures .1, refl))
+returns-2 c =
+    let at-set-cell = c .before .before .before in
+    let at-e = at-set-cell .before .before .before in
+    rw (at-e .e .given .1, ← at-set-cell .set-cell .ensures .0) (c .ended-with .ensures, (at-set-cell .set-cell .ensures .1, refl))
 
 pub turn-spec : {M : Type 1} → statement M
 turn-spec =
