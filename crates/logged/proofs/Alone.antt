@@ -14,7 +14,7 @@ use Rattle.summary.specs.Calls.{plain}
 use Rattle.logs.specs.declared.Event.{Event}
 use Rattle.minute.specs.Minute.{Lent, windowOf, State, startRefusal, start, minute}
 use Rattle.minute.specs.Turns.{minuteOf}
-use Rattle.minute.specs.Separate.{separately}
+use Rattle.minute.specs.Separate.{separately, Equals}
 use Rattle.minute.proofs.Separate.{minute-separate}
 use Rattle.logged.specs.Logged.{sceneRefusal, minuteAlone}
 
@@ -51,14 +51,18 @@ module _ (l : Lent) (words : List ℕ) (given : MotionNumbers) (age : ℕ) (even
   unfolding minute choose
   refused-minute h = rw (ne-eqb (startRefusal l words given) 0 h)
 
+  -- where nothing is refused before the first event: all of the state, cells and summary with it
+  pub alone-equals : startRefusal l words given ≡ 0 → Equals l (minute l words given age events) (minuteAlone l cells given age events)
+  alone-equals z = subst (λ (t : State). Equals l (minute l words given age events) t) (sym (runs z)) (minute-separate l words given age events z)
+
   pub alone : Same (minute l words given age events) (minuteAlone l cells given age events)
   alone = go (eqb (startRefusal l words given) 0) refl
     where
       go : (b : Bool) → eqb (startRefusal l words given) 0 ≡ b → Same (minute l words given age events) (minuteAlone l cells given age events)
       go true e =
           let z = eqb→eq (startRefusal l words given) 0 (subst T (sym e) tt) in
-          let q = minute-separate l words given age events z in
-          subst (λ (t : State). Same (minute l words given age events) t) (sym (runs z)) record {
+          let q = alone-equals z in
+          record {
             is = λ i. record { motion = q .motion i; age = q .age i; fall = q .fall i; ticks = length (q .lines i); refusal = q .refusal i };
             lines = q .lines;
           }
