@@ -16,7 +16,7 @@
 
 /* ---- the input at hand */
 
-enum { STATES = 4096, BOXES = 16384, CELLS = 64 * 64 * 65, FILE_BYTES = 128 * 512, LIST = 512 };
+enum { STATES = 4096, BOXES = 16384, CELLS = 64 * 64 * 65, GROUPS = 16 * 16 * 16, FILE_BYTES = 128 * 512, LIST = 512 };
 
 static uint32_t records[20 * STATES], states, cells[CELLS], words[7], air;
 static float shapes[6 * BOXES];
@@ -28,9 +28,14 @@ static uint64_t age;
 static uint32_t file[FILE_BYTES / 4 + 128];
 static uint32_t night_window[BOLTJUNIPER_WINDOW_WORDS], night_words[BOLTJUNIPER_CAPPED_WORDS];
 static double night_numbers[BOLTJUNIPER_BODY_NUMBERS], out[2 * BOLTJUNIPER_ANSWER_NUMBERS];
-static uint8_t recorded[FILE_BYTES];
+static uint8_t recorded[FILE_BYTES], minute_log[FILE_BYTES];
+static size_t minute_bytes;
+static uint32_t minute_cells[CELLS + GROUPS];
+static double feet[12];
 
 static size_t cells_len(void) { return (size_t)sizes[0] * sizes[2] * (sizes[1] + 1); }
+
+static size_t groups_len(void) { return (size_t)((sizes[0] + 3) / 4) * ((sizes[1] + 3) / 4) * ((sizes[2] + 3) / 4); }
 
 #define TABLES records, 20 * (size_t)states, shapes, 6 * (size_t)boxes
 #define WINDOW cells, cells_len(), origin[0], origin[1], origin[2], sizes[0], sizes[1], sizes[2], lowest, highest
@@ -67,6 +72,13 @@ static inline uint32_t refused(uint64_t n) { return n < 512 ? (uint32_t)n : 0; }
 CALL(write_scene, refused(boltjuniper_write_scene(TABLES, WINDOW, numbers, 19, words, 7, age, recorded, sizeof recorded)))
 CALL(write_checked, refused(boltjuniper_write_checked(TABLES, WINDOW, numbers, 19, words, 7, age, recorded, sizeof recorded)))
 
+/* The log of a minute: four ticks and a set. It goes behind the scene that was recorded last, and behind a small one for the minute itself, of which the events
+   alone are used: the window, its body and its tables are those at hand. */
+static const uint32_t events[20] = {1, 0, 0, 0, 2, 0, 0, 0, 1, 0, 0, 0, 1, 0, 0, 0, 1, 0, 0, 0};
+CALL(write_log, refused(boltjuniper_write_log(events, 20, recorded, sizeof recorded)))
+CALL(minute, boltjuniper_minute(TABLES, minute_cells, cells_len() + groups_len(), origin[0], origin[1], origin[2], sizes[0], sizes[1], sizes[2], lowest, highest,
+                                numbers, 19, words, 7, age, minute_log, minute_bytes, feet, 12, out, 12))
+
 /* The classroom palette, which takes nothing of the input at hand. */
 static uint32_t palette_words[BOLTJUNIPER_PALETTE_WORDS];
 static float palette_numbers[BOLTJUNIPER_PALETTE_NUMBERS];
@@ -99,6 +111,8 @@ static struct row rows[] = {
     {"boltjuniper_check_tables", check_tables, PARTS, 0, 0, 0, 0, 0},
     {"boltjuniper_write_scene", write_scene, PARTS, 0, 0, 0, 0, 0},
     {"boltjuniper_write_checked", write_checked, PARTS, 0, 0, 0, 0, 0},
+    {"boltjuniper_write_log", write_log, PARTS, 0, 0, 0, 0, 0},
+    {"boltjuniper_minute", minute, PARTS, 0, 0, 0, 0, 0},
     {"boltjuniper_palette_records", palette_records, PARTS, 0, 0, 0, 0, 0},
     {"boltjuniper_palette_boxes", palette_boxes, PARTS, 0, 0, 0, 0, 0},
     {"a call that does nothing", nothing, PARTS, 0, 0, 0, 0, 0},
@@ -168,6 +182,7 @@ static void body_is_set(void) {
     air = words[5];
     memcpy(night_window, origin, sizeof origin), memcpy(night_window + 3, sizes, sizeof sizes);
     night_window[6] = (uint32_t)lowest, night_window[7] = (uint32_t)highest, night_window[9] = (uint32_t)cells_len();
+    memcpy(minute_cells, cells, 4 * cells_len());
     memcpy(night_numbers, numbers, sizeof numbers), memcpy(night_words + 1, &age, sizeof age), memcpy(night_words + 3, words, sizeof words);
 }
 
@@ -420,7 +435,17 @@ static void face_cover(void) {
     printf("of the table check, face cover: %zu\n", with - depth(check_tables));
 }
 
+/* The log that every minute is run through. */
+static void set_log(void) {
+    static const uint32_t state[20] = {1}, air[2] = {0, 1}, words[7] = {0, 3};
+    static const double still[19] = {[6] = 1, [7] = 1};
+    if (boltjuniper_write_scene(state, 20, NULL, 0, air, 2, 0, 0, 0, 1, 1, 1, 0, 0, still, 19, words, 7, 0, minute_log, sizeof minute_log) >= 512)
+        minute_bytes = (size_t)boltjuniper_write_log(events, 20, minute_log, sizeof minute_log);
+    if (minute_bytes < 512) printf("stack: the log of a minute is refused\n"), exit(1);
+}
+
 int main(void) {
+    set_log();
     char *room = mmap(NULL, GUARD + PAINTED, PROT_READ | PROT_WRITE, MAP_PRIVATE | MAP_ANONYMOUS, -1, 0);
     if (room == MAP_FAILED || mprotect(room, GUARD, PROT_NONE)) return perror("stack"), 2;
     stack = room + GUARD;

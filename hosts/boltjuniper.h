@@ -1,8 +1,8 @@
-/* Boltjuniper for hosts in C: the functions of crates/exports that a host calls, and those of crates/shown, crates/recorder, crates/classroom and
-   crates/servers. Link target/staticlib/libexports.a (`rt staticlib exports`) and libm; for boltjuniper_collected also
-   target/staticlib/libshown.a (`rt staticlib shown`), for the classroom palette target/staticlib/libclassroom.a (`rt staticlib classroom`), and for
-   the midnight run of two parties target/staticlib/libservers.a (`rt staticlib servers`). A recorder needs
-   target/staticlib/librecorder.a alone (`rt staticlib recorder`), and libm.
+/* Boltjuniper for hosts in C: the functions of crates/exports that a host calls, and those of crates/shown, crates/recorder, crates/classroom,
+   crates/servers and crates/minutes. Link target/staticlib/libexports.a (`rt staticlib exports`) and libm; for boltjuniper_collected also
+   target/staticlib/libshown.a (`rt staticlib shown`), for the classroom palette target/staticlib/libclassroom.a (`rt staticlib classroom`), for
+   the midnight run of two parties target/staticlib/libservers.a (`rt staticlib servers`), and for a minute target/staticlib/libminutes.a
+   (`rt staticlib minutes`). A recorder needs target/staticlib/librecorder.a alone (`rt staticlib recorder`), and libm.
 
    A slice is a pointer and its number of elements, aligned as its type asks. Nothing beyond that number is read or written, what is handed
    in is only read, and `out` must not overlap it. Every call ends, and every input gets an answer: 0, or the number of a refusal
@@ -237,6 +237,30 @@ uint64_t boltjuniper_write_checked(const uint32_t *records, size_t records_len, 
                                    size_t cells_len, int32_t ox, int32_t oy, int32_t oz, uint32_t sx, uint32_t sy, uint32_t sz, int32_t lowest,
                                    int32_t highest, const double *numbers, size_t numbers_len, const uint32_t *words, size_t words_len,
                                    uint64_t age, uint8_t *out, size_t out_len);
+
+/* The log of a minute, behind the scene that `out` begins with, as one of the two above left it there: write the scene when the minute begins, and its events
+   when it is over. `events` has four words to an event, in their order, and the end is written behind them:
+      1 0 0 0                a tick
+      2 position state 0     a cell that was set; its position, counted from the window's origin, is x + 256 * y + 65536 * z, each below 256
+   Blocks of 30 events follow the scene's. Returns how many bytes scene and log have together; or a number below 512, which is a refusal: 8 (`out` begins
+   with no scene of the mark 53 43 4E 32, or an event is not as above), then 12 (more than 128 blocks together), then 11 (an `out` too short for them). */
+uint64_t boltjuniper_write_log(const uint32_t *events, size_t events_len, uint8_t *out, size_t out_len);
+
+/* A minute of a body: it takes tables, a window, a body and its age, as boltjuniper_step does, and runs the body through the events of a log, from a fresh
+   fall record on. Of `log`, the bytes of a log, the events alone are used. `cells` has room behind its words for a summary, which is built first; a set
+   writes one cell and mends one word of the summary, and ticks pass over what is empty. The feet after each tick go to `feet`, three numbers for each, as
+   far as it reaches: 3 * BOLTJUNIPER_MOST_EVENTS hold those of every log. Writes twelve numbers to `out`:
+      0  1  2   feet x y z            6   ground, 0 or 1                                   9   how many ticks were done
+      3  4  5   velocity x y z        7  8   the fall record, sum and landed number       10 11   the age after them, its low word, then its high one
+   It comes to what boltjuniper_step_falling comes to tick by tick, over the cells as each set left them, the age one more after each. Returns 0; or the
+   refusal that ended the run, a tick's, or 5 for a set outside the window: then `cells`, `feet` and `out` are as the events before it left them, and a
+   refusal before the first tick leaves `out` as it was. 8 (no log), 1, 2, 3, 4, 11 (`out`, or no room for the summary) come before anything runs, and
+   then nothing at all is written; `out` is as it was, too. */
+#define BOLTJUNIPER_MOST_EVENTS 3719
+uint32_t boltjuniper_minute(const uint32_t *records, size_t records_len, const float *shapes, size_t shapes_len, uint32_t *cells, size_t cells_len,
+                            int32_t ox, int32_t oy, int32_t oz, uint32_t sx, uint32_t sy, uint32_t sz, int32_t lowest, int32_t highest,
+                            const double *numbers, size_t numbers_len, const uint32_t *words, size_t words_len, uint64_t age, const uint8_t *log,
+                            size_t log_len, double *feet, size_t feet_len, double *out, size_t out_len);
 
 /* The classroom palette: tables of 212 states that are built in, for a server that has no registry to export. They pass boltjuniper_check_tables.
    States: 0 air, 1 a cube, 2 to 17 an oak fence, 18 to 33 a nether brick fence, 34 to 49 a pane, 50 to 211 a wall. A fence or pane is its first state

@@ -8,6 +8,8 @@
     b.steps(tables, window, bodies)                             # a list: for each body its Tick, or its Refused as a value
     b.midnight_capped(tables, *b.window_rows(windows), *b.body_rows(bodies, named, falls))     # thousands of bodies over up to 16 windows, in one call
     b.midnight_two(tables, b.Party(*b.window_rows(..), *b.body_rows(..)), b.Party(..))  # two parties over one table: for each its rows, or its Refused
+    log = b.write_log(b.write_scene(tables, window, body), [None, (3, 1, 2, 0), None])  # a minute: a tick, a cell that is set, a tick
+    b.minute(tables, window, body, log)                         # Minute(lines=[..], feet=.., fall=.., ticks=2, age=2, ..)
 
 An array of the type that is asked for (numpy's uint32, float32 and float64; array.array's I, f and d) is lent as it is, without a copy, and is only
 read; it must not be changed by another thread while the call runs. A list or a tuple of numbers is copied. Another type of array is a TypeError and
@@ -36,7 +38,7 @@ SENTENCES = {
     10: "In the midnight run: the body names no window.",
     11: "In a direct call: the memory lent for the answer is too short; or, in a call over a summary, there are not as many words behind cells and "
         "columns as the window has groups.",
-    12: "In a direct call that writes a scene: it has more than 128 blocks.",
+    12: "In a direct call that writes a scene or a log: it has more than 128 blocks, those of the scene counted in.",
     13: "In a call over a summary, and in the midnight run for a body of its air state: the word of a group disagrees with its cells.",
     14: "In the midnight run: more than 16 windows, or more than 4,096 bodies (2,048 of each of two parties).",
 }
@@ -120,6 +122,20 @@ class Moved(NamedTuple):
     ground: bool
 
 
+class Minute(NamedTuple):
+    """A body after so many ticks of a log: its feet after each (`lines`), its motion, fall record and age, and the window's words, with the summary behind them.
+    `refused` is what ended the run, None where the log came to its end."""
+    lines: list
+    feet: tuple
+    velocity: tuple
+    ground: bool
+    fall: Fall
+    ticks: int
+    age: int
+    cells: object
+    refused: object = None
+
+
 # ---- the library
 
 SLICE = [ctypes.c_void_p, ctypes.c_size_t]
@@ -144,11 +160,14 @@ DECLARED = {
     "collected": TABLES + WINDOW + AIR + SLICE + STEP + SLICE,
     "tick": SLICE * 2,
     "write_scene": TABLES + WINDOW + BODY + SLICE,
+    "write_log": SLICE * 2,
+    "minute": TABLES + WINDOW + BODY + SLICE * 3,
     "palette_records": SLICE,
     "palette_boxes": SLICE,
 }
-WIDE = ("write_scene", "midnight_two")  # what returns 64 bits
-SCENE_BYTES, BLOCK = 65536, 512  # 128 blocks: every scene has room in it
+WIDE = ("write_scene", "write_log", "midnight_two")  # what returns 64 bits
+SCENE_BYTES, BLOCK = 65536, 512  # 128 blocks: every scene has room in it, and every log
+MOST_EVENTS = 3719  # of a log
 PALETTE = (("palette_records", "I", 4240), ("palette_boxes", "f", 3948))  # of the classroom palette: the words, and the numbers of its boxes
 
 _loaded = {}
@@ -383,6 +402,31 @@ def write_scene(tables, window, body):
     lent, out = _Lent().tables(tables).window(window).body(body), (ctypes.c_uint8 * SCENE_BYTES)()
     n = _function("write_scene")(*lent.arguments, ctypes.addressof(out), SCENE_BYTES)
     return bytes(out[:n]) if n >= BLOCK else _judged(Refused(n))
+
+
+def write_log(scene, events):
+    """A scene file with the log of a minute behind it, as bytes: `scene` is what write_scene made, and an event None, a tick, or (x, y, z, state), a cell that
+    was set, counted from the window's origin."""
+    out = (ctypes.c_uint8 * SCENE_BYTES)(*scene)
+    words = [w for e in events for w in ((1, 0, 0, 0) if e is None else (2, e[0] | e[1] << 8 | e[2] << 16, e[3], 0))]
+    lent = _Lent().slice("events", words, "I")
+    n = _function("write_log")(*lent.arguments, ctypes.addressof(out), SCENE_BYTES)
+    return bytes(out[:n]) if n >= BLOCK else _judged(Refused(n))
+
+
+def minute(tables, window, body, log):
+    """A minute of a body: run through the events of a log, from a fresh fall record on. The window's words are copied. A refusal before the first tick is
+    raised."""
+    groups = [(size + 3) // 4 for size in window.sizes]
+    words = array.array("I", [*window.cells, *[0] * (groups[0] * groups[1] * groups[2])])
+    feet, out = (ctypes.c_double * (3 * MOST_EVENTS))(), (ctypes.c_double * 12)(*[-1.0] * 12)
+    lent = _Lent().tables(tables).window(window._replace(cells=words)).body(body).slice("log", log, "B")
+    refusal = _function("minute")(*lent.arguments, ctypes.addressof(feet), len(feet), ctypes.addressof(out), len(out))
+    if refusal and out[9] < 0:
+        raise Refused(refusal)
+    lines = [tuple(feet[3 * k:3 * k + 3]) for k in range(int(out[9]))]
+    return Minute(lines, tuple(out[:3]), tuple(out[3:6]), out[6] != 0, Fall(*out[7:9]), int(out[9]), int(out[10]) + (int(out[11]) << 32), words,
+                  Refused(refusal) if refusal else None)
 
 
 # ---- the classroom palette

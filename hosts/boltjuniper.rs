@@ -1,6 +1,6 @@
-//! Boltjuniper for hosts in Rust: safe wrappers around what hosts/boltjuniper.h declares of crates/exports, crates/recorder, crates/classroom and
-//! crates/servers. Link target/staticlib/libexports.a, for the classroom palette target/staticlib/libclassroom.a, for the midnight run of two parties
-//! target/staticlib/libservers.a, and a recorder target/staticlib/librecorder.a.
+//! Boltjuniper for hosts in Rust: safe wrappers around what hosts/boltjuniper.h declares of crates/exports, crates/recorder, crates/classroom,
+//! crates/servers and crates/minutes. Link target/staticlib/libexports.a, for the classroom palette target/staticlib/libclassroom.a, for the midnight
+//! run of two parties target/staticlib/libservers.a, for a minute target/staticlib/libminutes.a, and a recorder target/staticlib/librecorder.a.
 //! An answer is what was written, or the number of the refusal (docs/REFUSALS.md). The lengths of bodies, movers and answers, and flags, are right
 //! by their types, so neither they nor 11 are ever the reason (but 11 of the midnight run, whose buffer is the host's); those of tables and windows are for the library to refuse.
 
@@ -82,6 +82,12 @@ mod linked {
             oz: i32, sx: u32, sy: u32, sz: u32, lowest: i32, highest: i32, numbers: *const f64, numbers_len: usize, words: *const u32,
             words_len: usize, age: u64, out: *mut u8, out_len: usize,
         ) -> u64;
+        pub fn boltjuniper_write_log(events: *const u32, events_len: usize, out: *mut u8, out_len: usize) -> u64;
+        pub fn boltjuniper_minute(
+            records: *const u32, records_len: usize, shapes: *const f32, shapes_len: usize, cells: *mut u32, cells_len: usize, ox: i32, oy: i32,
+            oz: i32, sx: u32, sy: u32, sz: u32, lowest: i32, highest: i32, numbers: *const f64, numbers_len: usize, words: *const u32,
+            words_len: usize, age: u64, log: *const u8, log_len: usize, feet: *mut f64, feet_len: usize, out: *mut f64, out_len: usize,
+        ) -> u32;
         pub fn boltjuniper_move_over_list(
             boxes: *const f64, boxes_len: usize, mover: *const f64, mover_len: usize, step: f64, ground: u32, cap: u32, out: *mut f64,
             out_len: usize,
@@ -463,6 +469,41 @@ pub fn move_over_list(boxes: &[[f64; 6]], m: Mover) -> Result<Moved, Refusal> {
     moved(refusal, out)
 }
 
+/// How many events a log has at most.
+pub const MOST_EVENTS: usize = 3719;
+
+/// A body after so many ticks of a log.
+#[derive(Clone, Copy, Debug, PartialEq)]
+pub struct Minute {
+    pub feet: [f64; 3],
+    pub velocity: [f64; 3],
+    pub ground: bool,
+    pub fall: Fall,
+    pub ticks: u32,
+    pub age: u64,
+}
+
+/// A minute of a body: run through the events of a log, from a fresh fall record on. `words` are the cells and columns of the window, whose own are not
+/// looked at, with room for a summary behind them (`summary_words`); the log's sets write to them. The feet after each tick go to `feet`, as far as
+/// it reaches. It hands back the refusal that ended the run, 0 where none did, and the body then; none where it had made no tick.
+pub fn minute(t: Tables, words: &mut [u32], w: Window, b: &Body, log: &[u8], feet: &mut [[f64; 3]]) -> (Refusal, Option<Minute>) {
+    let ([ox, oy, oz], [sx, sy, sz], mut out) = (w.origin, w.sizes, [-1.0; 12]);
+    let feet = feet.as_flattened_mut();
+    let refusal = unsafe {
+        linked::boltjuniper_minute(
+            t.records.as_ptr(), t.records.len(), t.shapes.as_ptr(), t.shapes.len(), words.as_mut_ptr(), words.len(), ox, oy, oz, sx, sy, sz,
+            w.lowest, w.highest, b.numbers.as_ptr(), b.numbers.len(), b.words.as_ptr(), b.words.len(), b.age, log.as_ptr(), log.len(),
+            feet.as_mut_ptr(), feet.len(), out.as_mut_ptr(), out.len(),
+        )
+    };
+    let [x, y, z, u, v, q, ground, sum, landed, ticks, low, high] = out;
+    let after = Minute {
+        feet: [x, y, z], velocity: [u, v, q], ground: ground == 1.0, fall: Fall { sum, landed }, ticks: ticks as u32,
+        age: low as u64 | (high as u64) << 32,
+    };
+    (refusal, (ticks >= 0.0).then_some(after))
+}
+
 /// How many words the records of the classroom palette have, and its boxes numbers; its states are in hosts/boltjuniper.h.
 pub const PALETTE_WORDS: usize = 4240;
 pub const PALETTE_NUMBERS: usize = 3948;
@@ -507,4 +548,25 @@ pub fn write_checked(t: Tables, w: Window, b: &Body, out: &mut [u8]) -> Result<u
             w.lowest, w.highest, b.numbers.as_ptr(), b.numbers.len(), b.words.as_ptr(), b.words.len(), b.age, out.as_mut_ptr(), out.len(),
         )
     })
+}
+
+/// An event of a minute: a tick, or a cell that became a state, counted from the window's origin.
+#[derive(Clone, Copy, Debug, PartialEq)]
+pub enum Event {
+    Tick,
+    Set([u8; 3], u32),
+}
+
+/// Its four words, as `write_log` takes them one behind the other.
+pub fn event_words(e: Event) -> [u32; 4] {
+    match e {
+        Event::Tick => [1, 0, 0, 0],
+        Event::Set([x, y, z], state) => [2, u32::from_le_bytes([x, y, z, 0]), state, 0],
+    }
+}
+
+/// The log of a minute behind the scene that `out` begins with, as one of the two above wrote it: how many bytes both have together. A refusal writes
+/// nothing: 8 where there is no such scene or an event's words are none, then 12 for more than 128 blocks together, then 11 for an `out` too short.
+pub fn write_log(events: &[u32], out: &mut [u8]) -> Result<usize, Refusal> {
+    written(unsafe { linked::boltjuniper_write_log(events.as_ptr(), events.len(), out.as_mut_ptr(), out.len()) })
 }

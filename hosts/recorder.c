@@ -1,5 +1,6 @@
-/* A small recorder: it lends its tables, a window and a body, and writes the scene to the file that it is told. A real one fills the same arrays from
-   its server, once a tick. Link target/staticlib/librecorder.a (`rt staticlib recorder`) and libm.
+/* A small recorder: it lends its tables, a window and a body, and writes the scene to the file that it is told, and to a second file the log of a minute.
+   A real one fills the same arrays from its server: the scene once a tick, or when a minute begins; the events as they come, and the log when it is over.
+   Link target/staticlib/librecorder.a (`rt staticlib recorder`) and libm.
 
        cc hosts/recorder.c target/staticlib/librecorder.a -lm -o recorder && ./recorder case-a.scn && ./run onetick < case-a.scn */
 #include "boltjuniper.h"
@@ -24,15 +25,25 @@ static const double numbers[19] = {0.5, 1.25, 0.5, 0.25, 0, 0, 1, 1, 0, 0.5, 0.5
 static const uint32_t words[7] = {0, 3, 0, 0, 0, 0, 0};
 static const uint64_t age = 0;
 
-/* 128 blocks: every scene has room in it. */
-static uint8_t scene[65536];
+/* The minute: a tick, then the cube under the body becomes air, counted from the origin x 0, y 1, z 0, and two ticks more. */
+#define TICK 1, 0, 0, 0
+#define SET(x, y, z, state) 2, (x) | (y) << 8 | (z) << 16, state, 0
+static const uint32_t events[16] = {TICK, SET(0, 1, 0, 0), TICK, TICK};
+
+/* 128 blocks: every scene has room in it, and every scene with a log. */
+static uint8_t file[65536];
+
+static int save(const char *name, uint64_t bytes) {
+    if (bytes < 512) return fprintf(stderr, "refused %d\n", (int)bytes), 1; /* docs/REFUSALS.md says what it means */
+    FILE *f = fopen(name, "wb");
+    if (!f || fwrite(file, 1, bytes, f) != bytes || fclose(f)) return perror(name), 1;
+    return 0;
+}
 
 int main(int argc, char **argv) {
-    if (argc != 2) return fprintf(stderr, "recorder FILE: writes the scene of case A to FILE\n"), 2;
+    if (argc != 2 && argc != 3) return fprintf(stderr, "recorder FILE [LOG]: writes the scene of case A to FILE, and a minute of it to LOG\n"), 2;
     fill_window();
-    uint64_t n = boltjuniper_write_scene(records, 40, shapes, 6, cells, 20, 0, -1, 0, 2, 4, 2, -64, 319, numbers, 19, words, 7, age, scene, sizeof scene);
-    if (n < 512) return fprintf(stderr, "refused %d\n", (int)n), 1; /* docs/REFUSALS.md says what it means */
-    FILE *f = fopen(argv[1], "wb");
-    if (!f || fwrite(scene, 1, n, f) != n || fclose(f)) return perror(argv[1]), 1;
-    return 0;
+    uint64_t n = boltjuniper_write_scene(records, 40, shapes, 6, cells, 20, 0, -1, 0, 2, 4, 2, -64, 319, numbers, 19, words, 7, age, file, sizeof file);
+    if (save(argv[1], n)) return 1;
+    return argc == 3 ? save(argv[2], boltjuniper_write_log(events, 16, file, sizeof file)) : 0;
 }

@@ -18,7 +18,8 @@ static struct count ticks = {"tick", 0, 0}, steps = {"step", 0, 0}, checked = {"
                     moves = {"move", 0, 0}, lists = {"move_over_list", 0, 0}, collects = {"collected", 0, 0},
                     lengths = {"lengths, ground and room", 0, 0}, windows = {"heights, columns and air", 0, 0},
                     falling = {"step_falling", 0, 0}, records_kept = {"fall records", 0, 0}, nights = {"midnight", 0, 0}, pairs = {"midnight_two", 0, 0},
-                    writes = {"write_scene", 0, 0}, rewrites = {"write_checked", 0, 0}, palettes = {"classroom palette", 0, 0};
+                    writes = {"write_scene", 0, 0}, rewrites = {"write_checked", 0, 0}, palettes = {"classroom palette", 0, 0},
+                    logs = {"write_log", 0, 0}, minutes = {"minute", 0, 0}, stored_minutes = {"stored minutes", 0, 0};
 
 static void add(struct count *c, const char *ours, const char *theirs) {
     if (strcmp(ours, theirs) == 0) {
@@ -152,6 +153,195 @@ static void writes_as(struct count *c, write_function *f, size_t bytes, size_t r
     add(c, ours, theirs);
 }
 
+/* ---- logs and minutes */
+
+static uint32_t chance(uint32_t n) {
+    static uint64_t seed = 0x9e3779b97f4a7c15;
+    seed ^= seed << 13, seed ^= seed >> 7, seed ^= seed << 17;
+    return (uint32_t)(seed % n);
+}
+
+enum { EVENTS = 80, FEET = 3 * BOLTJUNIPER_MOST_EVENTS };
+static uint32_t events[4 * EVENTS + 1];
+static uint8_t recorded[ROOM + 512]; /* a block more: a log may have one too many */
+
+/* Ticks, and here and there a set of a cell in the window or, now and then, beside it. Returns how many words they have. */
+static size_t events_at_random(void) {
+    size_t n = chance(EVENTS);
+    for (size_t k = 0; k < n; k++) {
+        uint32_t *e = memset(events + 4 * k, 0, 16), at[3];
+        if (chance(3)) { e[0] = 1; continue; }
+        for (int i = 0; i < 3; i++) at[i] = chance(window[3 + i] + (chance(60) == 0));
+        e[0] = 2, e[1] = at[0] | at[1] << 8 | at[2] << 16, e[2] = chance(20) ? chance(body[46]) : UINT32_MAX;
+    }
+    return 4 * n;
+}
+
+/* What a log behind the scene in `recorded`, of so many bytes, is refused for; a refusal keeps every byte. */
+static void log_refused(uint32_t theirs, size_t events_len, size_t room) {
+    static uint8_t before[ROOM];
+    char a[64], b[64];
+    memcpy(before, recorded, ROOM);
+    uint64_t n = boltjuniper_write_log(events, events_len, recorded, room);
+    sprintf(a, "refused %" PRIu64 "%s", n, memcmp(before, recorded, ROOM) ? ", and something written" : ""), sprintf(b, "refused %" PRIu32, theirs);
+    add(&logs, a, b);
+    memcpy(recorded, before, ROOM);
+}
+
+/* The scene of the parts at hand and these events as a log: how many bytes it has; 0 where there are more than 128 blocks. The block is as document 02 has
+   it, by this second account of it, and bytes past the log are kept. */
+static size_t log_of(size_t events_len) {
+    double numbers[19];
+    uint64_t age;
+    memcpy(numbers, body, sizeof numbers), memcpy(&age, body + 38, 8);
+    memset(recorded, 170, ROOM);
+    size_t scene = (size_t)boltjuniper_write_scene(records, 20 * (size_t)body[46], shapes, 6 * (size_t)body[47], WINDOW, numbers, 19, late, 7, age, recorded, ROOM);
+    size_t blocks = events_len / 120 + 1, bytes = scene + 512 * blocks;
+    if (bytes > ROOM) return log_refused(12, events_len, ROOM), 0;
+    log_refused(11, events_len, bytes - 1), log_refused(8, events_len + 1, bytes);
+    if (events_len) {
+        uint32_t *e = events + 4 * chance((uint32_t)events_len / 4), was[4];
+        memcpy(was, e, 16), e[3] = 1, log_refused(8, events_len, bytes), memcpy(e, was, 16);
+        e[0] = 3, log_refused(8, events_len, bytes), e[0] = 0, log_refused(8, events_len, bytes), memcpy(e, was, 16);
+        e[0] = 2, e[1] = 1 << 24, log_refused(8, events_len, bytes), memcpy(e, was, 16);
+    }
+    recorded[511] ^= 1, log_refused(8, events_len, ROOM), recorded[511] ^= 1;
+    uint64_t n = boltjuniper_write_log(events, events_len, recorded, ROOM);
+    static uint32_t block_of[128];
+    int same = n == bytes;
+    for (size_t b = 0; same && b < blocks; b++) {
+        uint32_t sum = 0, second = 0;
+        memset(block_of, 0, 512);
+        block_of[0] = 0x324E4353, block_of[1] = 6, block_of[2] = (uint32_t)(scene / 512 + b);
+        size_t left = events_len - 120 * b;
+        memcpy(block_of + 3, events + 120 * b, 4 * (left < 120 ? left : 120));
+        for (uint32_t k = 0; k < 126; k++) second += (k + 1) * block_of[k], sum += block_of[k];
+        block_of[126] = second, block_of[127] = sum + second;
+        same = !memcmp(block_of, recorded + scene + 512 * b, 512);
+    }
+    for (size_t k = bytes; same && k < ROOM; k++) same = recorded[k] == 170;
+    add(&logs, same ? "same" : "another file", "same");
+    return bytes;
+}
+
+/* What a minute leaves, and what the same ticks and sets leave that are made one by one over cells and columns. */
+struct left { uint32_t refusal, ticks; double feet[FEET], out[12]; uint32_t words[WORDS + 4096]; };
+static struct left at_once, one_by_one;
+
+static size_t groups_len(void) {
+    size_t n = 1;
+    for (int k = 3; k < 6; k++) n *= (window[k] + 3) / 4;
+    return n;
+}
+
+/* The call over words, feet and answer that were filled before. */
+struct lengths { size_t states, cells, numbers, out, log; };
+static void run_minute(struct left *l, struct lengths n) {
+    double numbers[20] = {0};
+    uint64_t age;
+    memcpy(numbers, body, 19 * sizeof *numbers), memcpy(&age, body + 38, 8);
+    memset(l, 0, sizeof *l);
+    memcpy(l->words, cells, 4 * cells_len());
+    for (size_t k = 0; k < groups_len(); k++) l->words[cells_len() + k] = 7;
+    for (int k = 0; k < 12; k++) l->out[k] = -1;
+    for (int k = 0; k < FEET; k++) l->feet[k] = -1;
+    l->refusal = boltjuniper_minute(records, n.states, shapes, 6 * (size_t)body[47], l->words, n.cells, (int32_t)window[0], (int32_t)window[1], (int32_t)window[2],
+                                    window[3], window[4], window[5], (int32_t)window[6], (int32_t)window[7], numbers, n.numbers, late, 7, age, recorded, n.log,
+                                    l->feet, FEET, l->out, n.out);
+}
+
+static void run_one_by_one(struct left *l, size_t events_len) {
+    double numbers[19], out[12], fall[2] = {0, 0};
+    uint32_t words[7];
+    uint64_t age;
+    memcpy(numbers, body, sizeof numbers), memcpy(words, late, sizeof words), memcpy(&age, body + 38, 8);
+    memset(l, 0, sizeof *l);
+    memcpy(l->words, cells, 4 * cells_len());
+    for (int k = 0; k < 12; k++) l->out[k] = -1;
+    for (int k = 0; k < FEET; k++) l->feet[k] = -1;
+    for (size_t k = 0; k < events_len && !l->refusal; k += 4) {
+        uint32_t at = events[k + 1], x = at & 255, y = at >> 8 & 255, z = at >> 16;
+        if (events[k] == 2) {
+            if (x >= window[3] || y >= window[4] || z >= window[5]) l->refusal = 5;
+            else l->words[((size_t)y * window[5] + z) * window[3] + x] = events[k + 2];
+            continue;
+        }
+        l->refusal = boltjuniper_step_falling(records, 20 * (size_t)body[46], shapes, 6 * (size_t)body[47], l->words, cells_len(), (int32_t)window[0],
+                                              (int32_t)window[1], (int32_t)window[2], window[3], window[4], window[5], (int32_t)window[6], (int32_t)window[7],
+                                              numbers, 19, words, 7, age, fall[0], fall[1], out, 12);
+        if (l->refusal) break;
+        memcpy(numbers, out, 6 * sizeof *out), memcpy(fall, out + 8, sizeof fall), words[0] = (uint32_t)out[6];
+        memcpy(l->feet + 3 * l->ticks++, out, 3 * sizeof *out);
+        age++;
+    }
+    if (!l->refusal || l->ticks) {
+        memcpy(l->out, numbers, 6 * sizeof *out), l->out[6] = words[0], memcpy(l->out + 7, fall, sizeof fall), l->out[9] = l->ticks;
+        l->out[10] = (uint32_t)age, l->out[11] = (double)(age >> 32);
+    }
+    boltjuniper_build_summary(records, 20 * (size_t)body[46], shapes, 6 * (size_t)body[47], l->words, cells_len() + groups_len(), (int32_t)window[0],
+                              (int32_t)window[1], (int32_t)window[2], window[3], window[4], window[5], (int32_t)window[6], (int32_t)window[7], late[5]);
+}
+
+/* A minute that is refused before anything runs: nothing is written. */
+static void minute_refused(uint32_t theirs, struct lengths n) {
+    char a[64], b[64];
+    int kept = 1;
+    run_minute(&at_once, n);
+    for (int k = 0; k < 12; k++) kept &= at_once.out[k] == -1;
+    for (int k = 0; k < FEET; k++) kept &= at_once.feet[k] == -1;
+    kept &= !memcmp(at_once.words, cells, 4 * cells_len());
+    for (size_t k = 0; k < groups_len(); k++) kept &= at_once.words[cells_len() + k] == 7;
+    sprintf(a, "refused %" PRIu32 "%s", at_once.refusal, kept ? "" : ", and something written"), sprintf(b, "refused %" PRIu32, theirs);
+    add(&minutes, a, b);
+}
+
+static void minute(void) {
+    if (chance(4) == 0) body[38] = UINT32_MAX - chance(20), body[39] = UINT32_MAX; /* an age that wraps at 2^64 to 0 */
+    size_t events_len = events_at_random(), bytes = log_of(events_len);
+    if (!bytes) return;
+    struct lengths n = {20 * (size_t)body[46], cells_len() + groups_len(), 19, 12, bytes}, m = n;
+    char a[128], b[128];
+    run_minute(&at_once, n), run_one_by_one(&one_by_one, events_len);
+    at_once.ticks = one_by_one.ticks;
+    sprintf(a, "refused %" PRIu32 ", %s", at_once.refusal, memcmp(at_once.feet, one_by_one.feet, sizeof at_once.feet) ? "other feet" : "the same feet");
+    strcat(a, memcmp(at_once.out, one_by_one.out, sizeof at_once.out) ? ", another state" : ", the same state");
+    strcat(a, memcmp(at_once.words, one_by_one.words, sizeof at_once.words) ? ", other words" : ", the same words");
+    sprintf(b, "refused %" PRIu32 ", the same feet, the same state, the same words", one_by_one.refusal);
+    add(&minutes, a, b);
+    m.log -= 512, minute_refused(8, m), m.states--, minute_refused(8, m), m = n;
+    m.states--, minute_refused(1, m), m.numbers--, minute_refused(1, m), m = n;
+    m.cells = cells_len() - 1, minute_refused(2, m), m = n;
+    m.numbers = 18, minute_refused(3, m), m.numbers = 20, m.out = 0, minute_refused(3, m), m = n;
+    m.out = 11, minute_refused(11, m), m = n;
+    m.cells--, minute_refused(11, m), m.cells = cells_len(), minute_refused(11, m);
+}
+
+/* minute NUMBER lines, then falls NUMBER records: a stored log, run over its own scene's parts; one that is no log, over those at hand. Of the records the
+   last is held to. */
+static void stored_minute(const char *stored, int lines) {
+    static char ours[ROOM];
+    char path[64], *to = ours;
+    snprintf(path, sizeof path, "crates/replay/data/%.4s.log", stored);
+    size_t bytes = read_file(path);
+    const char *theirs = stored[4] ? stored + 5 : "";
+    if (bytes > sizeof recorded) exit(2);
+    memcpy(recorded, file, bytes);
+    if (strcmp(theirs, "refused 8")) parts();
+    run_minute(&at_once, (struct lengths){20 * (size_t)body[46], cells_len() + groups_len(), 19, 12, bytes});
+    int ticks = at_once.out[9] < 0 ? 0 : (int)at_once.out[9];
+    *to = 0;
+    if (lines) {
+        for (int k = 0; k < ticks; k++) to = put(to, k ? "; feet" : "feet", at_once.feet + 3 * k, 3);
+        if (at_once.refusal) sprintf(to, "%srefused %" PRIu32, ticks ? "; " : "", at_once.refusal);
+        add(&stored_minutes, ours, theirs);
+    } else if (ticks) {
+        put(to, "fall", at_once.out + 7, 2);
+        const char *last = theirs, *at = theirs;
+        while ((at = strstr(at, "fall"))) last = at++;
+        add(&stored_minutes, strncmp(ours, last, strlen(ours)) ? "another record" : "the last record", "the last record");
+    }
+}
+
 /* The scene's step with a fresh fall record: the same tick, or what the record is after it. A refusal writes nothing. */
 static void step_with_fall(struct count *c, int record, const char *theirs) {
     double numbers[19], out[12] = {-1, -1, -1, -1, -1, -1, -1, -1, -1, -1, -1, -1};
@@ -265,6 +455,7 @@ static void one_scene(char *theirs) {
     writes_as(&writes, boltjuniper_write_scene, bytes, bytes - 1, first ? theirs : "refused 11");
     if (!first) writes_as(&rewrites, boltjuniper_write_checked, bytes, ROOM, "same");
     if (!first) writes_as(&rewrites, boltjuniper_write_checked, bytes, 0, "refused 11");
+    if (!first) minute();
     /* A move through the window meets 1 and 2 as the step does; its step height is then 3. */
     double mover[9] = {0}, out[10];
     sprintf(ours, "refused %" PRIu32, boltjuniper_move(records, n, shapes, m, WINDOW, body[45], mover, 9, 5, 0, body[48] % 513, out, 10));
@@ -585,6 +776,8 @@ int main(void) {
         if (line[0] >= '0' && line[0] <= '9') one_scene(line);
         if (!strncmp(line, "movelist ", 9)) one_list(line);
         if (!strncmp(line, "after ", 6)) one_record(line);
+        if (!strncmp(line, "minute ", 7)) stored_minute(line + 7, 1);
+        if (!strncmp(line, "falls ", 6)) stored_minute(line + 6, 0);
     }
     fclose(f);
     case_a();
@@ -598,7 +791,7 @@ int main(void) {
     all_pairs();
     classroom();
     const struct count *all[] = {&ticks, &steps, &checked, &tables, &moves, &lists, &collects, &lengths, &windows, &falling, &records_kept,
-                                 &nights, &pairs, &writes, &rewrites, &palettes};
+                                 &nights, &pairs, &writes, &rewrites, &palettes, &logs, &minutes, &stored_minutes};
     int bad = 0;
     for (size_t k = 0; k < sizeof all / sizeof *all; k++) bad |= tell(all[k]);
     return bad;

@@ -2,6 +2,7 @@
 """Holds the functions of hosts/boltjuniper.py to the stored answers of the original Rust (docs/VECTORS.md). Run by hosts/run."""
 import array
 import os
+import random
 import struct
 import sys
 import threading
@@ -11,6 +12,7 @@ HERE = os.path.dirname(os.path.abspath(__file__))
 sys.path.insert(0, os.path.join(HERE, "..", "tools"))
 import boltjuniper as b
 import scenefile
+import scenelog
 import scenepalette
 
 try:
@@ -86,7 +88,7 @@ COUNTS = {name: Count(name) for name in ("tick", "ticks", "step", "step_checked"
                                          "write_scene", "write_scene beside tools/scene",
                                          "move over what it collects", "step of numpy's arrays", "heights, columns and air", "two ticks at a door",
                                          "arrays as they are", "step_falling", "fall records", "midnight", "midnight of older rows", "midnight's refusals",
-                                         "midnight_two", "classroom palette", "caps", "summaries")}
+                                         "midnight_two", "classroom palette", "caps", "summaries", "write_log beside tools/scene", "minute")}
 
 
 def one_scene(name, theirs):
@@ -112,6 +114,7 @@ def one_scene(name, theirs):
     COUNTS["write_scene"].add(name, tick_text(written, theirs) if first else written == renewed(data), theirs if first else True)
     if not first:
         COUNTS["write_scene beside tools/scene"].add(name, written == scenefile.packed(scene), True)
+        minutes(name, scene, written)
     if not early:
         COUNTS["step_checked"].add(name, tick_text(asked(b.step_checked, tables, window, body), theirs), theirs)
     # A move through the window meets 1 and 2 as the step does; its step height is then 3.
@@ -424,6 +427,48 @@ def summaries(name, tables, window, body):
     count.add(name, asked(b.move_summed, tables, summed, air, mover), asked(b.move, tables, summed._replace(cells=summed.cells[:plain]), air, mover))
 
 
+CHANCE = random.Random(14)
+
+
+def minutes(name, scene, written):
+    """A scene with a log of random events behind it, as tools/scene packs it; and what the minute leaves, beside steps and sets one by one."""
+    tables, window, body = parts(scene)
+    events = [None if CHANCE.random() < 0.7 else (*(CHANCE.randrange(n + (CHANCE.random() < 0.02)) for n in window.sizes), CHANCE.randrange(len(scene.records) // 20))
+              for _ in range(CHANCE.choice((0, 5, 12, 29, 30, 31) if len(window.cells) < 1000 else (0, 5)))]
+    log = asked(b.write_log, written, events)
+    if len(written) // 512 + len(events) // 30 + 1 > 128:
+        COUNTS["write_log beside tools/scene"].add(name, log, b.Refused(12))
+        return
+    COUNTS["write_log beside tools/scene"].add(name, log == scenelog.packed(scene, events), True)
+    turns = list(scenelog.played(scene, events, b))
+    refused = turns.pop()[1] if turns and isinstance(turns[-1][1], b.Refused) else None
+    ours = asked(b.minute, tables, window, body, log)
+    if refused and not turns:
+        COUNTS["minute"].add(name, ours, refused)
+        return
+    lines = [tick.feet for _, tick, _ in turns]
+    feet, velocity, ground = turns[-1][1][:3] if turns else (tuple(body.numbers[:3]), tuple(body.numbers[3:6]), body.words[0] != 0)
+    theirs = (lines, feet, velocity, ground, turns[-1][2] if turns else b.Fall(), len(turns), (body.age + len(turns)) % 2**64, refused)
+    COUNTS["minute"].add(name, (*ours[:7], ours.refused), theirs)
+    COUNTS["minute"].add(name, asked(b.minute, tables, window, body, log[:-1]), b.Refused(8))
+    COUNTS["minute"].add(name, asked(b.minute, tables, window, body, written), b.Refused(8))
+
+
+def stored_minute(name, theirs):
+    """A stored log, run over its own scene's parts; one that is no log, over case A's."""
+    with open("crates/replay/data/%s.log" % name, "rb") as f:
+        log = f.read()
+    no_log = theirs == "refused 8"
+    scene, events = (example("case-a"), None) if no_log else scenelog.unpacked(log)
+    tables, window, body = parts(scene)
+    ours = asked(b.minute, tables, window, body, log)
+    refused = ours if isinstance(ours, b.Refused) else ours.refused
+    lines = [] if isinstance(ours, b.Refused) else ["feet" + bits(feet) for feet in ours.lines]
+    COUNTS["minute"].add(name, "; ".join(lines + (["refused %d" % refused.number] if refused else [])), theirs)
+    if not no_log and log[:4] == b"SCN2" and theirs[:9] not in ("refused 1", "refused 2", "refused 3", "refused 4"):
+        COUNTS["write_log beside tools/scene"].add(name, asked(b.write_log, b.write_scene(tables, window, body), events) == log, True)
+
+
 def doors():
     """What docs/MODERATORS.md says of two ticks at a door: the first ends one rounding inside it, the second behind it."""
     first, second = example("door-1"), example("door-2")
@@ -469,6 +514,8 @@ def main():
                 one_list(*line.split("=> ", 1))
             elif line.startswith("after "):
                 one_record(*line[6:].split(" ", 1))
+            elif line.startswith("minute "):
+                stored_minute(*line[7:].split(" ", 1))
     case_a()
     recorder()
     windows()

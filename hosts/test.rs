@@ -386,6 +386,68 @@ fn sums(numbers: impl Iterator<Item = u64>) -> String {
     format!("{each} {after}")
 }
 
+// A scene with a log of random events behind it: a minute leaves what the same ticks and sets leave that are made one by one, over cells and columns; and
+// where the log is no log, or a word is missing, nothing is written.
+fn minutes(c: &mut Count, name: &str, t: Tables, w: Window, body: &Body, random: &mut Random) {
+    let [x, y, z] = w.sizes;
+    let cell = |random: &mut Random| {
+        let beside = u64::from(random.below(20) == 0);
+        [x, y, z].map(|n| random.below(u64::from(n) + beside) as u8)
+    };
+    let events: Vec<Event> = (0..random.below(80))
+        .map(|_| if random.below(3) > 0 { Event::Tick } else { Event::Set(cell(random), random.below(t.records.len() as u64 / 20) as u32) })
+        .collect();
+    let words: Vec<u32> = events.iter().flat_map(|e| event_words(*e)).collect();
+    let mut log = vec![170; SCENE_BYTES];
+    let scene = write_scene(t, w, body, &mut log).unwrap();
+    let bytes = scene + 512 * (words.len() / 120 + 1);
+    let told = write_log(&words, &mut log);
+    c.add(name, &format!("{told:?}"), &format!("{:?}", if bytes > SCENE_BYTES { Err(12) } else { Ok(bytes) }));
+    if told.is_err() {
+        return;
+    }
+    let mut cells = w.cells.to_vec();
+    let (mut b, mut fall, mut feet, mut refusal) = (*body, Fall::default(), vec![], 0);
+    for e in &events {
+        match *e {
+            Event::Set([i, j, k], state) if u32::from(i) < x && u32::from(j) < y && u32::from(k) < z => {
+                cells[((u32::from(j) * z + u32::from(k)) * x + u32::from(i)) as usize] = state;
+            }
+            Event::Set(..) => refusal = 5,
+            Event::Tick => match step_falling(t, Window { cells: &cells, ..w }, &b, fall) {
+                Err(n) => refusal = n,
+                Ok((tick, after)) => {
+                    b.numbers[..3].copy_from_slice(&tick.feet);
+                    b.numbers[3..6].copy_from_slice(&tick.velocity);
+                    b.words[0] = u32::from(tick.ground);
+                    b.age = b.age.wrapping_add(1);
+                    fall = after;
+                    feet.push(tick.feet);
+                }
+            },
+        }
+        if refusal != 0 {
+            break;
+        }
+    }
+    let vec = |k: usize| [b.numbers[k], b.numbers[k + 1], b.numbers[k + 2]];
+    let after = Minute { feet: vec(0), velocity: vec(3), ground: b.words[0] == 1, fall, ticks: feet.len() as u32, age: b.age };
+    let after = (refusal == 0 || !feet.is_empty()).then_some(after);
+    cells.extend(std::iter::repeat_n(7, summary_words(w.sizes)));
+    build_summary(t, &mut cells, w, body.words[5]).unwrap();
+    let mut roomy = w.cells.to_vec();
+    roomy.extend(std::iter::repeat_n(7, summary_words(w.sizes)));
+    let (mut ours, mut lines) = (roomy.clone(), vec![[7.0; 3]; MOST_EVENTS]);
+    let left = minute(t, &mut ours, w, body, &log[..bytes], &mut lines);
+    feet.resize(MOST_EVENTS, [7.0; 3]);
+    c.add(name, &format!("{left:?} {} {}", lines == feet, ours == cells), &format!("{:?} true true", (refusal, after)));
+    for (theirs, end, words) in [(8, bytes - 1, roomy.len()), (8, scene, roomy.len()), (11, bytes, roomy.len() - 1), (2, bytes, w.cells.len() - 1)] {
+        let (mut ours, mut lines) = (roomy.clone(), vec![[7.0; 3]; MOST_EVENTS]);
+        let left = minute(t, &mut ours[..words], w, body, &log[..end], &mut lines);
+        c.add(name, &format!("{left:?} {} {}", lines == vec![[7.0; 3]; MOST_EVENTS], ours == roomy), &format!("{:?} true true", (theirs, None::<Minute>)));
+    }
+}
+
 /// The tables of the classroom palette, in buffers that are one too short and one too long, against what crates/palette_runs must write.
 fn classroom(c: &mut Count) {
     let stored = std::fs::read_to_string("crates/palette_runs/stdout").unwrap();
@@ -406,7 +468,7 @@ fn classroom(c: &mut Count) {
 fn main() {
     let stored = std::fs::read_to_string("crates/replay/stdout").unwrap();
     let (scenes, calls): (Vec<&str>, Vec<&str>) = stored.lines().partition(|l| l.starts_with(|c: char| c.is_ascii_digit()));
-    let [mut ticks, mut steps, mut checked, mut tables, mut moves, mut lists, mut windows, mut falls, mut night, mut writes, mut palette, mut summed] = std::array::from_fn(|_| Count::default());
+    let [mut ticks, mut steps, mut checked, mut tables, mut moves, mut lists, mut windows, mut falls, mut night, mut writes, mut palette, mut summed, mut minute_runs] = std::array::from_fn(|_| Count::default());
     // after NUMBER fall SUM LANDED: the record after the scene's tick, from a fresh one
     let after: std::collections::HashMap<&str, &str> = calls.iter().filter_map(|l| l.strip_prefix("after ")?.split_once(' ')).collect();
     let mut random = Random(0x9e37_79b9_7f4a_7c15);
@@ -440,6 +502,7 @@ fn main() {
         if !first {
             out = [170; SCENE_BYTES + 1];
             writes.add(name, &written_text(write_checked(t, w, &s.body, &mut out), &out, &file), "same");
+            minutes(&mut minute_runs, name, t, w, &s.body, &mut random);
         }
         // A move through the window meets 1 and 2 as the step does; its step height is then 3.
         let none = Mover { aabb: [0.0; 6], delta: [0.0; 3], step: 5.0, ground: false, cap: 0 };
@@ -448,6 +511,23 @@ fn main() {
         if !early {
             checked.add(name, &tick_text(step_checked(t, w, &s.body), theirs), theirs);
         }
+    }
+    // minute NUMBER lines: a stored log, run over its own scene's parts; one that is no log, over no tables
+    for (name, theirs) in calls.iter().filter_map(|l| l.strip_prefix("minute ")?.split_once(' ')) {
+        let log = std::fs::read(format!("crates/replay/data/{name}.log")).unwrap();
+        let s = (theirs != "refused 8").then(|| scene(&log));
+        let none = Body { numbers: [0.0; 19], words: [0; 7], age: 0 };
+        let (t, w, body) = s.as_ref().map_or((Tables { records: &[], shapes: &[] }, Window { cells: &[], origin: [0; 3], sizes: [0; 3], lowest: 0, highest: 0 }, none), |s| {
+            let w = Window { cells: &s.cells, origin: s.origin, sizes: s.sizes, lowest: s.lowest, highest: s.highest };
+            (Tables { records: &s.records, shapes: &s.shapes }, w, s.body)
+        });
+        let mut words = w.cells.to_vec();
+        words.extend(std::iter::repeat_n(7, summary_words(w.sizes)));
+        let mut feet = vec![[7.0; 3]; MOST_EVENTS];
+        let (refusal, after) = minute(t, &mut words, w, &body, &log, &mut feet);
+        let mut ours: Vec<String> = feet[..after.map_or(0, |m| m.ticks as usize)].iter().map(|v| format!("feet{}", bits(v))).collect();
+        ours.extend((refusal != 0).then(|| format!("refused {refusal}")));
+        minute_runs.add(name, &ours.join("; "), theirs);
     }
     for line in calls.iter().filter(|l| l.starts_with("movelist ")) {
         let (call, theirs) = line.split_once("=> ").unwrap();
@@ -481,6 +561,7 @@ fn main() {
         writes.tell("write_scene, write_checked"),
         palette.tell("classroom palette"),
         summed.tell("summaries"),
+        minute_runs.tell("minute, write_log"),
     ];
     std::process::exit(fine.contains(&false) as i32);
 }

@@ -7,13 +7,14 @@ import os
 import sys
 
 import scenecheck
-from scenefile import BODY, BOX_WORDS, STATE, STATE_WORDS, WINDOW, arrays, divided, f32, heights, pieces, value, values
+import scenelog
+from scenefile import BODY, BOX_WORDS, STATE, STATE_WORDS, WINDOW, Mistake, arrays, divided, f32, heights, pieces, value, values
 
 sys.path.append(os.path.join(os.path.dirname(os.path.abspath(__file__)), "..", "hosts"))
 import boltjuniper
 
 WIDE = 1040  # of the picture; panels that do not fit beside each other stand below
-MOST_CELLS, MOST_LAYERS = 20, 6
+MOST_CELLS, MOST_LAYERS, MOST_FRAMES = 20, 6, 8
 STYLE = """
 text { font: 13px sans-serif; fill: #222 } .title { font-size: 20px; font-weight: bold } .head { font-size: 15px; font-weight: bold }
 .tick { font-size: 11px; fill: #666 } .state { font-size: 10px; fill: #555 } .edge { fill: none; stroke: #999; stroke-width: 0.5 }
@@ -369,6 +370,39 @@ def picture(scene, name):
     left_out = " Boxes that the move collected are not shown: %s." % tick.unsaid if tick.feet and tick.unsaid else ""
     below.append(words(14, y + 6, "Coordinates stand along the edges; a small number in a cell is its state." + left_out, "tick"))
     return wrapped(told + drawn + below, y + 20)
+
+
+def frames_of(events, most):
+    """Which ticks a strip shows: the first, the last, each that follows a set, and others between while there is room."""
+    after, ticks, last = [], 0, True
+    for e in events:
+        if e is None:
+            after += [ticks] if last else []
+            ticks += 1
+        last = e is not None
+    if ticks <= most:
+        return list(range(ticks))
+    kept = {0, ticks - 1, *after[:most - 2]}
+    for k in range(most):
+        kept |= {k * (ticks - 1) // (most - 1)} if len(kept) < most else set()
+    return sorted(kept)
+
+
+def strip(scene, events, name):
+    """A minute: pictures of some of its ticks, side by side, each as its scene then was."""
+    try:
+        ticks = list(scenelog.played(scene, events, boltjuniper)) if not list(scenecheck.causes(scene)) else []
+    except boltjuniper.NotBuilt:
+        raise Mistake("a minute is drawn with the library, which is not built (hosts/build makes it)") from None
+    if not ticks:
+        return picture(scene, name)
+    shown_ticks = [k for k in frames_of(events, MOST_FRAMES) if k < len(ticks)]
+    if len(ticks) - 1 not in shown_ticks:
+        shown_ticks.append(len(ticks) - 1)
+    drawn = [picture(ticks[k][0], "%s, tick %d of %d" % (name, k + 1, len(ticks))) for k in shown_ticks]
+    tall = max(int(d.split('height="')[1].split('"')[0]) for d in drawn)
+    beside = [d.replace("<svg ", '<svg x="%d" y="0" ' % (k * WIDE), 1) for k, d in enumerate(drawn)]
+    return '<svg xmlns="http://www.w3.org/2000/svg" width="%d" height="%d">\n%s</svg>\n' % (WIDE * len(drawn), tall, "".join(beside))
 
 
 def wrapped(out, height):

@@ -17,6 +17,7 @@ RULES = {NEW: "the new rule: mark 53 43 4e 32, checks in words 126 and 127",
          OLD: "the old rule: mark 53 43 4e 31, one check, in word 127"}
 WORD = 2**32
 BLOCK, PAYLOAD, MOST_BLOCKS = 128, 123, 128
+LOG_KIND = 6  # of the blocks behind a scene in a log, which scenelog.py has
 
 
 class Mistake(Exception):
@@ -305,7 +306,8 @@ def limit_causes(blocks, words, table):
                 yield "block %d, word %d: %s is %d, must be %d to %d" % (blocks - 1, 3 + place.start, key, words[place][0], low, high)
 
 
-def unpacked(data):
+def parts_of(data):
+    """The scene at a file's start, and the blocks behind it: none, or those of a log."""
     if not data or len(data) % 512 or len(data) > 512 * MOST_BLOCKS:
         raise Malformed(["the file has %d bytes, must be 1 to %d blocks of 512" % (len(data), MOST_BLOCKS)])
     blocks = [list(struct.unpack_from("<128I", data, at)) for at in range(0, len(data), 512)]
@@ -334,8 +336,14 @@ def unpacked(data):
                        for k in range(BODY["flap"].at, BODY["flap"].at + 2) if words[k]]
         if causes:
             raise Malformed(causes)
-    if at < len(blocks):
-        raise Malformed(["block %d: %d more than the counts need" % (at, len(blocks) - at)])
+    return scene, blocks[at:]
+
+
+def unpacked(data):
+    scene, behind = parts_of(data)
+    if behind:
+        raise Malformed(["block %d: %d more than the counts need%s" % (len(data) // 512 - len(behind), len(behind),
+                         ", of kind 6: the file is a log, and no scene" if behind[0][1] == LOG_KIND else "")])
     return scene
 
 

@@ -17,14 +17,15 @@ pub record Per (n : ℕ) : Type 0 where
 
 pub per-block : (kind : ℕ) → Per (perBlock kind)
 unfolding perBlock choose
-per-block kind = go (eqb kind 1) (eqb kind 2) (eqb kind 3) (eqb kind 4)
+per-block kind = go (eqb kind 1) (eqb kind 2) (eqb kind 3) (eqb kind 4) (eqb kind 6)
   where
-    go : (a b c d : Bool) → Per (choose a 49 (choose b 120 (choose c 120 (choose d 8 123))))
-    go true b c d = record { least = omega arith; most = omega arith }
-    go false true c d = record { least = omega arith; most = omega arith }
-    go false false true d = record { least = omega arith; most = omega arith }
-    go false false false true = record { least = omega arith; most = omega arith }
-    go false false false false = record { least = omega arith; most = omega arith }
+    go : (a b c d e : Bool) → Per (choose a 49 (choose b 120 (choose c 120 (choose d 8 (choose e 120 123)))))
+    go true b c d e = record { least = omega arith; most = omega arith }
+    go false true c d e = record { least = omega arith; most = omega arith }
+    go false false true d e = record { least = omega arith; most = omega arith }
+    go false false false true e = record { least = omega arith; most = omega arith }
+    go false false false false true = record { least = omega arith; most = omega arith }
+    go false false false false false = record { least = omega arith; most = omega arith }
 
 -- the same of what the program found
 pub per-found : (r kind : ℕ) → r ≡ perBlock kind → Per r

@@ -12,9 +12,10 @@ unfoldable pub use Rattle.block_rules.specs.Rules.{blockOf, isSecond, restZero,
 
 -- ---- parts: the blocks of one kind, one after the other
 
--- the payload words in use in a full block: the body's 49, "six records each" of 20 words, "20 boxes each" of six, the window's eight, "123 cells each"
+-- the payload words in use in a full block: the body's 49, "six records each" of 20 words, "20 boxes each" of six, the window's eight, "123 cells each",
+-- and of a log "30 events each of four words"
 unfoldable pub perBlock : ℕ → ℕ
-perBlock kind = choose (eqb kind 1) 49 (choose (eqb kind 2) 120 (choose (eqb kind 3) 120 (choose (eqb kind 4) 8 123)))
+perBlock kind = choose (eqb kind 1) 49 (choose (eqb kind 2) 120 (choose (eqb kind 3) 120 (choose (eqb kind 4) 8 (choose (eqb kind 6) 120 123))))
 
 -- as many blocks as the words fill, and one more for what is left over
 unfoldable pub blocksOf : Part → ℕ
@@ -52,3 +53,7 @@ windowPart states boxes = record { first = endOf (boxPart states boxes); kind = 
 
 abbrev pub cellPart : ℕ → ℕ → ℕ → Part
 cellPart states boxes cells = record { first = endOf (windowPart states boxes); kind = 5; words = cells }
+
+-- "Recorders now log a minute: a scene, then blocks of kind 6", so many of them behind the scene's
+abbrev pub logPart : ℕ → ℕ → Part
+logPart first blocks = record { first = first; kind = 6; words = blocks * 120 }

@@ -4,7 +4,7 @@ use block_rules::block_fits;
 use block_rules::block_of;
 use block_rules::has_new_mark;
 ghost use mathlib.Core.Path.{_≡_};
-ghost use Rattle.blocks.specs.Blocks.{perBlock, blocksOf, endOf, usedIn, partFits, partWord, bodyPart, recordPart, boxPart, windowPart, cellPart};
+ghost use Rattle.blocks.specs.Blocks.{perBlock, blocksOf, endOf, usedIn, partFits, partWord, bodyPart, recordPart, boxPart, windowPart, cellPart, logPart};
 
 // The blocks of one kind, one after the other: the first of them, the kind, and how many payload words there are in all.
 pub struct Part {
@@ -28,6 +28,9 @@ pub fn per_block(kind: u32) -> u32
     }
     if kind == 4 {
         return 8;
+    }
+    if kind == 6 {
+        return 120;
     }
     123
 }
@@ -139,5 +142,16 @@ pub fn cell_part(states: u16, boxes: u16, cells: u32) -> Part
         first: first as u32,
         kind: 5,
         words: cells,
+    }
+}
+
+// The blocks of a log, behind a scene's.
+pub fn log_part(first: u32, blocks: u16) -> Part
+    ensures { λ r. ⌜ r ≡ logPart first blocks ⌝ }
+{
+    Part {
+        first,
+        kind: 6,
+        words: blocks as u32 * 120,
     }
 }

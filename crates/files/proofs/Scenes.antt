@@ -19,26 +19,26 @@ use Rattle.files.specs.Files.{bodyWord, sizesIn, windowIn, countsIn, cou
 
 -- ---- found where a test holds, and else refused by 8
 
-abbrev isFound : Ask Counts → Bool
+abbrev isFound : {A : Type 0} → Ask A → Bool
 isFound (refused k) = false
-isFound (found n) = true
+isFound (found a) = true
 
-abbrev countsOr : Counts → Ask Counts → Counts
-countsOr d (refused k) = d
-countsOr d (found n) = n
+abbrev foundOr : {A : Type 0} → A → Ask A → A
+foundOr d (refused k) = d
+foundOr d (found a) = a
 
-unfit : (b : Bool) (m : Counts) → refused 8 ≡ choose b (found m) (refused 8) → b ≡ false
+pub unfit : {A : Type 0} (b : Bool) (m : A) → refused 8 ≡ choose b (found m) (refused 8) → b ≡ false
 unfolding choose
 unfit true m e = absurd (false≢true (ap isFound e))
 unfit false m e = refl
 
-record Are (b : Bool) (n m : Counts) : Type 0 where
-  test : b ≡ true
-  same : m ≡ n
+pub record Are {A : Type 0} (b : Bool) (n m : A) : Type 0 where
+  pub test : b ≡ true
+  pub same : m ≡ n
 
-are : (b : Bool) (n m : Counts) → found n ≡ choose b (found m) (refused 8) → Are b n m
+pub are : {A : Type 0} (b : Bool) (n m : A) → found n ≡ choose b (found m) (refused 8) → Are b n m
 unfolding choose
-are true n m e = record { test = refl; same = sym (ap (countsOr n) e) }
+are true n m e = record { test = refl; same = sym (ap (foundOr n) e) }
 are false n m e = absurd (true≢false (ap isFound e))
 
 -- ---- counts within their limits, or not; then what else is asked of a file

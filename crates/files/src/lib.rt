@@ -75,7 +75,7 @@ fn sizes_at(file: &[u8], p: Part) -> Sizes
 }
 
 // State count, box count and the number of cells, each within its limit.
-fn counts_within(file: &[u8]) -> Counted
+pub fn counts_within(file: &[u8]) -> Counted
     ensures { λ r. ⌜ countsAsked r ≡ choose (countsFit (now (file .entry))) (found (countsOf (now (file .entry)))) (refused 8) ⌝ }
 {
     let states = body_word(file, places::STATES);

@@ -6,12 +6,12 @@ use Prim.Native.Nat.{ℕ, _+_, _*_, _/_, _≤_, _<_, _^_}
 use native.Mathlib.Nat.{mul-le-mul}
 use native.Mathlib.Omega.{arith}
 use lib.Dec.{T, ltb}
-use lib.IntN.{ℤ, pos, negsuc, negℤ, natAbs, _-ℤ_}
+use lib.IntN.{ℤ, pos, negsuc, negℤ, natAbs, _+ℤ_, _-ℤ_, +ℤ-comm, +ℤ-negℤ-cancel}
 use lib.Signed.{mag, leZ, ltZ, nonNeg}
 use mir.Syntax.{w32, w64}
 use mir.Val.{SFits, Fits, toZ, ofZ}
 use mir.ValLaws.{toZ-ofZ, toZ-pos}
-use borrow.Author.Tests.{ltb-true, lt-ltb, le-ltb}
+use borrow.Author.Tests.{ltb-true, lt-ltb, le-ltb, le-leb}
 use Rattle.base.specs.Choose.{choose}
 use Rattle.base.proofs.Every.{both}
 use Rattle.window.specs.declared.Pos.{Pos}
@@ -24,6 +24,7 @@ use Rattle.window.proofs.Offsets.{within-by, ahead-below, below-size}
 use Rattle.window.proofs.Cells.{is-inside}
 use Rattle.window.proofs.Signs.{mag-add, mag-neg, widens32, wide, wide-is}
 use Rattle.groups.specs.declared.Place.{Place}
+use Rattle.groups.specs.Groups.{cellAt}
 use Rattle.groups.specs.Summary.{isInside, setIn}
 use Rattle.groups.specs.Places.{offsetIn, placeIn, isIn, setAt}
 
@@ -135,3 +136,29 @@ set-placed records words w p state t e h =
       inside-is (p .y) (w .origin .y) (w .sizes .y) (i .y),
       inside-is (p .z) (w .origin .z) (w .sizes .z) (i .z),
     )
+
+-- ---- a cell counted from the origin
+apart-by : (o : ℤ) (n : ℕ) → o +ℤ pos n -ℤ o ≡ pos n
+apart-by o n = ap (λ (t : ℤ). t -ℤ o) (+ℤ-comm o (pos n)) ∙ +ℤ-negℤ-cancel (pos n) o
+
+counted : (o : ℤ) (x n : ℕ) → within o n (o +ℤ pos x) ≡ ltb x n
+counted o x n = within-by o n (o +ℤ pos x) ∙ ap (λ (d : ℤ). isAhead d n) (apart-by o x) ∙ ap (λ (b : Bool). b && ltb x n) (le-leb 0 x (omega arith))
+
+pub counted-in : (w : Window) (t : Place) → isInside w (cellAt w (t .x) (t .y) (t .z)) ≡ isIn (w .sizes) t
+counted-in w t =
+    let x = counted (w .origin .x) (t .x) (w .sizes .x) in
+    let y = counted (w .origin .y) (t .y) (w .sizes .y) in
+    let z = counted (w .origin .z) (t .z) (w .sizes .z) in
+    λ i. x i && z i && y i
+
+counted-axis : (o : ℤ) (x n : ℕ) → x < n → x ≡ offsetIn (o +ℤ pos x) o n
+unfolding offsetIn choose
+counted-axis o x n h = rw (counted o x n, lt-ltb x n h) (sym (ap natAbs (apart-by o x)))
+
+pub counted-place : (w : Window) (t : Place) → isIn (w .sizes) t ≡ true → t ≡ placeIn w (cellAt w (t .x) (t .y) (t .z))
+counted-place w t e =
+    let i = is-in (w .sizes) t e in
+    let x = counted-axis (w .origin .x) (t .x) (w .sizes .x) (i .x) in
+    let y = counted-axis (w .origin .y) (t .y) (w .sizes .y) (i .y) in
+    let z = counted-axis (w .origin .z) (t .z) (w .sizes .z) (i .z) in
+    λ k. record { x = x k; y = y k; z = z k }

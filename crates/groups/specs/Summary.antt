@@ -22,6 +22,10 @@ summaryOf records words w = listed (λ i. groupWord records words w (groupAt (w 
 abbrev pub wordsBefore : Sizes → ℕ
 wordsBefore s = cellCount s + columnCount s
 
+-- so many words are lent with it; none where the sizes break their limit
+unfoldable pub summedWords : Sizes → ℕ
+summedWords s = choose (sizesFit s) (wordsBefore s + groupCount s) 0
+
 -- there are as many words behind them as the window has groups
 unfoldable pub hasSummary : List ℕ → Window → Bool
 hasSummary words w = sizesFit (w .sizes) && eqb (length words) (wordsBefore (w .sizes) + groupCount (w .sizes))

@@ -14,7 +14,7 @@ ghost use Rattle.base.specs.Loop.{stored};
 ghost use Rattle.window.specs.Window.{sizesFit, indexAt};
 ghost use Rattle.window.specs.Look.{lookAt};
 ghost use Rattle.groups.specs.Groups.{groupsOn, groupCount, groupIndex, groupAt, cut, cellAt, isEmptyState, isEmpty, isEmptyLine, isEmptyLayer, groupWord};
-ghost use Rattle.groups.specs.Summary.{summaryOf, wordsBefore, hasSummary, buildRefusal, built, agrees, summaryRefusal, setRefusal, afterSet};
+ghost use Rattle.groups.specs.Summary.{summaryOf, wordsBefore, summedWords, hasSummary, buildRefusal, built, agrees, summaryRefusal, setRefusal, afterSet};
 ghost use Rattle.groups.specs.Places.{layoutOf, offsetIn, placeIn, isIn, setAt};
 
 // A group, counted from the origin on each axis.
@@ -207,6 +207,18 @@ fn word_of(records: &[u32], words: &[u32], w: Window, i: u32) -> u32
     group_word(records, words, w, g)
 }
 
+// How many words a host lends with a summary: those of cells, columns and groups; none where the sizes break their limit.
+pub fn summed_words(s: Sizes) -> u32
+    ensures { λ r. ⌜ r ≡ summedWords s ⌝ }
+{
+    if window::sizes_fit(s) {
+        let before = words_before(s);
+        let groups = group_count(s);
+        return before + groups;
+    }
+    0
+}
+
 // Whether there are as many words behind cells and columns as the window has groups.
 pub fn has_summary(words: &[u32], w: Window) -> bool
     ensures { λ r. ⌜ r ≡ hasSummary (now (words .entry)) w ⌝ }
@@ -374,6 +386,21 @@ pub fn set_cell(records: &[u32], words: &mut [u32], w: Window, p: Pos, state: u3
         let t = place_in(w, p);
         if is_in(w.sizes, t) {
             set_in(records, words, w, t, state);
+            return 0;
+        }
+        return 5;
+    }
+    11
+}
+
+// The same of a cell counted from the window's origin.
+pub fn set_at(records: &[u32], words: &mut [u32], w: Window, place: Place, state: u32) -> u32
+    ensures { λ r. ⌜ r ≡ setRefusal (now (words .entry)) w (cellAt w (place .x) (place .y) (place .z)) ⌝ }
+    ensures { λ _. ⌜ now (words .exit) ≡ afterSet (now (records .entry)) (now (words .entry)) w (cellAt w (place .x) (place .y) (place .z)) state ⌝ }
+{
+    if has_summary(words, w) {
+        if is_in(w.sizes, place) {
+            set_in(records, words, w, place, state);
             return 0;
         }
         return 5;

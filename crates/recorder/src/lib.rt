@@ -1,10 +1,11 @@
-// What a recorder links, and nothing else: it writes scene files. The order of parameters is that of the step in `exports`.
+// What a recorder links, and nothing else: it writes scene files, and logs of a minute behind them. The order of parameters is that of the step in `exports`.
 use writer::Written;
 ghost use mathlib.Core.Path.{_≡_};
 ghost use lib.ListN.{length};
 ghost use Rattle.window.specs.Numbers.{windowOf};
 ghost use Rattle.files.specs.Contents.{contentsOf};
 ghost use Rattle.writer.specs.Written.{writtenScene, sceneAnswer, writtenChecked, checkedAnswer};
+ghost use Rattle.log_writer.specs.Written.{writtenLog, logAnswer};
 ghost use Rattle.recorder.specs.Answers.{bytesOrRefusal};
 
 fn bytes_or_refusal(a: Written) -> u64
@@ -43,5 +44,18 @@ pub extern "C" fn boltjuniper_write_checked(
 {
     let w = window::window_of(ox, oy, oz, sx, sy, sz, lowest, highest, 0);
     let a = writer::write_checked(records, shapes, cells, w, numbers, words, age, out);
+    bytes_or_refusal(a)
+}
+
+// The log of a minute behind the scene that `out` begins with, as one of the two above wrote it. `events` are four words each, in their order: 1 and three
+// zeros for a tick; 2, the packed position, the state and a zero for a cell that was set. The end is written behind them. It returns how many bytes
+// scene and log have together; or it writes nothing and returns a refusal: 8 where `out` begins with no scene of the new mark or an event does not fit,
+// then 12 for more than 128 blocks together, then 11 where `out` has no room for all of them.
+#[no_mangle]
+pub extern "C" fn boltjuniper_write_log(events: &[u32], out: &mut [u8]) -> u64
+    ensures { λ r. ⌜ r ≡ bytesOrRefusal (logAnswer (now (out .entry)) (now (events .entry))) ⌝ }
+    ensures { λ _. ⌜ now (out .exit) ≡ writtenLog (now (out .entry)) (now (events .entry)) ⌝ }
+{
+    let a = log_writer::write_log(events, out);
     bytes_or_refusal(a)
 }

@@ -14,7 +14,7 @@ fn liquid(line: &[u8]) -> LiquidKind {
     LiquidKind::None
 }
 
-fn put_fall(fall: Fall) {
+pub(crate) fn put_fall(fall: Fall) {
     crate::text::put(b"fall ");
     crate::text::put_float(fall.sum);
     crate::text::put(b" ");

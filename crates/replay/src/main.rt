@@ -2,6 +2,7 @@
 // (docs/VECTORS.md), so that a bit of difference anywhere fails the gate.
 mod cases;
 mod fallen;
+mod minutes;
 mod moves;
 mod names;
 mod numbers;
@@ -70,4 +71,5 @@ fn main() {
     run_all(text::part(&space, 0, n));
     scenes::run_all();
     fallen::run_scenes();
+    minutes::run_all();
 }

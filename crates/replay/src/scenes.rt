@@ -36,7 +36,7 @@ fn answer_room() -> [u8; 160]
 }
 
 // The lines of an answer, joined.
-fn put_joined(text: &[u8]) {
+pub(crate) fn put_joined(text: &[u8]) {
     let mut at = 0usize;
     for i in 0..text.len() {
         if text[i] == b'\n' {
@@ -49,7 +49,7 @@ fn put_joined(text: &[u8]) {
     }
 }
 
-fn put_lines(file: &[u8]) {
+pub(crate) fn put_lines(file: &[u8]) {
     let mut out = answer_room();
     let m = scene::answer(file, &mut out);
     put_joined(crate::text::part(&out, 0, m));
@@ -67,7 +67,7 @@ fn put_answer(n: u32, file: &[u8]) {
     crate::cases::put_case(file);
 }
 
-fn put_refusal(refusal: u32) {
+pub(crate) fn put_refusal(refusal: u32) {
     let last = [digit(refusal)];
     crate::text::put(b"refused ");
     crate::text::put(&last);

@@ -22,7 +22,7 @@ pub fn held(words: u32, room: usize) -> usize
 }
 
 // Puts the words of a part one after the other, as many as there is room for.
-fn put_words(to: &mut [u32], file: &[u8], p: Part)
+pub fn put_words(to: &mut [u32], file: &[u8], p: Part)
     ensures { λ _. ⌜ take (min (p .words) (length (now (to .entry)))) (now (to .exit)) ≡ listed (partWord (now (file .entry)) p) (min (p .words) (length (now (to .entry)))) 0 ⌝ }
 {
     let n = held(p.words, to.len());
@@ -40,7 +40,7 @@ fn single_at(file: &[u8], p: Part, i: u32) -> f32
 }
 
 // The same words as f32.
-fn put_singles(to: &mut [f32], file: &[u8], p: Part)
+pub fn put_singles(to: &mut [f32], file: &[u8], p: Part)
     ensures { λ _. ⌜ take (min (p .words) (length (now (to .entry)))) (now (to .exit)) ≡ listed (λ i. ofBits binary32 (partWord (now (file .entry)) p i)) (min (p .words) (length (now (to .entry)))) 0 ⌝ }
 {
     let n = held(p.words, to.len());

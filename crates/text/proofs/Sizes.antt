@@ -19,7 +19,7 @@ use Rattle.base.proofs.Stored.{stored-length}
 
 -- ---- each line
 
-feet-length : (v : Vec3) → length (feetLine v) ≡ 56
+pub feet-length : (v : Vec3) → length (feetLine v) ≡ 56
 unfolding feetLine vecText joinedText hexOf listed
 feet-length v = refl
 
@@ -37,7 +37,7 @@ liquid-most None = omega arith
 liquid-most Water = omega arith
 liquid-most Lava = omega arith
 
-refused-length : (n : ℕ) → length (refusedText n) ≡ 10
+pub refused-length : (n : ℕ) → length (refusedText n) ≡ 10
 unfolding refusedText joinedText
 refused-length n = refl
 

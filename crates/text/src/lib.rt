@@ -79,7 +79,7 @@ fn put_vec(out: &mut [u8], at: usize, v: Vec3) -> usize
     put_text(out, z, b"\n")
 }
 
-fn put_feet(out: &mut [u8], at: usize, v: Vec3) -> usize
+pub fn put_feet(out: &mut [u8], at: usize, v: Vec3) -> usize
     ensures { λ r. ⌜ Put (now (out .entry)) at (feetLine v) (now (out .exit)) r ⌝ }
 {
     let name = put_text(out, at, b"feet ");
@@ -135,7 +135,7 @@ fn put_lines(out: &mut [u8], at: usize, motion: MotionNumbers, kind: LiquidKind)
     put_liquid(out, ground, kind)
 }
 
-fn put_refusal(out: &mut [u8], at: usize, refusal: u32) -> usize
+pub fn put_refusal(out: &mut [u8], at: usize, refusal: u32) -> usize
     ensures { λ r. ⌜ Put (now (out .entry)) at (refusedText refusal) (now (out .exit)) r ⌝ }
 {
     let name = put_text(out, at, b"refused ");

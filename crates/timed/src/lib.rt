@@ -1,7 +1,8 @@
-// What bench/ asks for, and no host: of collection, the move through a window as a step makes it, of which one number is handed back; and of
-// connections, the state of one block.
+// What bench/ asks for, and no host: of collection, the move through a window as a step makes it, of which one number is handed back; of
+// connections, the state of one block; and of a summary, one cell that is set, with nothing looked at but its group.
 use boxes::Aabb;
 use boxes::Vec3;
+use groups::Place;
 use through::AskedMove;
 ghost use mathlib.Core.Path.{_≡_};
 ghost use mathlib.Core.Bool.{not};
@@ -14,6 +15,8 @@ ghost use Rattle.window.specs.Numbers.{windowOf};
 ghost use Rattle.ranges.specs.Cells.{cellHolding};
 ghost use Rattle.connect.specs.Answers.{connectedEntry};
 ghost use Rattle.through.specs.Through.{moveAabbPast};
+ghost use Rattle.groups.specs.Groups.{cellAt};
+ghost use Rattle.groups.specs.Summary.{setRefusal, afterSet};
 ghost use Rattle.timed.specs.Ways.{boxBetween, alongOf, wayOf};
 
 fn along(v: Vec3, k: u32) -> f64
@@ -100,4 +103,31 @@ pub extern "C" fn boltjuniper_connected(
     let p = ranges::cell_holding(Vec3 { x, y, z });
     let a = connect::connected_state_at(records, shapes, cells, w, p, state);
     a.state
+}
+
+// The cell at x, y, z, counted from the origin, becomes this state, and the word of its group is mended: 0; or 11 for words without a summary, then 5 for
+// a cell outside the window, and nothing is written.
+#[no_mangle]
+pub extern "C" fn boltjuniper_set_at(
+    records: &[u32],
+    cells: &mut [u32],
+    ox: i32,
+    oy: i32,
+    oz: i32,
+    sx: u32,
+    sy: u32,
+    sz: u32,
+    lowest: i32,
+    highest: i32,
+    air: u32,
+    x: u32,
+    y: u32,
+    z: u32,
+    state: u32,
+) -> u32
+    ensures { λ r. ⌜ r ≡ setRefusal (now (cells .entry)) (windowOf ox oy oz sx sy sz lowest highest air) (cellAt (windowOf ox oy oz sx sy sz lowest highest air) x y z) ⌝ }
+    ensures { λ _. ⌜ now (cells .exit) ≡ afterSet (now (records .entry)) (now (cells .entry)) (windowOf ox oy oz sx sy sz lowest highest air) (cellAt (windowOf ox oy oz sx sy sz lowest highest air) x y z) state ⌝ }
+{
+    let w = window::window_of(ox, oy, oz, sx, sy, sz, lowest, highest, air);
+    groups::set_at(records, cells, w, Place { x, y, z }, state)
 }

@@ -1,0 +1,3 @@
+-- The proofs of a log, written and then read.
+pub mod Scenes
+pub mod Rounds

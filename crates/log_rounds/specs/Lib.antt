@@ -1,0 +1,2 @@
+-- The statements of a log, written and then read.
+pub mod Rounds

@@ -1,0 +1,1 @@
+// What is written of a minute is read: theorems over the definitions. No code.

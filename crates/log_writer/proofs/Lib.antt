@@ -1,0 +1,2 @@
+-- The proofs of a log as it is written.
+pub mod Puts

@@ -1,0 +1,2 @@
+-- The definitions of a log as it is written.
+pub mod Written

@@ -1,0 +1,8 @@
+-- Laws of this crate's definitions, on plain values.
+pub mod Alone
+pub mod Scenes
+pub mod Files
+pub mod Few
+pub mod Back
+pub mod Room
+pub mod Refusals

@@ -1,0 +1,14 @@
+-- `logged::run::first_of` meets its contract. Assumes nothing.
+use Rattle.logged.proofs.Files.{cut-few, cut-all}
+use borrow.Author.Needs.{needs}
+use Rattle.logged.proofs.run.first_of.Statement.{statement}
+use Rattle.logged.proofs.run.first_of.Tie as tie
+
+returns : tie.Need-returns
+returns c = cut-few (c .before .before .args .log) (c .before .before .args .events) (c .if1 .taken)
+
+returns-2 : tie.Need-returns-2
+returns-2 c = cut-all (c .before .before .args .log) (c .before .before .args .events) (c .if1 .left)
+
+pub first-of-spec : {M : Type 1} → statement M
+first-of-spec = tie.close (tie.spec returns returns-2)

@@ -1,0 +1,3 @@
+-- Laws of this crate's definitions, on plain values.
+pub mod Ends
+pub mod Files

@@ -1,0 +1,196 @@
+// A minute: a body run through the events of a log, over lent words of cells, columns and summary. The feet after each tick are written into lent
+// numbers, three for each. It comes to what separate steps come to (proofs/Separate.antt).
+use bodies::BodyNumbers;
+use bodies::MotionNumbers;
+use bodies::Rules;
+use boxes::Vec3;
+use fall_rule::Fall;
+use groups::Place;
+use logs::CellSet;
+use logs::Event;
+use logs::Log;
+use window::Window;
+ghost use mathlib.Core.Path.{_≡_};
+ghost use mathlib.Core.List.{[]};
+ghost use Prim.Native.Nat.{_<_, _*_};
+ghost use Rattle.base.specs.Loop.{listed, stored};
+ghost use Rattle.window.specs.Numbers.{withAir};
+ghost use Rattle.groups.specs.Groups.{cellAt};
+ghost use Rattle.groups.specs.Summary.{setRefusal, afterSet};
+ghost use Rattle.logs.specs.Logs.{logWord, eventAt, eventsBy};
+ghost use Rattle.minute.specs.Minute.{lentBy, older, after, start, startRefusal, minute, numbersOf};
+ghost use Rattle.minute.specs.Turns.{minuteOf, stateOf, endedWith, stepBy, tickedBy, feetNumbers, feetBy, turnedBy, wordsBy, feetAfter};
+
+// What a host is handed of the state after a log: how many ticks were done, and the refusal that ended it, or 0. Its cells and its summary stand in
+// the lent words.
+pub struct Minute {
+    pub motion: MotionNumbers,
+    pub age: u64,
+    pub fall: Fall,
+    pub ticks: u32,
+    pub refusal: u32,
+}
+
+fn minute_of(motion: MotionNumbers, age: u64, fall: Fall, ticks: u32, refusal: u32) -> Minute
+    ensures { λ r. ⌜ r ≡ record { motion = motion; age = age; fall = fall; ticks = ticks; refusal = refusal } ⌝ }
+{
+    Minute {
+        motion,
+        age,
+        fall,
+        ticks,
+        refusal,
+    }
+}
+
+fn ended_with(m: Minute, refusal: u32) -> Minute
+    ensures { λ r. ⌜ r ≡ endedWith m refusal ⌝ }
+{
+    let motion = m.motion;
+    let fall = m.fall;
+    minute_of(motion, m.age, fall, m.ticks, refusal)
+}
+
+fn older_than(age: u64) -> u64
+    ensures { λ r. ⌜ r ≡ older age ⌝ }
+{
+    std::num::wrapping_add_u64(age, 1)
+}
+
+// The feet of tick number n.
+fn put_feet(feet: &mut [f64], n: u32, v: Vec3)
+    ensures { λ _. ⌜ now (feet .exit) ≡ stored (now (feet .entry)) (n * 3) (feetNumbers v) ⌝ }
+{
+    let at = n as usize * 3;
+    lent_numbers::put(feet, at, v.x);
+    lent_numbers::put(feet, at + 1, v.y);
+    lent_numbers::put(feet, at + 1 + 1, v.z);
+}
+
+// One tick, over the words as they now are.
+fn tick(
+    records: &[u32], shapes: &[f32], words: &[u32], w: Window, rules: Rules, body: BodyNumbers, m: Minute, feet: &mut [f64],
+) -> Minute
+    requires { ⌜ m .ticks < 65536 ⌝ }
+    ensures { λ r. ⌜ r ≡ tickedBy m (stepBy (lentBy (now (records .entry)) (now (shapes .entry)) w rules body) (now (words .entry)) m) ⌝ }
+    ensures { λ _. ⌜ now (feet .exit) ≡ feetBy (now (feet .entry)) m (stepBy (lentBy (now (records .entry)) (now (shapes .entry)) w rules body) (now (words .entry)) m) ⌝ }
+{
+    let given = m.motion;
+    let fall = m.fall;
+    let a = falls::step_falling_checked(records, shapes, words, window::with_air(w, rules.air), rules, body, given, m.age, fall);
+    let refusal = a.step.refusal;
+    if refusal != 0 {
+        return ended_with(m, refusal);
+    }
+    put_feet(feet, m.ticks, a.step.motion.feet);
+    let motion = a.step.motion;
+    let after = a.fall;
+    minute_of(motion, older_than(m.age), after, m.ticks + 1, 0)
+}
+
+fn place_of(q: CellSet) -> Place
+    ensures { λ r. ⌜ r ≡ record { x = q .x; y = q .y; z = q .z } ⌝ }
+{
+    Place { x: q.x, y: q.y, z: q.z }
+}
+
+// One cell set, and the word of its group mended.
+fn set_cell(records: &[u32], words: &mut [u32], w: Window, rules: Rules, q: CellSet) -> u32
+    ensures { λ r. ⌜ r ≡ setRefusal (now (words .entry)) (withAir w (rules .air)) (cellAt (withAir w (rules .air)) (q .x) (q .y) (q .z)) ⌝ }
+    ensures { λ _. ⌜ now (words .exit) ≡ afterSet (now (records .entry)) (now (words .entry)) (withAir w (rules .air)) (cellAt (withAir w (rules .air)) (q .x) (q .y) (q .z)) (q .state) ⌝ }
+{
+    groups::set_at(records, words, window::with_air(w, rules.air), place_of(q), q.state)
+}
+
+// One event.
+fn turn(
+    records: &[u32], shapes: &[f32], words: &mut [u32], w: Window, rules: Rules, body: BodyNumbers, m: Minute, e: Event, feet: &mut [f64],
+) -> Minute
+    requires { ⌜ m .ticks < 65536 ⌝ }
+    ensures { λ r. ⌜ r ≡ turnedBy (lentBy (now (records .entry)) (now (shapes .entry)) w rules body) (now (words .entry)) m e ⌝ }
+    ensures { λ _. ⌜ now (words .exit) ≡ wordsBy (lentBy (now (records .entry)) (now (shapes .entry)) w rules body) (now (words .entry)) e ⌝ }
+    ensures { λ _. ⌜ now (feet .exit) ≡ feetAfter (lentBy (now (records .entry)) (now (shapes .entry)) w rules body) (now (words .entry)) m (now (feet .entry)) e ⌝ }
+{
+    match e {
+        Event::Tick => tick(records, shapes, words, w, rules, body, m, feet),
+        Event::Set(q) => {
+            let refusal = set_cell(records, words, w, rules, q);
+            ended_with(m, refusal)
+        }
+    }
+}
+
+// The first n events of a log, one after the other; the first refusal ends it.
+fn play(
+    records: &[u32], shapes: &[f32], words: &mut [u32], w: Window, rules: Rules, body: BodyNumbers, begun: Minute, file: &[u8], log: Log,
+    n: u16, feet: &mut [f64],
+) -> Minute
+    requires { ⌜ begun .ticks ≡ 0 ⌝ }
+    requires { ⌜ begun .refusal ≡ 0 ⌝ }
+    ensures { λ r. ⌜ r ≡ minuteOf (after (lentBy (now (records .entry)) (now (shapes .entry)) w rules body) (stateOf begun (now (words .entry)) []) (listed (eventAt (logWord (now (file .entry)) (log .scene) (log .blocks))) n 0)) ⌝ }
+    ensures { λ _. ⌜ now (words .exit) ≡ after (lentBy (now (records .entry)) (now (shapes .entry)) w rules body) (stateOf begun (now (words .entry)) []) (listed (eventAt (logWord (now (file .entry)) (log .scene) (log .blocks))) n 0) .words ⌝ }
+    ensures { λ _. ⌜ now (feet .exit) ≡ stored (now (feet .entry)) 0 (numbersOf (after (lentBy (now (records .entry)) (now (shapes .entry)) w rules body) (stateOf begun (now (words .entry)) []) (listed (eventAt (logWord (now (file .entry)) (log .scene) (log .blocks))) n 0) .lines)) ⌝ }
+{
+    let mut m = begun;
+    let mut i = 0u16;
+    while i < n {
+        let e = logs::event_at(file, log, i);
+        m = turn(records, shapes, words, w, rules, body, m, e, feet);
+        if m.refusal != 0 {
+            return m;
+        }
+        i += 1;
+    }
+    m
+}
+
+// Before the first event, with a fresh fall record.
+fn begin(given: MotionNumbers, age: u64, refusal: u32) -> Minute
+    ensures { λ r. ⌜ r ≡ minuteOf (start given age [] refusal) ⌝ }
+{
+    let fall = Fall {
+        sum: 0.0,
+        landed: 0.0,
+    };
+    minute_of(given, age, fall, 0, refusal)
+}
+
+// 1 to 4, before anything runs; then 11 for words with no room for a summary.
+fn start_refusal(
+    records: &[u32], shapes: &[f32], words: &[u32], w: Window, rules: Rules, body: BodyNumbers, given: MotionNumbers,
+) -> u32
+    ensures { λ r. ⌜ r ≡ startRefusal (lentBy (now (records .entry)) (now (shapes .entry)) w rules body) (now (words .entry)) given ⌝ }
+{
+    let v = window::with_air(w, rules.air);
+    let cells = summary::plain_words(words, v);
+    let lent = lent::check_lent(records, shapes, cells, v);
+    if lent != 0 {
+        return lent;
+    }
+    let numbers = bodies::number_refusal(records, rules, body, given);
+    if numbers != 0 {
+        return numbers;
+    }
+    if groups::has_summary(words, v) {
+        return 0;
+    }
+    11
+}
+
+// The minute of a body through a log's events. The words are those of cells and columns, with room behind them for the summary, which is built
+// first. A refusal before anything runs leaves words and feet as they are; a number of the feet whose place is not there is dropped.
+pub fn run(
+    records: &[u32], shapes: &[f32], words: &mut [u32], w: Window, rules: Rules, body: BodyNumbers, given: MotionNumbers, age: u64, file: &[u8],
+    log: Log, feet: &mut [f64],
+) -> Minute
+    ensures { λ r. ⌜ r ≡ minuteOf (minute (lentBy (now (records .entry)) (now (shapes .entry)) w rules body) (now (words .entry)) given age (eventsBy (now (file .entry)) log)) ⌝ }
+    ensures { λ _. ⌜ now (words .exit) ≡ minute (lentBy (now (records .entry)) (now (shapes .entry)) w rules body) (now (words .entry)) given age (eventsBy (now (file .entry)) log) .words ⌝ }
+    ensures { λ _. ⌜ now (feet .exit) ≡ stored (now (feet .entry)) 0 (numbersOf (minute (lentBy (now (records .entry)) (now (shapes .entry)) w rules body) (now (words .entry)) given age (eventsBy (now (file .entry)) log) .lines)) ⌝ }
+{
+    let refusal = start_refusal(records, shapes, words, w, rules, body, given);
+    if refusal != 0 {
+        return begin(given, age, refusal);
+    }
+    groups::build(records, words, window::with_air(w, rules.air));
+    play(records, shapes, words, w, rules, body, begin(given, age, 0), file, log, log.events, feet)
+}

@@ -1,0 +1,2 @@
+-- The proofs of a minute in lent memory.
+pub mod Calls

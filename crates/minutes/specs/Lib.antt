@@ -1,0 +1,2 @@
+-- The definitions of a minute in lent memory.
+pub mod Calls
