@@ -23,6 +23,13 @@ pub record Scaled (x m q k : ℕ) : Type 0 where
   pub high : m < 2 ^ 106
   pub small : k < 2000
 
+-- x units are n * 2 ^ 52 squared units times 4 ^ k, and n has its highest bit at 52 or 53
+pub record Halves (x n k : ℕ) : Type 0 where
+  pub same : x * 2 ^ 1074 ≡ n * 2 ^ 52 * (2 ^ k * 2 ^ k)
+  pub low : 2 ^ 52 ≤ n
+  pub high : n < 2 ^ 54
+  pub small : k < 2000
+
 -- r is the bits of the nearest root of x units
 pub record RootBits (x r : ℕ) : Type 0 where
   pub m : ℕ

@@ -2,7 +2,7 @@
 // What a call costs is bounded by this shape, however near the proposals are: it goes once at most through the one loop, the 32 turns of
 // `root_by_bits`, and divides once at most, in `quotient`. There is no other loop and no other division.
 ghost use Prim.Native.Nat.{_+_, _*_, _^_, _≤_, _<_};
-ghost use Rattle.roots.specs.Steps.{Nearest, RootBits, unitsOf};
+ghost use Rattle.roots.specs.Steps.{Nearest, Halves, RootBits, unitsOf};
 
 // What f64 arithmetic proposes, and whole numbers decide: no proof rests on how near these are.
 struct Near {
@@ -123,28 +123,45 @@ fn rounded_root(n: u64, b: u64) -> u64
     t
 }
 
-// The bits of the root of m * 2^k units. With m's highest bit moved to bit 52, or 53 where the
-// exponent w - 2148 is odd, that is n * 2^52 * 4^a / 2^1074 units, with a = w / 2 - 26.
-fn root_at(m: u64, k: u64) -> u64
-    requires { ⌜ (0 < m) × (m < 2 ^ 53) × (k < 2046) ⌝ }
-    ensures { λ r. ⌜ RootBits (m * 2 ^ k) r ⌝ }
-{
-    let z = u64::leading_zeros(m) as u64 - 11;
-    let w = k + 1074 - z;
-    let n = m << (z + w % 2);
-    let b = (w % 2 + 1074) * 0x10_0000_0000_0000 + (m << z) % 0x20_0000_0000_0000;
-    (w / 2 - 26) * 0x10_0000_0000_0000 + rounded_root(n, b)
+// A number of units as n * 2^52 * 4^half / 2^1074, with n's highest bit at 52 or 53. `near` is the bits of n as an f64, or others: they only propose.
+struct Halved {
+    n: u64,
+    near: u64,
+    half: u64,
 }
 
-// The bits of the root of the number whose bits are b, which is finite and above zero.
-pub(crate) fn root_bits(b: u64) -> u64
+// From m * 2^k units, with m's highest bit z places below bit 52: it is moved there, and one further where the exponent w - 2148 is odd.
+fn halved_at(m: u64, k: u64, z: u64) -> Halved
+    requires { ⌜ (z ≤ 52) × (2 ^ 52 ≤ m * 2 ^ z) × (m * 2 ^ z < 2 ^ 53) × (k < 2046) ⌝ }
+    ensures { λ h. ⌜ Halves (m * 2 ^ k) (h .n) (h .half) × (h .near < 1100 * 2 ^ 52) ⌝ }
+{
+    let w = k + 1074 - z;
+    let n = m << (z + w % 2);
+    let near = (w % 2 + 1074) * 0x10_0000_0000_0000 + (m << z) % 0x20_0000_0000_0000;
+    let half = w / 2 - 26;
+    Halved { n, near, half }
+}
+
+// From the bits of a number that is finite and above zero. Where these are no number below the normal ones, nothing is to be counted.
+fn halved_of(b: u64) -> Halved
     requires { ⌜ (0 < b) × (b < 2047 * 2 ^ 52) ⌝ }
-    ensures { λ r. ⌜ RootBits (unitsOf b) r ⌝ }
+    ensures { λ h. ⌜ Halves (unitsOf b) (h .n) (h .half) × (h .near < 1100 * 2 ^ 52) ⌝ }
 {
     let e = b / 0x10_0000_0000_0000;
     let t = b % 0x10_0000_0000_0000;
     if e == 0 {
-        return root_at(t, 0);
+        let z = u64::leading_zeros(t) as u64 - 11;
+        return halved_at(t, 0, z);
     }
-    root_at(0x10_0000_0000_0000 + t, e - 1)
+    halved_at(0x10_0000_0000_0000 + t, e - 1, 0)
+}
+
+// The bits of the root of the number whose bits are b, which is finite and above zero. The whole root is worked out in this one place, so that the
+// compiler puts it where it is called.
+pub(crate) fn root_bits(b: u64) -> u64
+    requires { ⌜ (0 < b) × (b < 2047 * 2 ^ 52) ⌝ }
+    ensures { λ r. ⌜ RootBits (unitsOf b) r ⌝ }
+{
+    let h = halved_of(b);
+    h.half * 0x10_0000_0000_0000 + rounded_root(h.n, h.near)
 }

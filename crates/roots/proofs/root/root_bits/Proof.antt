@@ -1,42 +1,29 @@
--- `roots::root::root_bits` meets its contract. Assumes nothing.
-use Prim.Native.Nat.{ℕ, suc, _+_, _-_, _*_, _/_, _%_, _^_}
-use mathlib.Core.Path.{_≡_, sym, ap, subst, _∙_}
-use native.Mathlib.Nat.{mul-one}
+-- `roots::root::root_bits` meets its contract, by the facts of `Shift.antt`. Assumes nothing.
+use Prim.Native.Nat.{_+_, _*_, _/_, _%_, _^_}
 use native.Mathlib.Omega.{arith}
 use borrow.Author.Needs.{needs}
-use Rattle.roots.specs.Steps.{RootBits, unitsAt}
+use Rattle.roots.specs.Steps.{RootBits, unitsOf}
+use Rattle.roots.proofs.Shift.{root-bits, bits-le}
 use Rattle.roots.proofs.root.root_bits.Statement.{statement}
 use Rattle.roots.proofs.root.root_bits.Tie as tie
 
-units-zero : (e t : ℕ) → e ≡ 0 → t * 2 ^ 0 ≡ unitsAt e t
-unfolding unitsAt
-units-zero e t h = mul-one t ∙ ap (λ (x : ℕ). unitsAt x t) (sym h)
+after : (c : tie.After-rounded-root) → RootBits (unitsOf (c .before .before .before .args .b)) (c .before .before .halved-of .result .half * 2 ^ 52 + c .rounded-root .result)
+after c = root-bits _ _ _ _ (c .before .before .halved-of .ensures .0) (c .rounded-root .ensures)
 
-units-suc : (e t : ℕ) → (e ≡ 0 → ⊥) → (2 ^ 52 + t) * 2 ^ (e - 1) ≡ unitsAt e t
-unfolding unitsAt
-units-suc e t h = let p : suc (e - 1) ≡ e = omega arith in ap (λ (x : ℕ). unitsAt x t) p
+halved-of-requires : tie.Need-halved-of-requires
+halved-of-requires c κs = search needs
 
-root-at-requires : tie.Need-root-at-requires
-root-at-requires c κs = search needs
+mul-result : tie.Need-mul-result
+mul-result c = search needs
+
+rounded-root-requires : tie.Need-rounded-root-requires
+rounded-root-requires c κs = let h = c .before .halved-of .ensures in (h .0 .low, h .0 .high, h .1)
+
+add-result : tie.Need-add-result
+add-result c = omega (arith, bits-le _ _ (after c))
 
 returns : tie.Need-returns
-returns c =
-    let b = c .before .before .args .b in
-    subst (λ (x : ℕ). RootBits x (c .root-at .result)) (units-zero (b / 2 ^ 52) (b % 2 ^ 52) (c .before .if1 .taken)) (c .root-at .ensures)
-
-add-root-at : tie.Need-add-root-at
-add-root-at c = search needs
-
-sub-root-at : tie.Need-sub-root-at
-sub-root-at c = search needs
-
-root-at-requires-2 : tie.Need-root-at-requires-2
-root-at-requires-2 c κs = search needs
-
-returns-2 : tie.Need-returns-2
-returns-2 c =
-    let b = c .before .before .args .b in
-    subst (λ (x : ℕ). RootBits x (c .root-at2 .result)) (units-suc (b / 2 ^ 52) (b % 2 ^ 52) (c .before .if1 .left)) (c .root-at2 .ensures)
+returns c = after c
 
 pub root-bits-spec : {M : Type 1} → statement M
-root-bits-spec = tie.close (tie.spec root-at-requires returns add-root-at sub-root-at root-at-requires-2 returns-2)
+root-bits-spec = tie.close (tie.spec halved-of-requires mul-result rounded-root-requires add-result returns)
