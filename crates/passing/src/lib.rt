@@ -6,10 +6,11 @@ use ranges::Range;
 use window::Sizes;
 use window::Window;
 ghost use mathlib.Core.Path.{_≡_};
+ghost use mathlib.Core.Bool.{_&&_};
 ghost use Prim.Native.Nat.{_+_, _*_, _-_, _/_, _≤_};
 ghost use lib.Dec.{eqb};
 ghost use lib.ListN.{getD};
-ghost use Rattle.passing.specs.Passing.{spans, nowhere, reachOf, reachIn, marked, allMarked, passesBy, linesBy};
+ghost use Rattle.passing.specs.Passing.{spans, reachOf, reachIn, marked, allMarked, linesBy, Knows};
 
 // The groups of a range's columns: the first on x and z, and how many from there on; where the words of groups stand, and how many groups a row and
 // a layer of them has. `on` is no where a column of the range lies outside the window.
@@ -24,11 +25,11 @@ pub struct Reach {
     pub deep: u8,
 }
 
-// It reaches no group: by it no layer is passed over.
-pub fn nowhere() -> Reach
-    ensures { λ k. ⌜ k ≡ nowhere ⌝ }
-{
-    Reach { on: false, before: 0, row: 0, layer: 0, x: 0, z: 0, across: 0, deep: 0 }
+// The layer of groups that was asked for last, and how many lines a collection comes to of a layer of the range that lies in it.
+pub struct Known {
+    pub asked: bool,
+    pub group: u32,
+    pub lines: u32,
 }
 
 fn wide(x: u32) -> usize
@@ -158,26 +159,31 @@ fn is_all_marked(words: &[u32], k: Reach, y: u32) -> bool
     true
 }
 
-// Whether a collection passes over layer y of the range.
-pub fn passes_by(words: &[u32], w: Window, r: Range, k: Reach, y: u32) -> bool
-    ensures { λ t. ⌜ t ≡ passesBy (now (words .entry)) w r k y ⌝ }
+// Whether it is of this layer of groups that the lines are known.
+fn is_of(last: Known, group: u32) -> bool
+    ensures { λ r. ⌜ r ≡ last .asked && eqb (last .group) group ⌝ }
+{
+    last.asked & (last.group == group)
+}
+
+// How many lines of layer y a collection comes to: none where it passes over it. Four layers have the same groups, which are asked for once.
+pub fn lines_at(words: &[u32], w: Window, r: Range, k: Reach, y: u32, last: Known) -> Known
+    requires { ⌜ Knows (now words) w r k last ⌝ }
+    ensures { λ n. ⌜ n .lines ≡ linesBy (now (words .entry)) w r k y ⌝ }
+    ensures { λ n. ⌜ Knows (now (words .entry)) w r k n ⌝ }
 {
     if k.on {
         let t = groups::place_in(w, ranges::place(r, At { x: 0, y, z: 0 }));
         if t.y < w.sizes.y {
-            return is_all_marked(words, k, t.y);
+            if is_of(last, t.y / 4) {
+                return last;
+            }
+            if is_all_marked(words, k, t.y) {
+                return Known { asked: true, group: t.y / 4, lines: 0 };
+            }
+            return Known { asked: true, group: t.y / 4, lines: r.x.count };
         }
-        return false;
+        return Known { asked: false, group: 0, lines: r.x.count };
     }
-    false
-}
-
-// How many lines of layer y a collection comes to: none where it passes over it.
-pub fn lines_at(words: &[u32], w: Window, r: Range, k: Reach, y: u32) -> u32
-    ensures { λ n. ⌜ n ≡ linesBy (now (words .entry)) w r k y ⌝ }
-{
-    if passes_by(words, w, r, k, y) {
-        return 0;
-    }
-    r.x.count
+    Known { asked: false, group: 0, lines: r.x.count }
 }
