@@ -1,7 +1,7 @@
 // Module 6: collection of block boxes from a window.
 use boxes::Aabb;
 use boxes::Vec3;
-use passing::Known;
+use passing::Stretch;
 use ranges::At;
 use ranges::Range;
 use solids::AskedShape;
@@ -108,7 +108,7 @@ pub fn collect_into(room: &mut [f64], cap: usize, records: &[u32], shapes: &[f32
     ensures { λ c. ⌜ c .count ≤ cap ⌝ }
 {
     let over = passing::reach_in(cells, w, r);
-    let mut layer = Known { asked: false, group: 0, lines: 0 };
+    let mut layer = Stretch { until: 0, lines: 0 };
     let mut count = 0usize;
     for y in 0..r.y.count {
         layer = passing::lines_at(cells, w, r, over, y, layer);

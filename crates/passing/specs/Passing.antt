@@ -3,7 +3,7 @@
 use mathlib.Core.Path.{_≡_}
 use mathlib.Core.Bool.{Bool, true, false, _&&_}
 use mathlib.Core.List.{List}
-use Prim.Native.Nat.{ℕ, _+_, _*_, _-_, _/_, _<_}
+use Prim.Native.Nat.{ℕ, _+_, _*_, _-_, _/_, _≤_, _<_}
 use lib.Dec.{ltb, eqb}
 use lib.ListN.{length, getD}
 use Rattle.base.specs.Choose.{choose}
@@ -16,7 +16,7 @@ use Rattle.groups.specs.declared.Place.{Place}
 use Rattle.groups.specs.declared.Layout.{Layout}
 use Rattle.groups.specs.Places.{layoutOf, placeIn}
 use Rattle.passing.specs.declared.Reach.{Reach}
-use Rattle.passing.specs.declared.Known.{Known}
+use Rattle.passing.specs.declared.Stretch.{Stretch}
 
 -- how far the first and the last column of a range lie from the origin
 abbrev pub firstOf : Window → Range → Place
@@ -74,10 +74,6 @@ passes words w r y = passesBy words w r (reachIn words w r) y
 abbrev pub linesBy : List ℕ → Window → Range → Reach → ℕ → ℕ
 linesBy words w r k y = choose (passesBy words w r k y) 0 (r .x .count)
 
--- how high layer y of a range lies above the window's origin
-abbrev pub heightOf : Window → Range → ℕ → ℕ
-heightOf w r y = placeIn w (placeAt r 0 y 0) .y
-
--- what is known of a layer of groups is so of every layer of the range that lies in it
-pub record Knows (words : List ℕ) (w : Window) (r : Range) (k : Reach) (n : Known) : Type 0 where
-  pub tells : n .asked ≡ true → (y : ℕ) → heightOf w r y < w .sizes .y → heightOf w r y / 4 ≡ n .group → n .lines ≡ linesBy words w r k y
+-- a stretch tells the lines of each layer from y on up to its end
+pub record Tells (words : List ℕ) (w : Window) (r : Range) (k : Reach) (s : Stretch) (y : ℕ) : Type 0 where
+  pub tells : (z : ℕ) → y ≤ z → z < s .until → s .lines ≡ linesBy words w r k z

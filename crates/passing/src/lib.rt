@@ -7,10 +7,10 @@ use window::Sizes;
 use window::Window;
 ghost use mathlib.Core.Path.{_≡_};
 ghost use mathlib.Core.Bool.{_&&_};
-ghost use Prim.Native.Nat.{_+_, _*_, _-_, _/_, _≤_};
+ghost use Prim.Native.Nat.{_+_, _*_, _-_, _/_, _%_, _≤_, _<_};
 ghost use lib.Dec.{eqb};
 ghost use lib.ListN.{getD};
-ghost use Rattle.passing.specs.Passing.{spans, reachOf, reachIn, marked, allMarked, linesBy, Knows};
+ghost use Rattle.passing.specs.Passing.{spans, reachOf, reachIn, marked, allMarked, linesBy, Tells};
 
 // The groups of a range's columns: the first on x and z, and how many from there on; where the words of groups stand, and how many groups a row and
 // a layer of them has. `on` is no where a column of the range lies outside the window.
@@ -25,10 +25,9 @@ pub struct Reach {
     pub deep: u8,
 }
 
-// The layer of groups that was asked for last, and how many lines a collection comes to of a layer of the range that lies in it.
-pub struct Known {
-    pub asked: bool,
-    pub group: u32,
+// Layers of a range up to one, and how many lines of each a collection comes to.
+pub struct Stretch {
+    pub until: u64,
     pub lines: u32,
 }
 
@@ -159,31 +158,36 @@ fn is_all_marked(words: &[u32], k: Reach, y: u32) -> bool
     true
 }
 
-// Whether it is of this layer of groups that the lines are known.
-fn is_of(last: Known, group: u32) -> bool
-    ensures { λ r. ⌜ r ≡ last .asked && eqb (last .group) group ⌝ }
+// For how many layers from this height on the groups are the same: to the end of these, or of the window.
+fn alike(height: u32, y: u32) -> u32
+    requires { ⌜ y < height ⌝ }
+    ensures { λ n. ⌜ (n ≤ height - y) × (n ≤ 4 - y % 4) ⌝ }
 {
-    last.asked & (last.group == group)
+    let left = 4 - y % 4;
+    let room = height - y;
+    if room < left { room } else { left }
 }
 
-// How many lines of layer y a collection comes to: none where it passes over it. Four layers have the same groups, which are asked for once.
-pub fn lines_at(words: &[u32], w: Window, r: Range, k: Reach, y: u32, last: Known) -> Known
-    requires { ⌜ Knows (now words) w r k last ⌝ }
-    ensures { λ n. ⌜ n .lines ≡ linesBy (now (words .entry)) w r k y ⌝ }
-    ensures { λ n. ⌜ Knows (now (words .entry)) w r k n ⌝ }
+// How many lines of layer y a collection comes to: none where it passes over it. Four layers have the same groups, which are asked for once: what is
+// known of the layers up to one is taken in, and handed on.
+pub fn lines_at(words: &[u32], w: Window, r: Range, k: Reach, y: u32, last: Stretch) -> Stretch
+    requires { ⌜ Tells (now words) w r k last y ⌝ }
+    ensures { λ s. ⌜ s .lines ≡ linesBy (now (words .entry)) w r k y ⌝ }
+    ensures { λ s. ⌜ Tells (now (words .entry)) w r k s y ⌝ }
 {
+    if (y as u64) < last.until {
+        return last;
+    }
     if k.on {
         let t = groups::place_in(w, ranges::place(r, At { x: 0, y, z: 0 }));
         if t.y < w.sizes.y {
-            if is_of(last, t.y / 4) {
-                return last;
-            }
+            let until = (y as u64) + (alike(w.sizes.y, t.y) as u64);
             if is_all_marked(words, k, t.y) {
-                return Known { asked: true, group: t.y / 4, lines: 0 };
+                return Stretch { until, lines: 0 };
             }
-            return Known { asked: true, group: t.y / 4, lines: r.x.count };
+            return Stretch { until, lines: r.x.count };
         }
-        return Known { asked: false, group: 0, lines: r.x.count };
+        return Stretch { until: 0, lines: r.x.count };
     }
-    Known { asked: false, group: 0, lines: r.x.count }
+    Stretch { until: 0x1_0000_0000, lines: r.x.count }
 }

@@ -1,7 +1,7 @@
 // Module 6: the move of a box through the blocks of a window.
 use boxes::Aabb;
 use boxes::Vec3;
-use passing::Known;
+use passing::Stretch;
 use ranges::At;
 use ranges::Range;
 use solids::AskedShape;
@@ -85,7 +85,7 @@ fn swept_through(cap: u32, records: &[u32], shapes: &[f32], cells: &[u32], w: Wi
 {
     let most = within(42, cap);
     let over = passing::reach_in(cells, w, r);
-    let mut layer = Known { asked: false, group: 0, lines: 0 };
+    let mut layer = Stretch { until: 0, lines: 0 };
     let mut list = Few::new();
     for y in 0..r.y.count {
         layer = passing::lines_at(cells, w, r, over, y, layer);

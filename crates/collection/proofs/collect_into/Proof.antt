@@ -7,8 +7,8 @@ use Prim.Native.Nat.{ℕ, _+_, _*_, _-_, _≤_, _<_}
 use native.Mathlib.Omega.{arith}
 use lib.ListN.{length}
 use Rattle.window.specs.Look.{lookAt}
-use Rattle.passing.specs.Passing.{passes, Knows}
-use Rattle.passing.proofs.Four.{not-asked}
+use Rattle.passing.specs.Passing.{passes, Tells}
+use Rattle.passing.proofs.Four.{not-asked, later}
 use Rattle.solids.specs.Parts.{nthAabb, shapeAsked}
 use Rattle.lent_boxes.specs.Boxes.{boxesIn}
 use Rattle.collection.specs.Collect.{push}
@@ -48,7 +48,7 @@ abbrev μ-loop2 : tie.MeasureT-loop2
 abbrev Inv-loop : tie.InvT-loop
 Inv-loop room₀ cap records shapes cells w area r over layer₀ count₀ y₀ y-end room layer count y =
     Space (length room₀) cap room count
-    × Knows cells w r over layer
+    × Tells cells w r over layer y
     × (layersFrom (push cap) (lookAt cells w) records shapes area r (passes cells w r) y (boxesIn room count)
     ≡ allPast (push cap) (lookAt cells w) records shapes area r (passes cells w r) [])
 
@@ -61,7 +61,7 @@ reach-in-requires c κs = search needs
 loop-holds : tie.Need-loop-holds Inv-loop4 μ-loop4 Inv-loop3 μ-loop3 Inv-loop2 μ-loop2 Inv-loop μ-loop
 loop-holds c =
     let f = push (c .before .before .before .before .before .args .cap) in
-    (record { long = refl; wide = c .before .before .before .before .before .pre; counts = omega arith }, not-asked (c .before .before .before .before .before .args .cells .now) (c .before .before .before .before .before .args .w) (c .before .before .before .before .before .args .r) (c .reach-in .result) _ refl, walk-begins f _ _ _ _ _ _ _ ∙ ap (allPast f _ _ _ _ _ _) (no-box (c .before .before .before .before .before .args .room .now)))
+    (record { long = refl; wide = c .before .before .before .before .before .pre; counts = omega arith }, not-asked (c .before .before .before .before .before .args .cells .now) (c .before .before .before .before .before .args .w) (c .before .before .before .before .before .args .r) (c .reach-in .result) _ _ refl, walk-begins f _ _ _ _ _ _ _ ∙ ap (allPast f _ _ _ _ _ _) (no-box (c .before .before .before .before .before .args .room .now)))
 
 lines-at-requires : tie.Need-lines-at-requires Inv-loop4 μ-loop4 Inv-loop3 μ-loop3 Inv-loop2 μ-loop2 Inv-loop μ-loop
 lines-at-requires c κs = c .before .loop .inv .1
@@ -178,7 +178,7 @@ loop-less : tie.Need-loop-less Inv-loop4 μ-loop4 Inv-loop3 μ-loop3 Inv-loop2 �
 loop-less c = omega arith
 
 loop-again : tie.Need-loop-again Inv-loop4 μ-loop4 Inv-loop3 μ-loop3 Inv-loop2 μ-loop2 Inv-loop μ-loop
-loop-again c = let i = c .before .loop2 .inv in (out (c .before .before .before .before .loop .inv .0) (i .0), c .before .before .lines-at .ensures .1, sym (lines-end (push (c .before .before .before .before .before .before .before .before .before .before .args .cap)) _ _ _ _ _ _ _ _ _ (at-the-end _ _ _ _ _ _ _ (c .before .before .before .before .before .reach-in .ensures) (c .before .before .lines-at .ensures .0) (c .loop2-test .left))) ∙ i .1)
+loop-again c = let i = c .before .loop2 .inv in (out (c .before .before .before .before .loop .inv .0) (i .0), later _ _ _ _ _ _ (c .before .before .lines-at .ensures .1), sym (lines-end (push (c .before .before .before .before .before .before .before .before .before .before .args .cap)) _ _ _ _ _ _ _ _ _ (at-the-end _ _ _ _ _ _ _ (c .before .before .before .before .before .reach-in .ensures) (c .before .before .lines-at .ensures .0) (c .loop2-test .left))) ∙ i .1)
 
 same-length-3 : tie.Need-same-length-3 Inv-loop4 μ-loop4 Inv-loop3 μ-loop3 Inv-loop2 μ-loop2 Inv-loop μ-loop
 same-length-3 c = c .before .loop .inv .0 .long

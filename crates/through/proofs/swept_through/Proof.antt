@@ -14,8 +14,8 @@ use Rattle.sweeps.specs.Move.{clipAll}
 use Rattle.sweeps.specs.Passes.{clipAlong, passesFrom, sweepOf}
 use Rattle.sweeps.proofs.Turns.{clip-turn, made, pass-on, pass-over, passes-end}
 use Rattle.window.specs.Look.{lookAt}
-use Rattle.passing.specs.Passing.{passes, Knows}
-use Rattle.passing.proofs.Four.{not-asked}
+use Rattle.passing.specs.Passing.{passes, Tells}
+use Rattle.passing.proofs.Four.{not-asked, later}
 use Rattle.collection.specs.Collect.{push}
 use Rattle.solids.specs.Parts.{nthAabb, shapeAsked}
 use Rattle.collection.proofs.Collects.{Room, allPast, layersFrom, linesFrom, cellsFrom, boxesFrom, walk-begins, layer-begins, line-begins, cells-turn, cell-begins, cell-refused, box-next, boxes-end, cells-end, lines-end, layers-end, kept, passed, fully}
@@ -47,7 +47,7 @@ abbrev μ-loop2 : tie.MeasureT-loop2
 
 abbrev Inv-loop : tie.InvT-loop
 Inv-loop cap records shapes cells w q area r most over layer₀ list₀ y₀ y-end layer list y =
-    Room few (list .boxes) (list .count) × Knows cells w r over layer × (layersFrom (push (capOf cap)) (lookAt cells w) records shapes area r (passes cells w r) y (take (list .count) (list .boxes)) ≡ allPast (push (capOf cap)) (lookAt cells w) records shapes area r (passes cells w r) [])
+    Room few (list .boxes) (list .count) × Tells cells w r over layer y × (layersFrom (push (capOf cap)) (lookAt cells w) records shapes area r (passes cells w r) y (take (list .count) (list .boxes)) ≡ allPast (push (capOf cap)) (lookAt cells w) records shapes area r (passes cells w r) [])
 
 abbrev μ-loop : tie.MeasureT-loop
 μ-loop cap records shapes cells w q area r most over layer₀ list₀ y₀ y-end layer list y = y-end - y
@@ -80,7 +80,7 @@ loop-holds : tie.Need-loop-holds Inv-loop4 μ-loop4 Inv-loop3 μ-loop3 Inv-loop2
 loop-holds c =
     let given = c .before .before .before .before .before .before .args in
     let e = empty-few _ (c .new .ensures) in
-    (e .0, not-asked (given .cells .now) (given .w) (given .r) (c .before .reach-in .result) _ refl, walk-begins (push _) _ _ _ _ _ _ _ ∙ ap (allPast (push _) _ _ _ _ _ _) (e .1))
+    (e .0, not-asked (given .cells .now) (given .w) (given .r) (c .before .reach-in .result) _ _ refl, walk-begins (push _) _ _ _ _ _ _ _ ∙ ap (allPast (push _) _ _ _ _ _ _) (e .1))
 
 lines-at-requires :
     tie.Need-lines-at-requires Inv-loop4 μ-loop4 Inv-loop3 μ-loop3 Inv-loop2 μ-loop2 Inv-loop μ-loop Inv-loop6 μ-loop6 Inv-loop5 μ-loop5
@@ -196,7 +196,7 @@ loop-less : tie.Need-loop-less Inv-loop4 μ-loop4 Inv-loop3 μ-loop3 Inv-loop2 �
 loop-less c = omega arith
 
 loop-again : tie.Need-loop-again Inv-loop4 μ-loop4 Inv-loop3 μ-loop3 Inv-loop2 μ-loop2 Inv-loop μ-loop Inv-loop6 μ-loop6 Inv-loop5 μ-loop5
-loop-again c = let i = c .before .loop2 .inv in (i .0, c .before .before .lines-at .ensures .1, sym (lines-end (push _) _ _ _ _ _ _ _ _ _ (at-the-end _ _ _ _ _ _ _ (c .before .before .before .before .before .before .reach-in .ensures) (c .before .before .lines-at .ensures .0) (c .loop2-test .left))) ∙ i .1)
+loop-again c = let i = c .before .loop2 .inv in (i .0, later _ _ _ _ _ _ (c .before .before .lines-at .ensures .1), sym (lines-end (push _) _ _ _ _ _ _ _ _ _ (at-the-end _ _ _ _ _ _ _ (c .before .before .before .before .before .before .reach-in .ensures) (c .before .before .lines-at .ensures .0) (c .loop2-test .left))) ∙ i .1)
 
 begun-requires : tie.Need-begun-requires Inv-loop4 μ-loop4 Inv-loop3 μ-loop3 Inv-loop2 μ-loop2 Inv-loop μ-loop Inv-loop6 μ-loop6 Inv-loop5 μ-loop5
 begun-requires c κs = search needs
