@@ -136,11 +136,10 @@ fn halved_at(m: u64, k: u64, z: u64) -> Halved
     ensures { λ h. ⌜ Halves (m * 2 ^ k) (h .n) (h .half) × (h .near < 1100 * 2 ^ 52) ⌝ }
 {
     let w = k + 1074 - z;
-    Halved {
-        n: m << (z + w % 2),
-        near: (w % 2 + 1074) * 0x10_0000_0000_0000 + (m << z) % 0x20_0000_0000_0000,
-        half: w / 2 - 26,
-    }
+    let n = m << (z + w % 2);
+    let near = (w % 2 + 1074) * 0x10_0000_0000_0000 + (m << z) % 0x20_0000_0000_0000;
+    let half = w / 2 - 26;
+    Halved { n, near, half }
 }
 
 // From the bits of a number that is finite and above zero. Where these are no number below the normal ones, nothing is to be counted.

@@ -15,25 +15,25 @@ add-w c = search needs
 sub-w : tie.Need-sub-w
 sub-w c = search needs
 
-add-n : tie.Need-add-t6
+add-n : tie.Need-add-n
 add-n c = search needs
 
-shl-n : tie.Need-shl-t7
+shl-n : tie.Need-shl-n
 shl-n c = search needs
 
-add-near : tie.Need-add-t9
+add-near : tie.Need-add-near
 add-near c = search needs
 
-mul-near : tie.Need-mul-t10
+mul-near : tie.Need-mul-near
 mul-near c = search needs
 
-shl-near : tie.Need-shl-t11
+shl-near : tie.Need-shl-near
 shl-near c = search needs
 
-add-near-2 : tie.Need-add-t13
+add-near-2 : tie.Need-add-near-2
 add-near-2 c = search needs
 
-sub-half : tie.Need-sub-t15
+sub-half : tie.Need-sub-half
 sub-half c = search needs
 
 returns : tie.Need-returns
