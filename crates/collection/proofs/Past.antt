@@ -12,15 +12,12 @@ use Rattle.base.specs.Choose.{choose}
 use Rattle.base.specs.Ask.{Ask, found, _>>=_, Turn, next, turning}
 use Rattle.boxes.specs.declared.Aabb.{Aabb}
 use Rattle.window.specs.declared.Pos.{Pos}
-use Rattle.window.specs.declared.Window.{Window}
 use Rattle.window.specs.Look.{Block}
 use Rattle.ranges.specs.declared.Range.{Range}
 use Rattle.ranges.specs.Ranges.{placeAt, noCells, trimmed}
 use Rattle.ranges.specs.Walk.{line, layer, walk}
-use Rattle.passing.specs.declared.Reach.{Reach}
-use Rattle.passing.specs.Passing.{nowhere, passesBy}
 use Rattle.collection.specs.Collect.{visit, rangeOf, push, pushed, collectBlockBoxes}
-use Rattle.collection.specs.Past.{layerPast, walkPast, collectInPast, collectPast}
+use Rattle.collection.specs.Past.{none, layerPast, walkPast, collectInPast, collectPast}
 
 -- ---- a loop whose turns all go on with what they are given
 pub idle : {S R : Type 0} (f : ℕ → S → Ask (Turn S R)) (n i : ℕ) → ((j : ℕ) → i ≤ j → j < i + n → (s : S) → f j s ≡ found (next s)) → (s : S) → turning f n i s ≡ found (next s)
@@ -79,15 +76,17 @@ pub in-range : (over : Range → ℕ → Bool) (cap : ℕ) (look : Pos → Ask B
 unfolding collectPast
 in-range over cap look records shapes area r e = rw (e, past-trimmed over (visit (push cap) area look records shapes) (rangeOf area) [])
 
--- by a reach of nowhere no layer is passed over
-module _ (words : List ℕ) (w : Window) where
-  none-passed : (r : Range) (y : ℕ) → passesBy words w r nowhere y ≡ false
-  unfolding passesBy
-  none-passed r y = refl
+-- where no layer is passed over, it comes to all lines of each, and is plain collection
+module _ (n x : ℕ) where
+  pub all-on : x < n → x < choose false 0 n
+  unfolding choose
+  all-on h = h
 
-  pub all-come-to : (cap : ℕ) (look : Pos → Ask Block) (records : List ℕ) (shapes : List Float) (area : Aabb) (r : Range) (k : Reach) → k ≡ nowhere → r ≡ trimmed (rangeOf area)
-      → collectInPast (passesBy words w r k) cap look records shapes area r ≡ collectBlockBoxes cap look records shapes area
-  all-come-to cap look records shapes area r k e f =
-      ap (λ (n : Reach). collectInPast (passesBy words w r n) cap look records shapes area r) e
-      ∙ in-range (λ q. passesBy words w q nowhere) cap look records shapes area r f
-      ∙ collects (λ q. passesBy words w q nowhere) cap look records shapes area (λ y h s. absurd (false≢true (sym (none-passed (rangeOf area) y) ∙ h)))
+  pub all-end : n ≤ x → choose false 0 n ≤ x
+  unfolding choose
+  all-end h = h
+
+pub all-come-to : (cap : ℕ) (look : Pos → Ask Block) (records : List ℕ) (shapes : List Float) (area : Aabb) (r : Range) → r ≡ trimmed (rangeOf area)
+    → collectInPast none cap look records shapes area r ≡ collectBlockBoxes cap look records shapes area
+all-come-to cap look records shapes area r f =
+    in-range (λ q. none) cap look records shapes area r f ∙ collects (λ q. none) cap look records shapes area (λ y h s. absurd (false≢true h))

@@ -1,5 +1,5 @@
 -- Collection that passes over layers: as `Collect` has it, but a layer of which `over` says yes is not come to.
-use mathlib.Core.Bool.{Bool}
+use mathlib.Core.Bool.{Bool, false}
 use mathlib.Core.List.{List, []}
 use Prim.Native.Nat.{ℕ}
 use lib.Ieee.{Float}
@@ -19,6 +19,10 @@ module _ {S R : Type 0} (over : ℕ → Bool) (f : Pos → S → Ask (Turn S R))
 
   unfoldable pub walkPast : S → Ask (Turn S R)
   walkPast = turning layerPast (r .y .count) 0
+
+-- over no layer
+abbrev pub none : ℕ → Bool
+none y = false
 
 -- from the cells of a range
 abbrev pub collectInPast : (ℕ → Bool) → ℕ → (Pos → Ask Block) → List ℕ → List Float → Aabb → Range → Ask (List Aabb)

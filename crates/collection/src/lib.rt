@@ -1,7 +1,7 @@
 // Module 6: collection of block boxes from a window.
 use boxes::Aabb;
 use boxes::Vec3;
-use passing::Reach;
+use passing::Stretch;
 use ranges::At;
 use ranges::Range;
 use solids::AskedShape;
@@ -15,12 +15,12 @@ ghost use Prim.Native.Nat.{_*_, _≤_};
 ghost use lib.ListN.{length};
 ghost use Rattle.sweeps.specs.Lists.{room, capOf, heldIn};
 ghost use Rattle.tables.specs.Tables.{boxesAt};
-ghost use Rattle.passing.specs.Passing.{passesBy, passes};
+ghost use Rattle.passing.specs.Passing.{passes};
 ghost use Rattle.ranges.specs.Ranges.{trimmed};
 ghost use Rattle.solids.specs.Parts.{countOf, nthAabb};
 ghost use Rattle.window.specs.Look.{lookAt};
 ghost use Rattle.collection.specs.Collect.{rangeOf, sweptArea, collectBlockBoxes, collidesWithBlocks};
-ghost use Rattle.collection.specs.Past.{collectInPast};
+ghost use Rattle.collection.specs.Past.{none, collectInPast};
 ghost use Rattle.collection.specs.Answers.{heldAsked, heldLent, hitAsked};
 
 pub enum AskedHit {
@@ -67,16 +67,15 @@ fn box_in(shapes: &[f32], part: Shape, p: Pos, k: u32) -> Aabb
     solids::nth_aabb(part.cube, shape, p, k)
 }
 
-// The boxes of every cell of a range, which strictly overlap the area: as many as the cap says, and with one more it refuses 6. It passes over the
-// layers of which `over` says so. The list is built in place.
-fn collect_up_to(cap: usize, records: &[u32], shapes: &[f32], cells: &[u32], w: Window, area: Aabb, r: Range, over: Reach) -> Collected
+// The boxes of every cell of a range, which strictly overlap the area: as many as the cap says, and with one more it refuses 6. The list is built
+// in place.
+fn collect_up_to(cap: usize, records: &[u32], shapes: &[f32], cells: &[u32], w: Window, area: Aabb, r: Range) -> Collected
     requires { ⌜ cap ≤ room ⌝ }
-    ensures { λ c. ⌜ heldIn c ≡ heldAsked (collectInPast (passesBy (now (cells .entry)) w r over) cap (lookAt (now (cells .entry)) w) (now (records .entry)) (now (shapes .entry)) area r) ⌝ }
+    ensures { λ c. ⌜ heldIn c ≡ heldAsked (collectInPast none cap (lookAt (now (cells .entry)) w) (now (records .entry)) (now (shapes .entry)) area r) ⌝ }
 {
     let mut list = BoxList::new();
     for y in 0..r.y.count {
-        let lines = passing::lines_at(cells, w, r, over, y);
-        for x in 0..lines {
+        for x in 0..r.x.count {
             for z in 0..r.z.count {
                 let p = ranges::place(r, At { x, y, z });
                 let part = match solids::part_at(records, cells, w, p) {
@@ -109,9 +108,11 @@ pub fn collect_into(room: &mut [f64], cap: usize, records: &[u32], shapes: &[f32
     ensures { λ c. ⌜ c .count ≤ cap ⌝ }
 {
     let over = passing::reach_in(cells, w, r);
+    let mut layer = Stretch { until: 0, lines: 0 };
     let mut count = 0usize;
     for y in 0..r.y.count {
-        let lines = passing::lines_at(cells, w, r, over, y);
+        layer = passing::lines_at(cells, w, r, over, y, layer);
+        let lines = layer.lines;
         for x in 0..lines {
             for z in 0..r.z.count {
                 let p = ranges::place(r, At { x, y, z });
@@ -141,7 +142,7 @@ pub fn collect_into(room: &mut [f64], cap: usize, records: &[u32], shapes: &[f32
 pub fn collect(cap: u32, records: &[u32], shapes: &[f32], cells: &[u32], w: Window, area: Aabb) -> Collected
     ensures { λ r. ⌜ heldIn r ≡ heldAsked (collectBlockBoxes (capOf cap) (lookAt (now (cells .entry)) w) (now (records .entry)) (now (shapes .entry)) area) ⌝ }
 {
-    collect_up_to(sweeps::cap_of(cap), records, shapes, cells, w, area, range_of(area), passing::nowhere())
+    collect_up_to(sweeps::cap_of(cap), records, shapes, cells, w, area, range_of(area))
 }
 
 // Whether a block box strictly overlaps the area. It stops at its first hit: no cell after that is asked for. It refuses 5 alone.
@@ -149,7 +150,7 @@ pub fn collect(cap: u32, records: &[u32], shapes: &[f32], cells: &[u32], w: Wind
 pub fn collides(records: &[u32], shapes: &[f32], cells: &[u32], w: Window, area: Aabb) -> AskedHit
     ensures { λ r. ⌜ hitAsked r ≡ collidesWithBlocks (lookAt (now (cells .entry)) w) (now (records .entry)) (now (shapes .entry)) area ⌝ }
 {
-    let none = collect_up_to(0, records, shapes, cells, w, area, range_of(area), passing::nowhere());
+    let none = collect_up_to(0, records, shapes, cells, w, area, range_of(area));
     let refusal = none.refusal;
     if refusal == 0 {
         return AskedHit::Is(false);

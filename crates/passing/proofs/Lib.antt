@@ -2,3 +2,4 @@
 pub mod Spans
 pub mod Clear
 pub mod Bounds
+pub mod Four

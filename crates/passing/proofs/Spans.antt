@@ -4,13 +4,13 @@ use mathlib.Core.Bool.{Bool, true, false, _&&_, true≢false, false≢true}
 use Prim.Native.Nat.{ℕ, _+_, _-_, _/_, _≤_, _<_}
 use native.Mathlib.Omega.{arith}
 use lib.Dec.{leb, ltb}
-use lib.IntN.{ℤ, pos, negsuc, natAbs, _+ℤ_, _-ℤ_, negℤ, +ℤ-comm, -ℤ-+ℤ-cancel}
+use lib.IntN.{ℤ, pos, negsuc, natAbs, _+ℤ_, _-ℤ_, negℤ, +ℤ-assoc, +ℤ-comm, +ℤ-idr, +ℤ-negℤ-cancel, -ℤ-+ℤ-cancel}
 use lib.Signed.{leZ, ltZ}
-use borrow.Author.Tests.{leb-true, le-leb, ltb-true, lt-ltb}
+use borrow.Author.Tests.{leb-true, leb-false, le-leb, ltb-true, lt-ltb}
 use Rattle.base.specs.Choose.{choose}
 use Rattle.base.proofs.Every.{both, and-true}
 use Rattle.window.specs.Window.{within}
-use Rattle.window.proofs.Order.{le-moved}
+use Rattle.window.proofs.Order.{lt-moved, le-moved}
 use Rattle.window.proofs.Offsets.{Ahead, ahead}
 use Rattle.groups.specs.Places.{offsetIn}
 use Rattle.ranges.specs.Ranges.{onFrom}
@@ -119,3 +119,54 @@ in-range o n first count x h a b = placed o n (onFrom first 0) (onFrom first (co
 -- one cell
 pub alone : (o : ℤ) (n : ℕ) (c : ℤ) → ltb (offsetIn c o n) n ≡ true → Between o n c (offsetIn c o n) (offsetIn c o n)
 alone o n c h = placed o n c c c h h (le-self c) (le-self c)
+
+-- ---- further cells of a range lie no higher than so many cells further
+le-other : (a b : ℤ) → leZ a b ≡ false → leZ b a ≡ true
+le-other (pos a) (pos b) h = let x = leb-false a b h in le-leb b a (omega arith)
+le-other (pos a) (negsuc b) h = refl
+le-other (negsuc a) (pos b) h = absurd (true≢false h)
+le-other (negsuc a) (negsuc b) h = let x = leb-false b a h in le-leb a b (omega arith)
+
+so-far : (a : ℤ) (j k : ℕ) → j ≤ k → a +ℤ pos j +ℤ pos (k - j) ≡ a +ℤ pos k
+so-far a j k h = let e : j + (k - j) ≡ k = omega arith in +ℤ-assoc a (pos j) (pos (k - j)) ∙ ap (λ (n : ℕ). a +ℤ pos n) e
+
+no-lower : (a : ℤ) (n : ℕ) → leZ a (a +ℤ pos n) ≡ true
+no-lower a n = (λ i. leZ (sym (+ℤ-idr a) i) (a +ℤ pos n)) ∙ further a 0 n (omega arith)
+
+slow : (a : ℤ) (j k : ℕ) → j ≤ k → leZ (onFrom a k) (onFrom a j +ℤ pos (k - j)) ≡ true
+unfolding onFrom choose
+slow a j k h = go (leZ (a +ℤ pos j) (pos 67108864)) (leZ (a +ℤ pos k) (pos 67108864)) refl refl
+  where
+    go : (s t : Bool) → leZ (a +ℤ pos j) (pos 67108864) ≡ s → leZ (a +ℤ pos k) (pos 67108864) ≡ t → leZ (choose t (a +ℤ pos k) (pos 67108864)) (choose s (a +ℤ pos j) (pos 67108864) +ℤ pos (k - j)) ≡ true
+    go true true e f = (λ i. leZ (a +ℤ pos k) (so-far a j k h i)) ∙ le-self (a +ℤ pos k)
+    go true false e f = (λ i. leZ (pos 67108864) (so-far a j k h i)) ∙ le-other (a +ℤ pos k) (pos 67108864) f
+    go false true e f = absurd (true≢false (sym (le-then (a +ℤ pos j) (a +ℤ pos k) (pos 67108864) (further a j k h) f) ∙ e))
+    go false false e f = no-lower (pos 67108864) (k - j)
+
+inside : (o : ℤ) (n m : ℕ) → m < n → within o n (o +ℤ pos m) ≡ true
+inside o n m h =
+    and-true (leZ o (o +ℤ pos m)) (ltZ (o +ℤ pos m) (o +ℤ pos n)) (no-lower o m)
+    ((λ i. ltZ (+ℤ-comm o (pos m) i) (+ℤ-comm o (pos n) i)) ∙ lt-moved o (pos m) (pos n) ∙ lt-ltb m n h)
+
+-- a cell of a range so many cells on from one that lies within, where so many more do too
+pub on-from : (o : ℤ) (n : ℕ) (first : ℤ) (y z : ℕ) → y ≤ z → offsetIn (onFrom first y) o n + (z - y) < n
+    → (offsetIn (onFrom first y) o n ≤ offsetIn (onFrom first z) o n) × (offsetIn (onFrom first z) o n ≤ offsetIn (onFrom first y) o n + (z - y))
+on-from o n first y z h s =
+    let a = onFrom first y in
+    let t = offsetIn a o n in
+    let ha = is-within a o n (lt-ltb t n (omega arith)) in
+    let k = ahead o n a ha in
+    let et : t ≡ k .size = offset-is a o n ha ∙ ap natAbs (k .is) in
+    let ea : a ≡ o +ℤ pos t = sym (-ℤ-+ℤ-cancel a o) ∙ ap (λ (x : ℤ). x +ℤ o) (k .is) ∙ +ℤ-comm (pos (k .size)) o ∙ ap (λ (m : ℕ). o +ℤ pos m) (sym et) in
+    let eb : a +ℤ pos (z - y) ≡ o +ℤ pos (t + (z - y)) = ap (λ (x : ℤ). x +ℤ pos (z - y)) ea ∙ +ℤ-assoc o (pos t) (pos (z - y)) in
+    let b = o +ℤ pos (t + (z - y)) in
+    let hb = inside o n (t + (z - y)) s in
+    let m = between o n a b (onFrom first z) ha hb (grows first y z h) (subst (λ (x : ℤ). leZ (onFrom first z) x ≡ true) eb (slow first y z h)) in
+    let ez : offsetIn (onFrom first z) o n ≡ m .at = offset-is (onFrom first z) o n (m .inside) ∙ m .off in
+    let low : t ≤ m .at = subst (λ (x : ℕ). x ≤ m .at) (sym (offset-is a o n ha)) (m .above) in
+    let top : natAbs (b -ℤ o) ≡ t + (z - y) = so-many o (t + (z - y)) in
+    let high : m .at ≤ t + (z - y) = subst (λ (x : ℕ). m .at ≤ x) top (m .under) in
+    (subst (λ (x : ℕ). t ≤ x) (sym ez) low, subst (λ (x : ℕ). x ≤ t + (z - y)) (sym ez) high)
+  where
+    so-many : (o : ℤ) (m : ℕ) → natAbs (o +ℤ pos m -ℤ o) ≡ m
+    so-many o m = ap natAbs (ap (λ (x : ℤ). x -ℤ o) (+ℤ-comm o (pos m)) ∙ +ℤ-negℤ-cancel (pos m) o)

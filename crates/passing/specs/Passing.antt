@@ -1,8 +1,9 @@
 -- Which layers of a range a collection passes over: those that lie in the window with all their columns, of which every group from that of the first
 -- cell to that of the last is marked 0 by the summary behind the window's words. A word that was not lent marks nothing.
+use mathlib.Core.Path.{_≡_}
 use mathlib.Core.Bool.{Bool, true, false, _&&_}
 use mathlib.Core.List.{List}
-use Prim.Native.Nat.{ℕ, _+_, _*_, _-_, _/_}
+use Prim.Native.Nat.{ℕ, _+_, _*_, _-_, _/_, _≤_, _<_}
 use lib.Dec.{ltb, eqb}
 use lib.ListN.{length, getD}
 use Rattle.base.specs.Choose.{choose}
@@ -15,6 +16,7 @@ use Rattle.groups.specs.declared.Place.{Place}
 use Rattle.groups.specs.declared.Layout.{Layout}
 use Rattle.groups.specs.Places.{layoutOf, placeIn}
 use Rattle.passing.specs.declared.Reach.{Reach}
+use Rattle.passing.specs.declared.Stretch.{Stretch}
 
 -- how far the first and the last column of a range lie from the origin
 abbrev pub firstOf : Window → Range → Place
@@ -71,3 +73,7 @@ passes words w r y = passesBy words w r (reachIn words w r) y
 -- the lines of a layer that a collection comes to
 abbrev pub linesBy : List ℕ → Window → Range → Reach → ℕ → ℕ
 linesBy words w r k y = choose (passesBy words w r k y) 0 (r .x .count)
+
+-- a stretch tells the lines of each layer from y on up to its end
+pub record Tells (words : List ℕ) (w : Window) (r : Range) (k : Reach) (s : Stretch) (y : ℕ) : Type 0 where
+  pub tells : (z : ℕ) → y ≤ z → z < s .until → s .lines ≡ linesBy words w r k z

@@ -6,10 +6,11 @@ use ranges::Range;
 use window::Sizes;
 use window::Window;
 ghost use mathlib.Core.Path.{_≡_};
-ghost use Prim.Native.Nat.{_+_, _*_, _-_, _/_, _≤_};
+ghost use mathlib.Core.Bool.{_&&_};
+ghost use Prim.Native.Nat.{_+_, _*_, _-_, _/_, _%_, _≤_, _<_};
 ghost use lib.Dec.{eqb};
 ghost use lib.ListN.{getD};
-ghost use Rattle.passing.specs.Passing.{spans, nowhere, reachOf, reachIn, marked, allMarked, passesBy, linesBy};
+ghost use Rattle.passing.specs.Passing.{spans, reachOf, reachIn, marked, allMarked, linesBy, Tells};
 
 // The groups of a range's columns: the first on x and z, and how many from there on; where the words of groups stand, and how many groups a row and
 // a layer of them has. `on` is no where a column of the range lies outside the window.
@@ -24,11 +25,10 @@ pub struct Reach {
     pub deep: u8,
 }
 
-// It reaches no group: by it no layer is passed over.
-pub fn nowhere() -> Reach
-    ensures { λ k. ⌜ k ≡ nowhere ⌝ }
-{
-    Reach { on: false, before: 0, row: 0, layer: 0, x: 0, z: 0, across: 0, deep: 0 }
+// Layers of a range up to one, and how many lines of each a collection comes to.
+pub struct Stretch {
+    pub until: u64,
+    pub lines: u32,
 }
 
 fn wide(x: u32) -> usize
@@ -158,26 +158,36 @@ fn is_all_marked(words: &[u32], k: Reach, y: u32) -> bool
     true
 }
 
-// Whether a collection passes over layer y of the range.
-pub fn passes_by(words: &[u32], w: Window, r: Range, k: Reach, y: u32) -> bool
-    ensures { λ t. ⌜ t ≡ passesBy (now (words .entry)) w r k y ⌝ }
+// For how many layers from this height on the groups are the same: to the end of these, or of the window.
+fn alike(height: u32, y: u32) -> u32
+    requires { ⌜ y < height ⌝ }
+    ensures { λ n. ⌜ (n ≤ height - y) × (n ≤ 4 - y % 4) ⌝ }
 {
+    let left = 4 - y % 4;
+    let room = height - y;
+    if room < left { room } else { left }
+}
+
+// How many lines of layer y a collection comes to: none where it passes over it. Four layers have the same groups, which are asked for once: what is
+// known of the layers up to one is taken in, and handed on.
+pub fn lines_at(words: &[u32], w: Window, r: Range, k: Reach, y: u32, last: Stretch) -> Stretch
+    requires { ⌜ Tells (now words) w r k last y ⌝ }
+    ensures { λ s. ⌜ s .lines ≡ linesBy (now (words .entry)) w r k y ⌝ }
+    ensures { λ s. ⌜ Tells (now (words .entry)) w r k s y ⌝ }
+{
+    if (y as u64) < last.until {
+        return last;
+    }
     if k.on {
         let t = groups::place_in(w, ranges::place(r, At { x: 0, y, z: 0 }));
         if t.y < w.sizes.y {
-            return is_all_marked(words, k, t.y);
+            let until = (y as u64) + (alike(w.sizes.y, t.y) as u64);
+            if is_all_marked(words, k, t.y) {
+                return Stretch { until, lines: 0 };
+            }
+            return Stretch { until, lines: r.x.count };
         }
-        return false;
+        return Stretch { until: 0, lines: r.x.count };
     }
-    false
-}
-
-// How many lines of layer y a collection comes to: none where it passes over it.
-pub fn lines_at(words: &[u32], w: Window, r: Range, k: Reach, y: u32) -> u32
-    ensures { λ n. ⌜ n ≡ linesBy (now (words .entry)) w r k y ⌝ }
-{
-    if passes_by(words, w, r, k, y) {
-        return 0;
-    }
-    r.x.count
+    Stretch { until: 0x1_0000_0000, lines: r.x.count }
 }

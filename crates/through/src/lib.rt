@@ -1,6 +1,7 @@
 // Module 6: the move of a box through the blocks of a window.
 use boxes::Aabb;
 use boxes::Vec3;
+use passing::Stretch;
 use ranges::At;
 use ranges::Range;
 use solids::AskedShape;
@@ -84,10 +85,11 @@ fn swept_through(cap: u32, records: &[u32], shapes: &[f32], cells: &[u32], w: Wi
 {
     let most = within(42, cap);
     let over = passing::reach_in(cells, w, r);
+    let mut layer = Stretch { until: 0, lines: 0 };
     let mut list = Few::new();
     for y in 0..r.y.count {
-        let lines = passing::lines_at(cells, w, r, over, y);
-        for x in 0..lines {
+        layer = passing::lines_at(cells, w, r, over, y, layer);
+        for x in 0..layer.lines {
             for z in 0..r.z.count {
                 let p = ranges::place(r, At { x, y, z });
                 let part = match solids::quick_part(records, cells, w, p) {
@@ -114,11 +116,10 @@ fn swept_through(cap: u32, records: &[u32], shapes: &[f32], cells: &[u32], w: Wi
     for pass in 0..7u32 {
         let axis = sweeps::axis_of(pass);
         let now = s.now;
-        let mover = now.aabb;
         let mut d = sweeps::wanted(pass, axis, q, now);
         for i in 0..list.count {
             let b = list.boxes[i];
-            d = sweeps::clip_along(axis, b, mover, d);
+            d = sweeps::clip_along(axis, b, now.aabb, d);
         }
         s = sweeps::next(pass, q, s.first, sweeps::gone(pass, axis, now, d));
         if s.over {

@@ -14,14 +14,11 @@ cap-of-requires c κs = search needs
 range-of-requires : tie.Need-range-of-requires
 range-of-requires c κs = search needs
 
-nowhere-requires : tie.Need-nowhere-requires
-nowhere-requires c κs = search needs
-
 collect-up-to-requires : tie.Need-collect-up-to-requires
-collect-up-to-requires c κs = rw (c .before .before .cap-of .ensures) (cap-in-room _)
+collect-up-to-requires c κs = rw (c .before .cap-of .ensures) (cap-in-room _)
 
 returns : tie.Need-returns
-returns c = rw (c .before .before .before .cap-of .ensures) at (c .collect-up-to .ensures) ∙ ap heldAsked (all-come-to _ _ (capOf _) _ _ _ _ _ _ (c .before .nowhere .ensures) (c .before .before .range-of .ensures))
+returns c = rw (c .before .before .cap-of .ensures) at (c .collect-up-to .ensures) ∙ ap heldAsked (all-come-to (capOf _) _ _ _ _ _ (c .before .range-of .ensures))
 
 pub collect-spec : {M : Type 1} → statement M
-collect-spec = tie.close (tie.spec cap-of-requires range-of-requires nowhere-requires collect-up-to-requires returns)
+collect-spec = tie.close (tie.spec cap-of-requires range-of-requires collect-up-to-requires returns)

@@ -7,7 +7,8 @@ use Prim.Native.Nat.{ℕ, _+_, _*_, _-_, _≤_, _<_}
 use native.Mathlib.Omega.{arith}
 use lib.ListN.{length}
 use Rattle.window.specs.Look.{lookAt}
-use Rattle.passing.specs.Passing.{passes}
+use Rattle.passing.specs.Passing.{passes, Tells}
+use Rattle.passing.proofs.Four.{not-asked, later}
 use Rattle.solids.specs.Parts.{nthAabb, shapeAsked}
 use Rattle.lent_boxes.specs.Boxes.{boxesIn}
 use Rattle.collection.specs.Collect.{push}
@@ -18,40 +19,41 @@ use Rattle.collection.proofs.collect_into.Statement.{statement}
 use Rattle.collection.proofs.collect_into.Tie as tie
 
 abbrev Inv-loop4 : tie.InvT-loop4
-Inv-loop4 room₀ cap records shapes cells w area r over count₀ y lines x z p part shape n k₀ y-end z-end room count k =
+Inv-loop4 room₀ cap records shapes cells w area r over layer count₀ y lines x z p part shape n k₀ y-end z-end room count k =
     Space (length room₀) cap room count
     × (boxesFrom (push cap) area (cellsFrom (push cap) (lookAt cells w) records shapes area r (passes cells w r) y x (z + 1)) (nthAabb (part .cube) shape p) n k (boxesIn room count)
     ≡ allPast (push cap) (lookAt cells w) records shapes area r (passes cells w r) [])
 
 abbrev μ-loop4 : tie.MeasureT-loop4
-μ-loop4 room₀ cap records shapes cells w area r over count₀ y lines x z p part shape n k₀ y-end z-end room count k = n - k
+μ-loop4 room₀ cap records shapes cells w area r over layer count₀ y lines x z p part shape n k₀ y-end z-end room count k = n - k
 
 abbrev Inv-loop3 : tie.InvT-loop3
-Inv-loop3 room₀ cap records shapes cells w area r over count₀ y lines x z₀ y-end z-end room count z =
+Inv-loop3 room₀ cap records shapes cells w area r over layer count₀ y lines x z₀ y-end z-end room count z =
     Space (length room₀) cap room count
     × (cellsFrom (push cap) (lookAt cells w) records shapes area r (passes cells w r) y x z (boxesIn room count)
     ≡ allPast (push cap) (lookAt cells w) records shapes area r (passes cells w r) [])
 
 abbrev μ-loop3 : tie.MeasureT-loop3
-μ-loop3 room₀ cap records shapes cells w area r over count₀ y lines x z₀ y-end z-end room count z = z-end - z
+μ-loop3 room₀ cap records shapes cells w area r over layer count₀ y lines x z₀ y-end z-end room count z = z-end - z
 
 abbrev Inv-loop2 : tie.InvT-loop2
-Inv-loop2 room₀ cap records shapes cells w area r over count₀ y lines x₀ y-end room count x =
+Inv-loop2 room₀ cap records shapes cells w area r over layer count₀ y lines x₀ y-end room count x =
     Space (length room₀) cap room count
     × (linesFrom (push cap) (lookAt cells w) records shapes area r (passes cells w r) y x (boxesIn room count)
     ≡ allPast (push cap) (lookAt cells w) records shapes area r (passes cells w r) [])
 
 abbrev μ-loop2 : tie.MeasureT-loop2
-μ-loop2 room₀ cap records shapes cells w area r over count₀ y lines x₀ y-end room count x = lines - x
+μ-loop2 room₀ cap records shapes cells w area r over layer count₀ y lines x₀ y-end room count x = lines - x
 
 abbrev Inv-loop : tie.InvT-loop
-Inv-loop room₀ cap records shapes cells w area r over count₀ y₀ y-end room count y =
+Inv-loop room₀ cap records shapes cells w area r over layer₀ count₀ y₀ y-end room layer count y =
     Space (length room₀) cap room count
+    × Tells cells w r over layer y
     × (layersFrom (push cap) (lookAt cells w) records shapes area r (passes cells w r) y (boxesIn room count)
     ≡ allPast (push cap) (lookAt cells w) records shapes area r (passes cells w r) [])
 
 abbrev μ-loop : tie.MeasureT-loop
-μ-loop room₀ cap records shapes cells w area r over count₀ y₀ y-end room count y = y-end - y
+μ-loop room₀ cap records shapes cells w area r over layer₀ count₀ y₀ y-end room layer count y = y-end - y
 
 reach-in-requires : tie.Need-reach-in-requires Inv-loop4 μ-loop4 Inv-loop3 μ-loop3 Inv-loop2 μ-loop2 Inv-loop μ-loop
 reach-in-requires c κs = search needs
@@ -59,16 +61,16 @@ reach-in-requires c κs = search needs
 loop-holds : tie.Need-loop-holds Inv-loop4 μ-loop4 Inv-loop3 μ-loop3 Inv-loop2 μ-loop2 Inv-loop μ-loop
 loop-holds c =
     let f = push (c .before .before .before .before .before .args .cap) in
-    (record { long = refl; wide = c .before .before .before .before .before .pre; counts = omega arith }, walk-begins f _ _ _ _ _ _ _ ∙ ap (allPast f _ _ _ _ _ _) (no-box (c .before .before .before .before .before .args .room .now)))
+    (record { long = refl; wide = c .before .before .before .before .before .pre; counts = omega arith }, not-asked (c .before .before .before .before .before .args .cells .now) (c .before .before .before .before .before .args .w) (c .before .before .before .before .before .args .r) (c .reach-in .result) _ _ refl, walk-begins f _ _ _ _ _ _ _ ∙ ap (allPast f _ _ _ _ _ _) (no-box (c .before .before .before .before .before .args .room .now)))
 
 lines-at-requires : tie.Need-lines-at-requires Inv-loop4 μ-loop4 Inv-loop3 μ-loop3 Inv-loop2 μ-loop2 Inv-loop μ-loop
-lines-at-requires c κs = search needs
+lines-at-requires c κs = c .before .loop .inv .1
 
 loop2-holds : tie.Need-loop2-holds Inv-loop4 μ-loop4 Inv-loop3 μ-loop3 Inv-loop2 μ-loop2 Inv-loop μ-loop
-loop2-holds c = let i = c .before .before .loop .inv in (into (i .0), sym (layer-begins (push (c .before .before .before .before .before .before .before .before .args .cap)) _ _ _ _ _ _ _ _ (c .before .loop-test .taken)) ∙ i .1)
+loop2-holds c = let i = c .before .before .loop .inv in (into (i .0), sym (layer-begins (push (c .before .before .before .before .before .before .before .before .args .cap)) _ _ _ _ _ _ _ _ (c .before .loop-test .taken)) ∙ i .2)
 
 loop3-holds : tie.Need-loop3-holds Inv-loop4 μ-loop4 Inv-loop3 μ-loop3 Inv-loop2 μ-loop2 Inv-loop μ-loop
-loop3-holds c = let i = c .before .loop2 .inv in (into (i .0), sym (line-begins (push (c .before .before .before .before .before .before .before .before .before .before .args .cap)) _ _ _ _ _ _ _ _ _ (on-the-way _ _ _ _ _ _ _ (c .before .before .before .before .before .reach-in .ensures) (c .before .before .lines-at .ensures) (c .loop2-test .taken))) ∙ i .1)
+loop3-holds c = let i = c .before .loop2 .inv in (into (i .0), sym (line-begins (push (c .before .before .before .before .before .before .before .before .before .before .args .cap)) _ _ _ _ _ _ _ _ _ (on-the-way _ _ _ _ _ _ _ (c .before .before .before .before .before .reach-in .ensures) (c .before .before .lines-at .ensures .0) (c .loop2-test .taken))) ∙ i .1)
 
 place-requires : tie.Need-place-requires Inv-loop4 μ-loop4 Inv-loop3 μ-loop3 Inv-loop2 μ-loop2 Inv-loop μ-loop
 place-requires c κs = search needs
@@ -161,7 +163,7 @@ loop3-again : tie.Need-loop3-again Inv-loop4 μ-loop4 Inv-loop3 μ-loop3 Inv-loo
 loop3-again c = let i = c .before .loop4 .inv in (out (c .before .before .before .before .before .before .before .before .before .before .loop3 .inv .0) (i .0), sym (boxes-end (push (c .before .before .before .before .before .before .before .before .before .before .before .before .before .before .before .before .before .before .before .before .before .args .cap)) _ _ _ _ _ _ (c .loop4-test .left)) ∙ i .1)
 
 add-x : tie.Need-add-x Inv-loop4 μ-loop4 Inv-loop3 μ-loop3 Inv-loop2 μ-loop2 Inv-loop μ-loop
-add-x c = let h : c .before .before .before .loop2 .x < c .before .before .before .before .lines-at .result = c .before .before .loop2-test .taken in omega arith
+add-x c = let h : c .before .before .before .loop2 .x < c .before .before .before .before .lines-at .result .lines = c .before .before .loop2-test .taken in omega arith
 
 loop2-less : tie.Need-loop2-less Inv-loop4 μ-loop4 Inv-loop3 μ-loop3 Inv-loop2 μ-loop2 Inv-loop μ-loop
 loop2-less c = omega arith
@@ -176,7 +178,7 @@ loop-less : tie.Need-loop-less Inv-loop4 μ-loop4 Inv-loop3 μ-loop3 Inv-loop2 �
 loop-less c = omega arith
 
 loop-again : tie.Need-loop-again Inv-loop4 μ-loop4 Inv-loop3 μ-loop3 Inv-loop2 μ-loop2 Inv-loop μ-loop
-loop-again c = let i = c .before .loop2 .inv in (out (c .before .before .before .before .loop .inv .0) (i .0), sym (lines-end (push (c .before .before .before .before .before .before .before .before .before .before .args .cap)) _ _ _ _ _ _ _ _ _ (at-the-end _ _ _ _ _ _ _ (c .before .before .before .before .before .reach-in .ensures) (c .before .before .lines-at .ensures) (c .loop2-test .left))) ∙ i .1)
+loop-again c = let i = c .before .loop2 .inv in (out (c .before .before .before .before .loop .inv .0) (i .0), later _ _ _ _ _ _ (c .before .before .lines-at .ensures .1), sym (lines-end (push (c .before .before .before .before .before .before .before .before .before .before .args .cap)) _ _ _ _ _ _ _ _ _ (at-the-end _ _ _ _ _ _ _ (c .before .before .before .before .before .reach-in .ensures) (c .before .before .lines-at .ensures .0) (c .loop2-test .left))) ∙ i .1)
 
 same-length-3 : tie.Need-same-length-3 Inv-loop4 μ-loop4 Inv-loop3 μ-loop3 Inv-loop2 μ-loop2 Inv-loop μ-loop
 same-length-3 c = c .before .loop .inv .0 .long
@@ -184,7 +186,7 @@ same-length-3 c = c .before .loop .inv .0 .long
 returns-3 : tie.Need-returns-3 Inv-loop4 μ-loop4 Inv-loop3 μ-loop3 Inv-loop2 μ-loop2 Inv-loop μ-loop
 returns-3 c =
     let i = c .before .loop .inv in
-    (lent-collected _ (c .before .before .before .before .before .before .before .args .cap) _ _ _ _ _ (c .before .loop .room) _ (sym (layers-end (push (c .before .before .before .before .before .before .before .args .cap)) _ _ _ _ _ _ _ _ (c .loop-test .left)) ∙ i .1), i .0 .counts)
+    (lent-collected _ (c .before .before .before .before .before .before .before .args .cap) _ _ _ _ _ (c .before .loop .room) _ (sym (layers-end (push (c .before .before .before .before .before .before .before .args .cap)) _ _ _ _ _ _ _ _ (c .loop-test .left)) ∙ i .2), i .0 .counts)
 
 pub collect-into-spec : {M : Type 1} → statement M
 collect-into-spec =

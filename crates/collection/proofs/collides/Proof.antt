@@ -10,20 +10,17 @@ use Rattle.collection.proofs.collides.Tie as tie
 range-of-requires : tie.Need-range-of-requires
 range-of-requires c κs = search needs
 
-nowhere-requires : tie.Need-nowhere-requires
-nowhere-requires c κs = search needs
-
 collect-up-to-requires : tie.Need-collect-up-to-requires
 collect-up-to-requires c κs = search needs
 
 returns : tie.Need-returns
-returns c = no-hit _ _ _ _ _ _ (c .before .collect-up-to .ensures ∙ ap heldAsked (all-come-to _ _ 0 _ _ _ _ _ _ (c .before .before .nowhere .ensures) (c .before .before .before .range-of .ensures))) (c .if1 .taken)
+returns c = no-hit _ _ _ _ _ _ (c .before .collect-up-to .ensures ∙ ap heldAsked (all-come-to 0 _ _ _ _ _ (c .before .before .range-of .ensures))) (c .if1 .taken)
 
 returns-2 : tie.Need-returns-2
-returns-2 c = is-hit _ _ _ _ _ _ (c .before .before .collect-up-to .ensures ∙ ap heldAsked (all-come-to _ _ 0 _ _ _ _ _ _ (c .before .before .before .nowhere .ensures) (c .before .before .before .before .range-of .ensures))) (c .before .if1 .left) (c .if2 .taken)
+returns-2 c = is-hit _ _ _ _ _ _ (c .before .before .collect-up-to .ensures ∙ ap heldAsked (all-come-to 0 _ _ _ _ _ (c .before .before .before .range-of .ensures))) (c .before .if1 .left) (c .if2 .taken)
 
 returns-3 : tie.Need-returns-3
-returns-3 c = hit-refused _ _ _ _ _ _ (c .before .before .collect-up-to .ensures ∙ ap heldAsked (all-come-to _ _ 0 _ _ _ _ _ _ (c .before .before .before .nowhere .ensures) (c .before .before .before .before .range-of .ensures))) (c .before .if1 .left) (c .if2 .left)
+returns-3 c = hit-refused _ _ _ _ _ _ (c .before .before .collect-up-to .ensures ∙ ap heldAsked (all-come-to 0 _ _ _ _ _ (c .before .before .before .range-of .ensures))) (c .before .if1 .left) (c .if2 .left)
 
 pub collides-spec : {M : Type 1} → statement M
-collides-spec = tie.close (tie.spec range-of-requires nowhere-requires collect-up-to-requires returns returns-2 returns-3)
+collides-spec = tie.close (tie.spec range-of-requires collect-up-to-requires returns returns-2 returns-3)

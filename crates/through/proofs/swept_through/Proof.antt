@@ -14,7 +14,8 @@ use Rattle.sweeps.specs.Move.{clipAll}
 use Rattle.sweeps.specs.Passes.{clipAlong, passesFrom, sweepOf}
 use Rattle.sweeps.proofs.Turns.{clip-turn, made, pass-on, pass-over, passes-end}
 use Rattle.window.specs.Look.{lookAt}
-use Rattle.passing.specs.Passing.{passes}
+use Rattle.passing.specs.Passing.{passes, Tells}
+use Rattle.passing.proofs.Four.{not-asked, later}
 use Rattle.collection.specs.Collect.{push}
 use Rattle.solids.specs.Parts.{nthAabb, shapeAsked}
 use Rattle.collection.proofs.Collects.{Room, allPast, layersFrom, linesFrom, cellsFrom, boxesFrom, walk-begins, layer-begins, line-begins, cells-turn, cell-begins, cell-refused, box-next, boxes-end, cells-end, lines-end, layers-end, kept, passed, fully}
@@ -24,39 +25,39 @@ use Rattle.through.proofs.swept_through.Statement.{statement}
 use Rattle.through.proofs.swept_through.Tie as tie
 
 abbrev Inv-loop4 : tie.InvT-loop4
-Inv-loop4 cap records shapes cells w q area r most over list₀ y lines x z p part shape n k₀ y-end z-end list k =
+Inv-loop4 cap records shapes cells w q area r most over layer list₀ y x z p part shape n k₀ y-end x-end z-end list k =
     Room few (list .boxes) (list .count) × (boxesFrom (push (capOf cap)) area (cellsFrom (push (capOf cap)) (lookAt cells w) records shapes area r (passes cells w r) y x (z + 1)) (nthAabb (part .cube) shape p) n k (take (list .count) (list .boxes)) ≡ allPast (push (capOf cap)) (lookAt cells w) records shapes area r (passes cells w r) [])
 
 abbrev μ-loop4 : tie.MeasureT-loop4
-μ-loop4 cap records shapes cells w q area r most over list₀ y lines x z p part shape n k₀ y-end z-end list k = n - k
+μ-loop4 cap records shapes cells w q area r most over layer list₀ y x z p part shape n k₀ y-end x-end z-end list k = n - k
 
 abbrev Inv-loop3 : tie.InvT-loop3
-Inv-loop3 cap records shapes cells w q area r most over list₀ y lines x z₀ y-end z-end list z =
+Inv-loop3 cap records shapes cells w q area r most over layer list₀ y x z₀ y-end x-end z-end list z =
     Room few (list .boxes) (list .count) × (cellsFrom (push (capOf cap)) (lookAt cells w) records shapes area r (passes cells w r) y x z (take (list .count) (list .boxes)) ≡ allPast (push (capOf cap)) (lookAt cells w) records shapes area r (passes cells w r) [])
 
 abbrev μ-loop3 : tie.MeasureT-loop3
-μ-loop3 cap records shapes cells w q area r most over list₀ y lines x z₀ y-end z-end list z = z-end - z
+μ-loop3 cap records shapes cells w q area r most over layer list₀ y x z₀ y-end x-end z-end list z = z-end - z
 
 abbrev Inv-loop2 : tie.InvT-loop2
-Inv-loop2 cap records shapes cells w q area r most over list₀ y lines x₀ y-end list x =
+Inv-loop2 cap records shapes cells w q area r most over layer list₀ y x₀ y-end x-end list x =
     Room few (list .boxes) (list .count) × (linesFrom (push (capOf cap)) (lookAt cells w) records shapes area r (passes cells w r) y x (take (list .count) (list .boxes)) ≡ allPast (push (capOf cap)) (lookAt cells w) records shapes area r (passes cells w r) [])
 
 abbrev μ-loop2 : tie.MeasureT-loop2
-μ-loop2 cap records shapes cells w q area r most over list₀ y lines x₀ y-end list x = lines - x
+μ-loop2 cap records shapes cells w q area r most over layer list₀ y x₀ y-end x-end list x = x-end - x
 
 abbrev Inv-loop : tie.InvT-loop
-Inv-loop cap records shapes cells w q area r most over list₀ y₀ y-end list y =
-    Room few (list .boxes) (list .count) × (layersFrom (push (capOf cap)) (lookAt cells w) records shapes area r (passes cells w r) y (take (list .count) (list .boxes)) ≡ allPast (push (capOf cap)) (lookAt cells w) records shapes area r (passes cells w r) [])
+Inv-loop cap records shapes cells w q area r most over layer₀ list₀ y₀ y-end layer list y =
+    Room few (list .boxes) (list .count) × Tells cells w r over layer y × (layersFrom (push (capOf cap)) (lookAt cells w) records shapes area r (passes cells w r) y (take (list .count) (list .boxes)) ≡ allPast (push (capOf cap)) (lookAt cells w) records shapes area r (passes cells w r) [])
 
 abbrev μ-loop : tie.MeasureT-loop
-μ-loop cap records shapes cells w q area r most over list₀ y₀ y-end list y = y-end - y
+μ-loop cap records shapes cells w q area r most over layer₀ list₀ y₀ y-end layer list y = y-end - y
 
 abbrev Inv-loop6 : tie.InvT-loop6
-Inv-loop6 cap records shapes cells q most list s pass axis now mover d₀ i₀ i-end d i =
-    clipAll (clipAlong axis) (drop i (take (list .count) (list .boxes))) mover d ≡ clipAll (clipAlong axis) (take (list .count) (list .boxes)) mover d₀
+Inv-loop6 cap records shapes cells q most list s pass axis now d₀ i₀ i-end d i =
+    clipAll (clipAlong axis) (drop i (take (list .count) (list .boxes))) (now .aabb) d ≡ clipAll (clipAlong axis) (take (list .count) (list .boxes)) (now .aabb) d₀
 
 abbrev μ-loop6 : tie.MeasureT-loop6
-μ-loop6 cap records shapes cells q most list s pass axis now mover d₀ i₀ i-end d i = i-end - i
+μ-loop6 cap records shapes cells q most list s pass axis now d₀ i₀ i-end d i = i-end - i
 
 abbrev Inv-loop5 : tie.InvT-loop5
 Inv-loop5 cap records shapes cells q most list s₀ pass₀ s pass =
@@ -76,17 +77,20 @@ new-requires : tie.Need-new-requires Inv-loop4 μ-loop4 Inv-loop3 μ-loop3 Inv-l
 new-requires c κs = search needs
 
 loop-holds : tie.Need-loop-holds Inv-loop4 μ-loop4 Inv-loop3 μ-loop3 Inv-loop2 μ-loop2 Inv-loop μ-loop Inv-loop6 μ-loop6 Inv-loop5 μ-loop5
-loop-holds c = let e = empty-few _ (c .new .ensures) in (e .0, walk-begins (push _) _ _ _ _ _ _ _ ∙ ap (allPast (push _) _ _ _ _ _ _) (e .1))
+loop-holds c =
+    let given = c .before .before .before .before .before .before .args in
+    let e = empty-few _ (c .new .ensures) in
+    (e .0, not-asked (given .cells .now) (given .w) (given .r) (c .before .reach-in .result) _ _ refl, walk-begins (push _) _ _ _ _ _ _ _ ∙ ap (allPast (push _) _ _ _ _ _ _) (e .1))
 
 lines-at-requires :
     tie.Need-lines-at-requires Inv-loop4 μ-loop4 Inv-loop3 μ-loop3 Inv-loop2 μ-loop2 Inv-loop μ-loop Inv-loop6 μ-loop6 Inv-loop5 μ-loop5
-lines-at-requires c κs = search needs
+lines-at-requires c κs = c .before .loop .inv .1
 
 loop2-holds : tie.Need-loop2-holds Inv-loop4 μ-loop4 Inv-loop3 μ-loop3 Inv-loop2 μ-loop2 Inv-loop μ-loop Inv-loop6 μ-loop6 Inv-loop5 μ-loop5
-loop2-holds c = let i = c .before .before .loop .inv in (i .0, sym (layer-begins (push _) _ _ _ _ _ _ _ _ (c .before .loop-test .taken)) ∙ i .1)
+loop2-holds c = let i = c .before .before .loop .inv in (i .0, sym (layer-begins (push _) _ _ _ _ _ _ _ _ (c .before .loop-test .taken)) ∙ i .2)
 
 loop3-holds : tie.Need-loop3-holds Inv-loop4 μ-loop4 Inv-loop3 μ-loop3 Inv-loop2 μ-loop2 Inv-loop μ-loop Inv-loop6 μ-loop6 Inv-loop5 μ-loop5
-loop3-holds c = let i = c .before .loop2 .inv in (i .0, sym (line-begins (push _) _ _ _ _ _ _ _ _ _ (on-the-way _ _ _ _ _ _ _ (c .before .before .before .before .before .before .reach-in .ensures) (c .before .before .lines-at .ensures) (c .loop2-test .taken))) ∙ i .1)
+loop3-holds c = let i = c .before .loop2 .inv in (i .0, sym (line-begins (push _) _ _ _ _ _ _ _ _ _ (on-the-way _ _ _ _ _ _ _ (c .before .before .before .before .before .before .reach-in .ensures) (c .before .before .lines-at .ensures .0) (c .loop2-test .taken))) ∙ i .1)
 
 place-requires : tie.Need-place-requires Inv-loop4 μ-loop4 Inv-loop3 μ-loop3 Inv-loop2 μ-loop2 Inv-loop μ-loop Inv-loop6 μ-loop6 Inv-loop5 μ-loop5
 place-requires c κs = search needs
@@ -177,7 +181,7 @@ loop3-again : tie.Need-loop3-again Inv-loop4 μ-loop4 Inv-loop3 μ-loop3 Inv-loo
 loop3-again c = let i = c .before .loop4 .inv in (i .0, sym (boxes-end (push _) _ _ _ _ _ _ (c .loop4-test .left)) ∙ i .1)
 
 add-x : tie.Need-add-x Inv-loop4 μ-loop4 Inv-loop3 μ-loop3 Inv-loop2 μ-loop2 Inv-loop μ-loop Inv-loop6 μ-loop6 Inv-loop5 μ-loop5
-add-x c = let h : c .before .before .before .loop2 .x < c .before .before .before .before .lines-at .result = c .before .before .loop2-test .taken in omega arith
+add-x c = let h : c .before .before .before .loop2 .x < c .before .before .before .before .lines-at .result .lines = c .before .before .loop2-test .taken in omega arith
 
 loop2-less : tie.Need-loop2-less Inv-loop4 μ-loop4 Inv-loop3 μ-loop3 Inv-loop2 μ-loop2 Inv-loop μ-loop Inv-loop6 μ-loop6 Inv-loop5 μ-loop5
 loop2-less c = omega arith
@@ -192,7 +196,7 @@ loop-less : tie.Need-loop-less Inv-loop4 μ-loop4 Inv-loop3 μ-loop3 Inv-loop2 �
 loop-less c = omega arith
 
 loop-again : tie.Need-loop-again Inv-loop4 μ-loop4 Inv-loop3 μ-loop3 Inv-loop2 μ-loop2 Inv-loop μ-loop Inv-loop6 μ-loop6 Inv-loop5 μ-loop5
-loop-again c = let i = c .before .loop2 .inv in (i .0, sym (lines-end (push _) _ _ _ _ _ _ _ _ _ (at-the-end _ _ _ _ _ _ _ (c .before .before .before .before .before .before .reach-in .ensures) (c .before .before .lines-at .ensures) (c .loop2-test .left))) ∙ i .1)
+loop-again c = let i = c .before .loop2 .inv in (i .0, later _ _ _ _ _ _ (c .before .before .lines-at .ensures .1), sym (lines-end (push _) _ _ _ _ _ _ _ _ _ (at-the-end _ _ _ _ _ _ _ (c .before .before .before .before .before .before .reach-in .ensures) (c .before .before .lines-at .ensures .0) (c .loop2-test .left))) ∙ i .1)
 
 begun-requires : tie.Need-begun-requires Inv-loop4 μ-loop4 Inv-loop3 μ-loop3 Inv-loop2 μ-loop2 Inv-loop μ-loop Inv-loop6 μ-loop6 Inv-loop5 μ-loop5
 begun-requires c κs = search needs
@@ -211,11 +215,11 @@ loop6-holds : tie.Need-loop6-holds Inv-loop4 μ-loop4 Inv-loop3 μ-loop3 Inv-loo
 loop6-holds c = refl
 
 mul-b-2 : tie.Need-mul-b-2 Inv-loop4 μ-loop4 Inv-loop3 μ-loop3 Inv-loop2 μ-loop2 Inv-loop μ-loop Inv-loop6 μ-loop6 Inv-loop5 μ-loop5
-mul-b-2 c = let i = c .before .before .before .before .before .before .before .before .before .before .loop .inv .0 .counts in let j = c .before .before .before .before .before .before .before .before .before .before .loop .inv .0 .whole in omega arith
+mul-b-2 c = let i = c .before .before .before .before .before .before .before .before .before .loop .inv .0 .counts in let j = c .before .before .before .before .before .before .before .before .before .loop .inv .0 .whole in omega arith
 
 element-copy-out-b :
     tie.Need-element-copy-out-b Inv-loop4 μ-loop4 Inv-loop3 μ-loop3 Inv-loop2 μ-loop2 Inv-loop μ-loop Inv-loop6 μ-loop6 Inv-loop5 μ-loop5
-element-copy-out-b c = let i = c .before .before .before .before .before .before .before .before .before .before .loop .inv .0 .counts in let j = c .before .before .before .before .before .before .before .before .before .before .loop .inv .0 .whole in omega arith
+element-copy-out-b c = let i = c .before .before .before .before .before .before .before .before .before .loop .inv .0 .counts in let j = c .before .before .before .before .before .before .before .before .before .loop .inv .0 .whole in omega arith
 
 clip-along-requires :
     tie.Need-clip-along-requires Inv-loop4 μ-loop4 Inv-loop3 μ-loop3 Inv-loop2 μ-loop2 Inv-loop μ-loop Inv-loop6 μ-loop6 Inv-loop5 μ-loop5
@@ -231,7 +235,7 @@ loop6-again : tie.Need-loop6-again Inv-loop4 μ-loop4 Inv-loop3 μ-loop3 Inv-loo
 loop6-again c =
     let at-loop6-test = c .before .before in
     let at-loop6 = at-loop6-test .before in
-    let at-axis-of = at-loop6 .before .before .before .before in
+    let at-axis-of = at-loop6 .before .before .before in
     let at-loop5 = at-axis-of .before .before in
     let at-loop = at-loop5 .before .before .before in
     clip-turn (at-loop .loop .list .boxes) (at-loop .loop .list .count) few (at-loop .loop .inv .0 .whole) _ (at-loop6 .loop6 .i) (fully few _ _ (at-loop .loop .inv .0)) (clipAlong (at-axis-of .axis-of .result)) (at-loop5 .loop5 .s .now .aabb) _ (at-loop6 .loop6 .d) _ _ (at-loop6-test .loop6-test .taken) (c .clip-along .ensures) (at-loop6 .loop6 .inv)
@@ -252,12 +256,12 @@ returns-3 c =
     let at-loop6-test = at-gone .before in
     let at-loop6 = at-loop6-test .before in
     let at-wanted = at-loop6 .before in
-    let at-axis-of = at-wanted .before .before .before in
+    let at-axis-of = at-wanted .before .before in
     let at-loop5-test = at-axis-of .before in
     let at-loop5 = at-loop5-test .before in
     let at-loop-test = at-loop5 .before .before in
     let at-loop = at-loop-test .before in
-    moved _ _ _ _ _ _ _ _ _ _ (sym (layers-end (push _) _ _ _ _ _ _ _ _ (at-loop-test .loop-test .left)) ∙ at-loop .loop .inv .1) _ (pass-over _ _ (at-loop5 .loop5 .pass) (at-loop5 .loop5 .s) (at-next .next .result) _ (made (at-loop .loop .list .boxes) (at-loop .loop .list .count) few (at-loop .loop .inv .0 .whole) _ _ (fully few _ _ (at-loop .loop .inv .0)) _ (at-loop5 .loop5 .pass) (at-loop5 .loop5 .s) _ _ _ _ (at-loop6 .loop6 .d) (at-axis-of .axis-of .ensures) (at-wanted .wanted .ensures) (at-loop6-test .loop6-test .left) (at-loop6 .loop6 .inv) (at-gone .gone .ensures) (at-next .next .ensures)) (at-loop5-test .loop5-test .taken) (c .before .if3 .taken) (at-loop5 .loop5 .inv)) _ (c .ended .ensures)
+    moved _ _ _ _ _ _ _ _ _ _ (sym (layers-end (push _) _ _ _ _ _ _ _ _ (at-loop-test .loop-test .left)) ∙ at-loop .loop .inv .2) _ (pass-over _ _ (at-loop5 .loop5 .pass) (at-loop5 .loop5 .s) (at-next .next .result) _ (made (at-loop .loop .list .boxes) (at-loop .loop .list .count) few (at-loop .loop .inv .0 .whole) _ _ (fully few _ _ (at-loop .loop .inv .0)) _ (at-loop5 .loop5 .pass) (at-loop5 .loop5 .s) _ _ _ _ (at-loop6 .loop6 .d) (at-axis-of .axis-of .ensures) (at-wanted .wanted .ensures) (at-loop6-test .loop6-test .left) (at-loop6 .loop6 .inv) (at-gone .gone .ensures) (at-next .next .ensures)) (at-loop5-test .loop5-test .taken) (c .before .if3 .taken) (at-loop5 .loop5 .inv)) _ (c .ended .ensures)
 
 add-pass : tie.Need-add-pass Inv-loop4 μ-loop4 Inv-loop3 μ-loop3 Inv-loop2 μ-loop2 Inv-loop μ-loop Inv-loop6 μ-loop6 Inv-loop5 μ-loop5
 add-pass c = omega arith
@@ -271,7 +275,7 @@ loop5-again c =
     let at-loop6-test = at-gone .before in
     let at-loop6 = at-loop6-test .before in
     let at-wanted = at-loop6 .before in
-    let at-axis-of = at-wanted .before .before .before in
+    let at-axis-of = at-wanted .before .before in
     let at-loop5-test = at-axis-of .before in
     let at-loop5 = at-loop5-test .before in
     let at-loop = at-loop5 .before .before .before in
@@ -286,7 +290,7 @@ returns-4 c =
     let at-loop5 = c .before .before in
     let at-loop-test = at-loop5 .before .before in
     let at-loop = at-loop-test .before in
-    moved _ _ _ _ _ _ _ _ _ _ (sym (layers-end (push _) _ _ _ _ _ _ _ _ (at-loop-test .loop-test .left)) ∙ at-loop .loop .inv .1) _ (passes-end _ _ (at-loop5 .loop5 .pass) (at-loop5 .loop5 .s) _ (c .before .loop5-test .left) (at-loop5 .loop5 .inv)) _ (c .ended2 .ensures)
+    moved _ _ _ _ _ _ _ _ _ _ (sym (layers-end (push _) _ _ _ _ _ _ _ _ (at-loop-test .loop-test .left)) ∙ at-loop .loop .inv .2) _ (passes-end _ _ (at-loop5 .loop5 .pass) (at-loop5 .loop5 .s) _ (c .before .loop5-test .left) (at-loop5 .loop5 .inv)) _ (c .ended2 .ensures)
 
 pub swept-through-spec : {M : Type 1} → statement M
 swept-through-spec =
