@@ -1,9 +1,9 @@
--- `flow::sides::normalised_flow` meets its contract. Assumes nothing.
-use Rattle.flow.specs.Flow.{normalisedFlow}
+-- `flow_sides::normalised_flow` meets its contract. Assumes nothing.
+use Rattle.flow_sides.specs.Sides.{normalisedFlow}
 use Rattle.base.specs.Choose.{choose}
 use borrow.Author.Needs.{needs}
-use Rattle.flow.proofs.sides.normalised_flow.Statement.{statement}
-use Rattle.flow.proofs.sides.normalised_flow.Tie as tie
+use Rattle.flow_sides.proofs.normalised_flow.Statement.{statement}
+use Rattle.flow_sides.proofs.normalised_flow.Tie as tie
 
 normalize-or-zero-requires : tie.Need-normalize-or-zero-requires
 normalize-or-zero-requires c κs = search needs

@@ -1,13 +1,13 @@
--- `flow::sides::difference_to` meets its contract. Assumes nothing.
+-- `flow_sides::difference_to` meets its contract. Assumes nothing.
 use lib.IntN.{pos, _-ℤ_}
 use mir.Syntax.{w32}
 use mir.ValLaws.{toZ-ofZ, toZ-pos}
 use native.Mathlib.Omega.{arith}
-use Rattle.flow.specs.Flow.{differenceTo}
-use Rattle.flow.proofs.Gaps.{gap-fits}
+use Rattle.flow_sides.specs.Sides.{differenceTo}
+use Rattle.flow_sides.proofs.Gaps.{gap-fits}
 use borrow.Author.Needs.{needs}
-use Rattle.flow.proofs.sides.difference_to.Statement.{statement}
-use Rattle.flow.proofs.sides.difference_to.Tie as tie
+use Rattle.flow_sides.proofs.difference_to.Statement.{statement}
+use Rattle.flow_sides.proofs.difference_to.Tie as tie
 
 cast-a : tie.Need-cast-a
 cast-a c = search needs

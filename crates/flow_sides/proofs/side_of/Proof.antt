@@ -1,9 +1,9 @@
--- `flow::sides::side_of` meets its contract. Assumes nothing.
-use Rattle.flow.specs.Flow.{sideOf}
+-- `flow_sides::side_of` meets its contract. Assumes nothing.
+use Rattle.flow_sides.specs.Sides.{sideOf}
 use Rattle.base.specs.Choose.{choose}
 use borrow.Author.Tests.{eq-eqb, ne-eqb}
-use Rattle.flow.proofs.sides.side_of.Statement.{statement}
-use Rattle.flow.proofs.sides.side_of.Tie as tie
+use Rattle.flow_sides.proofs.side_of.Statement.{statement}
+use Rattle.flow_sides.proofs.side_of.Tie as tie
 
 returns : tie.Need-returns
 unfolding sideOf choose

@@ -1,8 +1,8 @@
--- `flow::sides::unit_to` meets its contract. Assumes nothing.
-use Rattle.flow.specs.Flow.{unitTo}
+-- `flow_sides::step_above` meets its contract. Assumes nothing.
+use Rattle.flow_sides.specs.Sides.{stepAbove}
 use borrow.Author.Needs.{needs}
-use Rattle.flow.proofs.sides.unit_to.Statement.{statement}
-use Rattle.flow.proofs.sides.unit_to.Tie as tie
+use Rattle.flow_sides.proofs.step_above.Statement.{statement}
+use Rattle.flow_sides.proofs.step_above.Tie as tie
 
 enum-told : tie.Need-enum-told
 enum-told c = search needs
@@ -17,22 +17,22 @@ enum-told-4 : tie.Need-enum-told-4
 enum-told-4 c = search needs
 
 returns : tie.Need-returns
-unfolding unitTo
+unfolding stepAbove
 returns c = rw (c .enum-told .given .1)
 
 returns-2 : tie.Need-returns-2
-unfolding unitTo
+unfolding stepAbove
 returns-2 c = rw (c .enum-told2 .given .1)
 
 returns-3 : tie.Need-returns-3
-unfolding unitTo
+unfolding stepAbove
 returns-3 c = rw (c .enum-told3 .given .1)
 
 returns-4 : tie.Need-returns-4
-unfolding unitTo
+unfolding stepAbove
 returns-4 c = rw (c .enum-told4 .given .1)
 
-pub unit-to-spec : {M : Type 1} → statement M
-unit-to-spec =
+pub step-above-spec : {M : Type 1} → statement M
+step-above-spec =
     tie.close
     (tie.spec enum-told enum-told-2 enum-told-3 enum-told-4 returns returns-2 returns-3 returns-4)

@@ -1,10 +1,10 @@
--- `flow::sides::effective_depth` meets its contract. Assumes nothing.
-use Rattle.flow.specs.Flow.{effectiveDepth}
+-- `flow_sides::effective_depth` meets its contract. Assumes nothing.
+use Rattle.flow_sides.specs.Sides.{effectiveDepth}
 use Rattle.base.specs.Choose.{choose}
 use borrow.Author.Tests.{le-leb, lt-leb}
 use borrow.Author.Needs.{needs}
-use Rattle.flow.proofs.sides.effective_depth.Statement.{statement}
-use Rattle.flow.proofs.sides.effective_depth.Tie as tie
+use Rattle.flow_sides.proofs.effective_depth.Statement.{statement}
+use Rattle.flow_sides.proofs.effective_depth.Tie as tie
 
 returns : tie.Need-returns
 unfolding effectiveDepth choose

@@ -2,7 +2,7 @@
 use mathlib.Core.Bool.{false}
 use mathlib.Core.Path.{_≡_, refl}
 use lib.Ieee.{binary64, ofBits, round}
-use Rattle.flow.specs.Flow.{six64}
+use Rattle.flow_sides.specs.Sides.{six64}
 
 pub six-decimal : six64 ≡ round binary64 false 6 1
 unfolding ofBits round

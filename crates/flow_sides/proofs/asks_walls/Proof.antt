@@ -1,7 +1,7 @@
--- `flow::sides::asks_walls` meets its contract. Assumes nothing.
+-- `flow_sides::asks_walls` meets its contract. Assumes nothing.
 use borrow.Author.Tests.{le-leb, lt-leb}
-use Rattle.flow.proofs.sides.asks_walls.Statement.{statement}
-use Rattle.flow.proofs.sides.asks_walls.Tie as tie
+use Rattle.flow_sides.proofs.asks_walls.Statement.{statement}
+use Rattle.flow_sides.proofs.asks_walls.Tie as tie
 
 returns : tie.Need-returns
 returns c = rw (le-leb _ _ (c .if1 .taken))

@@ -1,8 +1,8 @@
--- `flow::sides::flow_by` meets its contract. Assumes nothing.
-use Rattle.flow.specs.Flow.{flowedBy}
+-- `flow_sides::flow_by` meets its contract. Assumes nothing.
+use Rattle.flow_sides.specs.Sides.{flowedBy}
 use borrow.Author.Needs.{needs}
-use Rattle.flow.proofs.sides.flow_by.Statement.{statement}
-use Rattle.flow.proofs.sides.flow_by.Tie as tie
+use Rattle.flow_sides.proofs.flow_by.Statement.{statement}
+use Rattle.flow_sides.proofs.flow_by.Tie as tie
 
 enum-known-gap : tie.Need-enum-known-gap
 enum-known-gap c = search needs

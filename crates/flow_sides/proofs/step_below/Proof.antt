@@ -1,8 +1,8 @@
--- `flow::sides::step_below` meets its contract. Assumes nothing.
-use Rattle.flow.specs.Flow.{stepBelow}
+-- `flow_sides::step_below` meets its contract. Assumes nothing.
+use Rattle.flow_sides.specs.Sides.{stepBelow}
 use borrow.Author.Needs.{needs}
-use Rattle.flow.proofs.sides.step_below.Statement.{statement}
-use Rattle.flow.proofs.sides.step_below.Tie as tie
+use Rattle.flow_sides.proofs.step_below.Statement.{statement}
+use Rattle.flow_sides.proofs.step_below.Tie as tie
 
 enum-told : tie.Need-enum-told
 enum-told c = search needs
