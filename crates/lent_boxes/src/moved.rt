@@ -37,13 +37,13 @@ pub fn moved_over(numbers: &[f64], n: usize, q: Request) -> MoveResult
     requires { ⌜ n * 6 ≤ length (now numbers) ⌝ }
     ensures { λ r. ⌜ r ≡ moveOver (boxesIn (now (numbers .entry)) n) (q .aabb) (q .delta) (q .step) (q .ground) ⌝ }
 {
-    let mut s = sweeps::begun(q);
+    let mut s = attempts::begun(q);
     let mut pass = 0u32;
     while pass < 7 {
         let axis = sweeps::axis_of(pass);
         let now = s.now;
         let mover = now.aabb;
-        let mut d = sweeps::wanted(pass, axis, q, now);
+        let mut d = attempts::wanted(pass, axis, q, now);
         let mut i = 0usize;
         while i < n {
             let b = box_at(numbers, i * 6);
@@ -51,7 +51,7 @@ pub fn moved_over(numbers: &[f64], n: usize, q: Request) -> MoveResult
             i += 1;
         }
         let first = s.first;
-        s = sweeps::next(pass, q, first, sweeps::gone(pass, axis, now, d));
+        s = attempts::next(pass, q, first, attempts::gone(pass, axis, now, d));
         if s.over {
             return sweeps::ended(q, s);
         }

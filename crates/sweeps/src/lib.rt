@@ -6,12 +6,9 @@ pub use list::cap_of;
 pub use list::counted;
 pub use list::is_cap;
 pub use passes::axis_of;
-pub use passes::begun;
 pub use passes::clip_along;
 pub use passes::ended;
-pub use passes::gone;
-pub use passes::next;
-pub use passes::wanted;
+pub use passes::stopped_falling;
 use boxes::Aabb;
 use boxes::Vec3;
 

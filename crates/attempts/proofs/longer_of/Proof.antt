@@ -1,8 +1,8 @@
--- `sweeps::passes::longer_of` meets its contract. Assumes nothing.
+-- `attempts::longer_of` meets its contract. Assumes nothing.
 use Rattle.base.specs.Choose.{choose}
 use borrow.Author.Needs.{needs}
-use Rattle.sweeps.proofs.passes.longer_of.Statement.{statement}
-use Rattle.sweeps.proofs.passes.longer_of.Tie as tie
+use Rattle.attempts.proofs.longer_of.Statement.{statement}
+use Rattle.attempts.proofs.longer_of.Tie as tie
 
 flat-square-requires : tie.Need-flat-square-requires
 flat-square-requires c κs = search needs

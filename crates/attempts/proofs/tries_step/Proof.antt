@@ -1,8 +1,8 @@
--- `sweeps::passes::tries_step` meets its contract. Assumes nothing.
+-- `attempts::tries_step` meets its contract. Assumes nothing.
 use Rattle.base.specs.Choose.{choose}
 use borrow.Author.Needs.{needs}
-use Rattle.sweeps.proofs.passes.tries_step.Statement.{statement}
-use Rattle.sweeps.proofs.passes.tries_step.Tie as tie
+use Rattle.attempts.proofs.tries_step.Statement.{statement}
+use Rattle.attempts.proofs.tries_step.Tie as tie
 
 blocked-horizontally-requires : tie.Need-blocked-horizontally-requires
 blocked-horizontally-requires c κs = search needs

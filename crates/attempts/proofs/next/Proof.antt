@@ -1,10 +1,10 @@
--- `sweeps::passes::next` meets its contract. Assumes nothing.
+-- `attempts::next` meets its contract. Assumes nothing.
 use Rattle.sweeps.specs.Passes.{nextSweep}
 use Rattle.base.specs.Choose.{choose}
 use borrow.Author.Tests.{eq-eqb, ne-eqb}
 use borrow.Author.Needs.{needs}
-use Rattle.sweeps.proofs.passes.next.Statement.{statement}
-use Rattle.sweeps.proofs.passes.next.Tie as tie
+use Rattle.attempts.proofs.next.Statement.{statement}
+use Rattle.attempts.proofs.next.Tie as tie
 
 tries-step-requires : tie.Need-tries-step-requires
 tries-step-requires c κs = search needs

@@ -1,10 +1,10 @@
--- `sweeps::passes::gone` meets its contract. Assumes nothing.
+-- `attempts::gone` meets its contract. Assumes nothing.
 use Rattle.sweeps.specs.Passes.{goneOf}
 use Rattle.base.specs.Choose.{choose}
 use borrow.Author.Tests.{eq-eqb, le-ltb, lt-ltb, ne-eqb}
 use borrow.Author.Needs.{needs}
-use Rattle.sweeps.proofs.passes.gone.Statement.{statement}
-use Rattle.sweeps.proofs.passes.gone.Tie as tie
+use Rattle.attempts.proofs.gone.Statement.{statement}
+use Rattle.attempts.proofs.gone.Tie as tie
 
 new-requires : tie.Need-new-requires
 new-requires c κs = search needs

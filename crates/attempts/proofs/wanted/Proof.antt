@@ -1,9 +1,9 @@
--- `sweeps::passes::wanted` meets its contract. Assumes nothing.
+-- `attempts::wanted` meets its contract. Assumes nothing.
 use Rattle.sweeps.specs.Passes.{wantedOf}
 use Rattle.base.specs.Choose.{choose}
 use borrow.Author.Tests.{eq-eqb, le-ltb, lt-ltb, ne-eqb}
-use Rattle.sweeps.proofs.passes.wanted.Statement.{statement}
-use Rattle.sweeps.proofs.passes.wanted.Tie as tie
+use Rattle.attempts.proofs.wanted.Statement.{statement}
+use Rattle.attempts.proofs.wanted.Tie as tie
 
 returns : tie.Need-returns
 unfolding wantedOf choose

@@ -1,7 +1,7 @@
--- `sweeps::passes::blocked_horizontally` meets its contract. Assumes nothing.
+-- `attempts::blocked_horizontally` meets its contract. Assumes nothing.
 use Rattle.base.specs.Choose.{choose}
-use Rattle.sweeps.proofs.passes.blocked_horizontally.Statement.{statement}
-use Rattle.sweeps.proofs.passes.blocked_horizontally.Tie as tie
+use Rattle.attempts.proofs.blocked_horizontally.Statement.{statement}
+use Rattle.attempts.proofs.blocked_horizontally.Tie as tie
 
 returns : tie.Need-returns
 unfolding choose
