@@ -1,4 +1,4 @@
-// The move of a box over boxes: its records. list.rt has the capped list, and passes.rt what a pass is made of.
+// The move of a box over boxes: its records. list.rt has the capped list, and passes.rt the axes and the end of a move.
 mod list;
 mod passes;
 

@@ -1,5 +1,5 @@
-// What a pass of a move is made of. It is public: the moves over a capped list, through a window and over lent boxes make their passes where
-// their boxes lie.
+// The axis of a pass, the clip along it, and what a move comes to whose passes are over. It is public: the moves over a capped list, through a
+// window and over lent boxes make their passes where their boxes lie.
 use boxes::Aabb;
 use crate::MoveResult;
 use crate::Request;

@@ -53,7 +53,7 @@ fn crowded(cap: u32, records: &[u32], shapes: &[f32], cells: &[u32], w: Window, 
     let mut room = [0.0; 3072];
     let c = collection::collect_into(&mut room, sweeps::cap_of(cap), records, shapes, cells, w, area, r);
     if c.refusal == 0 {
-        return AskedMove::To(lent_boxes::moved_over(&room, c.count, q));
+        return AskedMove::To(lent_moves::moved_over(&room, c.count, q));
     }
     AskedMove::Refused(c.refusal)
 }
@@ -69,7 +69,7 @@ fn many(cap: u32, records: &[u32], shapes: &[f32], cells: &[u32], w: Window, q: 
     let mut room = [0.0; 768];
     let c = collection::collect_into(&mut room, within(128, cap), records, shapes, cells, w, area, r);
     if c.refusal == 0 {
-        return AskedMove::To(lent_boxes::moved_over(&room, c.count, q));
+        return AskedMove::To(lent_moves::moved_over(&room, c.count, q));
     }
     if c.refusal == 6 {
         return crowded(cap, records, shapes, cells, w, q, area, r);

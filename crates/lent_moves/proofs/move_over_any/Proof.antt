@@ -1,13 +1,13 @@
--- `lent_boxes::moved::move_over_any` meets its contract. Assumes nothing.
+-- `lent_moves::move_over_any` meets its contract. Assumes nothing.
 use mathlib.Core.Path.{refl}
 use borrow.Author.Tests.{lt-ltb, le-ltb}
 use Rattle.base.specs.Choose.{choose}
 use Rattle.lent_numbers.specs.Written.{writtenBy}
-use Rattle.lent_boxes.specs.Moves.{moveAnyOf}
-use Rattle.lent_boxes.proofs.Answers.{goes}
+use Rattle.lent_moves.specs.Moves.{moveAnyOf}
+use Rattle.lent_moves.proofs.Answers.{goes}
 use borrow.Author.Needs.{needs}
-use Rattle.lent_boxes.proofs.moved.move_over_any.Statement.{statement}
-use Rattle.lent_boxes.proofs.moved.move_over_any.Tie as tie
+use Rattle.lent_moves.proofs.move_over_any.Statement.{statement}
+use Rattle.lent_moves.proofs.move_over_any.Tie as tie
 
 returns : tie.Need-returns
 unfolding moveAnyOf writtenBy choose

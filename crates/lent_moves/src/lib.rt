@@ -1,8 +1,7 @@
 // The move over boxes in lent numbers.
-use crate::box_at;
-use crate::lent_fit;
+use lent_boxes::box_at;
+use lent_boxes::list_refusal;
 use lent_numbers::put_result;
-use movers::mover_refusal;
 use movers::request_of;
 use sweeps::MoveResult;
 use sweeps::Request;
@@ -11,26 +10,8 @@ ghost use Prim.Native.Nat.{_*_, _≤_};
 ghost use lib.ListN.{length};
 ghost use Rattle.sweeps.specs.Move.{moveOver};
 ghost use Rattle.lent_numbers.specs.Written.{writtenBy};
 ghost use Rattle.lent_boxes.specs.Boxes.{boxesIn};
-ghost use Rattle.lent_boxes.specs.Moves.{listRefusal, moveListOf, moveAnyOf};
-
-// 3, 4, 11 and 6 in order, or 0.
-fn list_refusal(cap: u32, boxes: &[f64], mover: &[f64], step: f64, ground: u32, places: usize) -> u32
-    ensures { λ r. ⌜ r ≡ listRefusal cap (now (boxes .entry)) (now (mover .entry)) step ground places ⌝ }
-{
-    let sound = lent_fit(boxes);
-    let early = mover_refusal(cap, mover, step, ground, sound);
-    if early != 0 {
-        return early;
-    }
-    if places < 10 {
-        return 11;
-    }
-    if boxes.len() / 6 > sweeps::cap_of(cap) {
-        return 6;
-    }
-    0
-}
+ghost use Rattle.lent_moves.specs.Moves.{moveListOf, moveAnyOf};
 
 // The move over the first n boxes. They are read where they lie: a list of them would be made at each call, and copied where it is handed on.
 pub fn moved_over(numbers: &[f64], n: usize, q: Request) -> MoveResult

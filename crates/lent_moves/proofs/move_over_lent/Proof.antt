@@ -1,9 +1,9 @@
--- `lent_boxes::moved::move_over_lent` meets its contract. Assumes nothing.
-use Rattle.lent_boxes.specs.Moves.{moveListOf}
-use Rattle.lent_boxes.proofs.Answers.{turned-away, goes}
+-- `lent_moves::move_over_lent` meets its contract. Assumes nothing.
+use Rattle.lent_moves.specs.Moves.{moveListOf}
+use Rattle.lent_moves.proofs.Answers.{turned-away, goes}
 use borrow.Author.Needs.{needs}
-use Rattle.lent_boxes.proofs.moved.move_over_lent.Statement.{statement}
-use Rattle.lent_boxes.proofs.moved.move_over_lent.Tie as tie
+use Rattle.lent_moves.proofs.move_over_lent.Statement.{statement}
+use Rattle.lent_moves.proofs.move_over_lent.Tie as tie
 
 list-refusal-requires : tie.Need-list-refusal-requires
 list-refusal-requires c κs = search needs

@@ -1,10 +1,10 @@
--- `lent_boxes::moved::list_refusal` meets its contract. Assumes nothing.
+-- `lent_boxes::list_refusal` meets its contract. Assumes nothing.
 use Rattle.base.specs.Choose.{choose}
-use Rattle.lent_boxes.specs.Moves.{listRefusal}
+use Rattle.lent_boxes.specs.Refusals.{listRefusal}
 use borrow.Author.Tests.{eq-eqb, le-ltb, lt-ltb, ne-eqb}
 use borrow.Author.Needs.{needs}
-use Rattle.lent_boxes.proofs.moved.list_refusal.Statement.{statement}
-use Rattle.lent_boxes.proofs.moved.list_refusal.Tie as tie
+use Rattle.lent_boxes.proofs.list_refusal.Statement.{statement}
+use Rattle.lent_boxes.proofs.list_refusal.Tie as tie
 
 lent-fit-requires : tie.Need-lent-fit-requires
 lent-fit-requires c κs = search needs

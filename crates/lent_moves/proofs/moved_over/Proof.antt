@@ -1,4 +1,4 @@
--- `lent_boxes::moved::moved_over` meets its contract. Assumes nothing.
+-- `lent_moves::moved_over` meets its contract. Assumes nothing.
 use mathlib.Core.Path.{_≡_, ap, _∙_}
 use Prim.Native.Nat.{_-_}
 use native.Mathlib.Nat.{sub-zero}
@@ -9,10 +9,10 @@ use Rattle.sweeps.specs.Move.{clipAll}
 use Rattle.sweeps.specs.Passes.{clipAlong, passesFrom, sweepOf}
 use Rattle.sweeps.proofs.Shape.{moves}
 use Rattle.sweeps.proofs.Turns.{pass-is, pass-on, pass-over, passes-end}
 use Rattle.lent_boxes.specs.Boxes.{boxOf, boxesIn}
 use Rattle.lent_boxes.proofs.Lent.{clip-turn, clip-end}
-use Rattle.lent_boxes.proofs.moved.moved_over.Statement.{statement}
-use Rattle.lent_boxes.proofs.moved.moved_over.Tie as tie
+use Rattle.lent_moves.proofs.moved_over.Statement.{statement}
+use Rattle.lent_moves.proofs.moved_over.Tie as tie
 
 abbrev Inv-loop2 : tie.InvT-loop2
 Inv-loop2 numbers n q s pass axis now mover d₀ i₀ d i = clipAll (clipAlong axis) (listed (boxOf numbers) (n - i) i) mover d ≡ clipAll (clipAlong axis) (boxesIn numbers n) mover d₀

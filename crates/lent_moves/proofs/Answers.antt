@@ -18,9 +18,10 @@ use Rattle.boxes.specs.Limits.{isBox, isDelta, isStep, areBoxes}
 use Rattle.sweeps.specs.Move.{moveOver}
 use Rattle.sweeps.specs.Entry.{refusalOf, moveOverList}
 use Rattle.movers.specs.Movers.{vecAt, aabbAt, requestOf, moverRefusal}
 use Rattle.lent_boxes.specs.Boxes.{boxesOf, lentCount, lentFit}
 use Rattle.lent_numbers.specs.Written.{numbersOf, writtenBy}
-use Rattle.lent_boxes.specs.Moves.{listRefusal, movedOver, moveListOf}
+use Rattle.lent_boxes.specs.Refusals.{listRefusal}
+use Rattle.lent_moves.specs.Moves.{movedOver, moveListOf}
 
 module _ (boxes mover : List Float) (step : Float) (ground : ℕ) (out : List Float) (n : ℕ) where
   pub turned-away : (n ≡ 0 → ⊥) → (n ≡ movedOver boxes mover step ground n .refusal) × (out ≡ writtenBy out (movedOver boxes mover step ground n))
