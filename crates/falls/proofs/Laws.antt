@@ -22,7 +22,7 @@ use Rattle.step.specs.Answers.{stepAnswer, checkedAsked, stepEntry}
 use Rattle.step.proofs.Laws.{past-without}
 use Rattle.step.proofs.Summed.{asked-summed}
 use Rattle.fall_rule.specs.declared.Fall.{Fall}
-use Rattle.falls.specs.declared.FallingAnswer.{FallingAnswer}
+use Rattle.step_answers.specs.declared.FallingAnswer.{FallingAnswer}
 use Rattle.fall_rule.specs.Rule.{fallFits}
 use Rattle.falls.specs.Answers.{withFall, fallingChecked, fallingEntry, fallingSummed, HandedBack}
 

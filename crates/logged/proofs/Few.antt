@@ -13,7 +13,7 @@ use Rattle.base.specs.Loop.{listed}
 use Rattle.base.proofs.Every.{both}
 use Rattle.base.proofs.Listed.{listed-length}
 use Rattle.bodies.specs.declared.MotionNumbers.{MotionNumbers}
-use Rattle.falls.specs.declared.FallingAnswer.{FallingAnswer}
+use Rattle.step_answers.specs.declared.FallingAnswer.{FallingAnswer}
 use Rattle.files.specs.Files.{isScene}
 use Rattle.files.specs.Contents.{Contents, contentsIn}
 use Rattle.groups.specs.Summary.{isInside}

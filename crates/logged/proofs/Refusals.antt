@@ -21,7 +21,7 @@ use Rattle.lent.specs.Lent.{unless, lentRefusal}
 use Rattle.step.specs.Answers.{stepAnswer}
 use Rattle.step.proofs.Refuses.{Named, step-refusal}
 use Rattle.fall_rule.specs.declared.Fall.{Fall}
-use Rattle.falls.specs.declared.FallingAnswer.{FallingAnswer}
+use Rattle.step_answers.specs.declared.FallingAnswer.{FallingAnswer}
 use Rattle.fall_rule.specs.Rule.{fallFits}
 use Rattle.falls.specs.Answers.{withFall, fallingEntry}
 use Rattle.falls.proofs.Laws.{beside, unfit}

@@ -19,7 +19,7 @@ use Rattle.groups.specs.Groups.{groupCount}
 use Rattle.groups.specs.Summary.{hasSummary, buildRefusal, built, isInside, setRefusal, afterSet, CellSet, afterSets, agrees}
 use Rattle.groups.proofs.Sets.{Kept, built-there, built-fresh, many-sets}
 use Rattle.summary.specs.Calls.{plain}
-use Rattle.falls.specs.declared.FallingAnswer.{FallingAnswer}
+use Rattle.step_answers.specs.declared.FallingAnswer.{FallingAnswer}
 use Rattle.falls.specs.Answers.{fallingEntry}
 use Rattle.logs.specs.declared.CellSet.{CellSet as LogSet}
 use Rattle.logs.specs.declared.Event.{Event}

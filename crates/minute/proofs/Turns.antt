@@ -14,7 +14,7 @@ use Rattle.base.proofs.Fill.{stored-then}
 use Rattle.base.proofs.Stored.{stored-length}
 use Rattle.boxes.specs.declared.Vec3.{Vec3}
 use Rattle.groups.specs.Summary.{hasSummary, isInside, setIn, afterSet}
-use Rattle.falls.specs.declared.FallingAnswer.{FallingAnswer}
+use Rattle.step_answers.specs.declared.FallingAnswer.{FallingAnswer}
 use Rattle.logs.specs.declared.Event.{Event}
 use Rattle.logs.specs.declared.Event.the-variants as event
 use Rattle.minute.specs.declared.Minute.{Minute}

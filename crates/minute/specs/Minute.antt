@@ -17,7 +17,7 @@ use Rattle.groups.specs.Groups.{cellAt}
 use Rattle.groups.specs.Summary.{buildRefusal, built, setRefusal, afterSet}
 use Rattle.summary.specs.Calls.{plain}
 use Rattle.fall_rule.specs.declared.Fall.{Fall}
-use Rattle.falls.specs.declared.FallingAnswer.{FallingAnswer}
+use Rattle.step_answers.specs.declared.FallingAnswer.{FallingAnswer}
 use Rattle.fall_rule.specs.Rule.{fresh}
 use Rattle.falls.specs.Answers.{fallingChecked}
 use Rattle.logs.specs.declared.CellSet.{CellSet}

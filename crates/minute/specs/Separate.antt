@@ -13,7 +13,7 @@ use Rattle.window.specs.Window.{indexOf}
 use Rattle.groups.specs.Summary.{isInside, agrees}
 use Rattle.summary.specs.Calls.{plain}
 use Rattle.fall_rule.specs.declared.Fall.{Fall}
-use Rattle.falls.specs.declared.FallingAnswer.{FallingAnswer}
+use Rattle.step_answers.specs.declared.FallingAnswer.{FallingAnswer}
 use Rattle.falls.specs.Answers.{fallingEntry}
 use Rattle.logs.specs.declared.CellSet.{CellSet}
 use Rattle.logs.specs.declared.Event.{Event}

@@ -8,7 +8,7 @@ use lib.ListN.{length}
 use Rattle.base.specs.Choose.{choose}
 use Rattle.base.specs.Loop.{stored}
 use Rattle.boxes.specs.declared.Vec3.{Vec3}
-use Rattle.falls.specs.declared.FallingAnswer.{FallingAnswer}
+use Rattle.step_answers.specs.declared.FallingAnswer.{FallingAnswer}
 use Rattle.falls.specs.Answers.{fallingChecked}
 use Rattle.groups.specs.Summary.{setRefusal, afterSet}
 use Rattle.logs.specs.declared.Event.{Event}

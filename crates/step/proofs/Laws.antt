@@ -21,7 +21,7 @@ use Rattle.bodies.specs.Body.{bodyOf, motionOf}
 use Rattle.ticks.specs.declared.Tick.{Tick}
 use Rattle.ticks.specs.Step.{stepBodySensed, stepBodyPast}
 use Rattle.ticks.proofs.Past.{step-with, step-without}
-use Rattle.step.specs.declared.StepAnswer.{StepAnswer}
+use Rattle.step_answers.specs.declared.StepAnswer.{StepAnswer}
 use Rattle.step.specs.Answers.{stepAnswer, fitting, checkedAsked, pastAsked, checkedEntry, stepAsked, stepEntry}
 
 answer-hands-back : (given : MotionNumbers) (asked : Ask Tick) → 0 < stepAnswer given asked .refusal

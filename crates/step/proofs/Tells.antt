@@ -22,7 +22,7 @@ use Rattle.samples.specs.Samples.{isAsked}
 use Rattle.ticks.specs.declared.Tick.{Tick}
 use Rattle.ticks.specs.Step.{tellsSample}
 use Rattle.ticks.proofs.Tells.{Finds, nothing, either, tick-tells}
-use Rattle.step.specs.declared.StepAnswer.{StepAnswer}
+use Rattle.step_answers.specs.declared.StepAnswer.{StepAnswer}
 use Rattle.step.specs.Answers.{stepAnswer, stepAsked, stepEntry}
 use Rattle.step.proofs.Refuses.{Named, step-refuses}
 

@@ -1,15 +1,17 @@
-// An answer, written into its row; and how many rows there may be.
-use crate::ANSWER_WIDTH;
-use crate::wide;
-use falls::FallingAnswer;
+// Answers of the midnight run: each is written into its own row, one row behind the other in a lent slice; and how many rows there may be.
 use lent_numbers::put;
 use lent_steps::float_of;
 use lent_steps::put_falling;
+use night_rows::wide;
+use step_answers::FallingAnswer;
 ghost use mathlib.Core.Path.{_≡_};
 ghost use Prim.Native.Nat.{_≤_};
 ghost use lib.ListN.{length};
 ghost use Rattle.base.specs.Loop.{stored};
-ghost use Rattle.night_rows.specs.Rows.{answerNumbers, rowWritten, countRefusal};
+ghost use Rattle.answer_rows.specs.Answers.{answerNumbers, rowWritten, countRefusal};
+
+// How many numbers an answer has.
+const ANSWER_WIDTH: usize = 13;
 
 // The numbers of an answer, as `answerNumbers` has them.
 fn put_answer(row: &mut [f64], a: FallingAnswer)

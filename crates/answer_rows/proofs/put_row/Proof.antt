@@ -1,11 +1,11 @@
--- `night_rows::answer::put_row` meets its contract. Assumes nothing.
+-- `answer_rows::put_row` meets its contract. Assumes nothing.
 use mathlib.Core.Path.{sym}
 use Prim.Native.Nat.{_*_}
-use Rattle.night_rows.specs.Rows.{answerWidth, answerNumbers}
+use Rattle.answer_rows.specs.Answers.{answerWidth, answerNumbers}
 use Rattle.base.proofs.Stored.{put-behind, stored-beyond}
 use borrow.Author.Needs.{needs}
-use Rattle.night_rows.proofs.answer.put_row.Statement.{statement}
-use Rattle.night_rows.proofs.answer.put_row.Tie as tie
+use Rattle.answer_rows.proofs.put_row.Statement.{statement}
+use Rattle.answer_rows.proofs.put_row.Tie as tie
 
 wide-requires : tie.Need-wide-requires
 wide-requires c κs = search needs

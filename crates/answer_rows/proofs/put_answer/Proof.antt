@@ -1,4 +1,4 @@
--- `night_rows::answer::put_answer` meets its contract. Assumes nothing.
+-- `answer_rows::put_answer` meets its contract. Assumes nothing.
 use mathlib.Core.List.{List}
 use mathlib.Core.Path.{ap, _∙_}
 use lib.Ieee.{Float}
@@ -7,8 +7,8 @@ use Rattle.base.specs.Loop.{stored}
 use Rattle.lent_steps.specs.Falling.{fallingNumbers}
 use Rattle.base.proofs.Stored.{put-behind}
 use borrow.Author.Needs.{needs}
-use Rattle.night_rows.proofs.answer.put_answer.Statement.{statement}
-use Rattle.night_rows.proofs.answer.put_answer.Tie as tie
+use Rattle.answer_rows.proofs.put_answer.Statement.{statement}
+use Rattle.answer_rows.proofs.put_answer.Tie as tie
 
 float-of-requires : tie.Need-float-of-requires
 float-of-requires c κs = search needs

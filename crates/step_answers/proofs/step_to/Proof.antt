@@ -1,7 +1,7 @@
--- `step::step_to` meets its contract. Assumes nothing.
+-- `step_answers::step_to` meets its contract. Assumes nothing.
 use borrow.Author.Needs.{needs}
-use Rattle.step.proofs.step_to.Statement.{statement}
-use Rattle.step.proofs.step_to.Tie as tie
+use Rattle.step_answers.proofs.step_to.Statement.{statement}
+use Rattle.step_answers.proofs.step_to.Tie as tie
 
 yes-number-requires : tie.Need-yes-number-requires
 yes-number-requires c κs = search needs

@@ -1,11 +1,11 @@
--- `falls::with_fall` meets its contract. Assumes nothing.
-use Rattle.falls.specs.Answers.{withFall}
+-- `step_answers::with_fall` meets its contract. Assumes nothing.
+use Rattle.step_answers.specs.Answers.{withFall}
 use Rattle.bodies.specs.Body.{isYes}
 use Rattle.base.specs.Choose.{choose}
 use borrow.Author.Tests.{eq-eqb, ne-eqb}
 use borrow.Author.Needs.{needs}
-use Rattle.falls.proofs.with_fall.Statement.{statement}
-use Rattle.falls.proofs.with_fall.Tie as tie
+use Rattle.step_answers.proofs.with_fall.Statement.{statement}
+use Rattle.step_answers.proofs.with_fall.Tie as tie
 
 fall-after-requires : tie.Need-fall-after-requires
 fall-after-requires c κs = search needs

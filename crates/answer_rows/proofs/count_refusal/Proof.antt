@@ -1,10 +1,10 @@
--- `night_rows::answer::count_refusal` meets its contract. Assumes nothing.
+-- `answer_rows::count_refusal` meets its contract. Assumes nothing.
 use borrow.Author.Tests.{lt-ltb, le-ltb}
 use Rattle.base.specs.Choose.{choose}
-use Rattle.night_rows.specs.Rows.{countRefusal}
+use Rattle.answer_rows.specs.Answers.{countRefusal}
 use borrow.Author.Needs.{needs}
-use Rattle.night_rows.proofs.answer.count_refusal.Statement.{statement}
-use Rattle.night_rows.proofs.answer.count_refusal.Tie as tie
+use Rattle.answer_rows.proofs.count_refusal.Statement.{statement}
+use Rattle.answer_rows.proofs.count_refusal.Tie as tie
 
 returns : tie.Need-returns
 unfolding countRefusal choose

@@ -1,7 +1,7 @@
--- `step::friction_by` meets its contract. Assumes nothing.
+-- `step_answers::friction_by` meets its contract. Assumes nothing.
 use borrow.Author.Needs.{needs}
-use Rattle.step.proofs.friction_by.Statement.{statement}
-use Rattle.step.proofs.friction_by.Tie as tie
+use Rattle.step_answers.proofs.friction_by.Statement.{statement}
+use Rattle.step_answers.proofs.friction_by.Tie as tie
 
 sample-or-requires : tie.Need-sample-or-requires
 sample-or-requires c κs = search needs
