@@ -24,7 +24,7 @@ use Rattle.falls.specs.Answers.{fallingEntry}
 use Rattle.logs.specs.declared.CellSet.{CellSet as LogSet}
 use Rattle.logs.specs.declared.Event.{Event}
 use Rattle.logs.specs.declared.Event.the-variants as event
-use Rattle.minute.specs.Minute.{Lent, windowOf, State, older, stepOn, ended, stepped, ticked, setPlace, changed, eventOn, after, startRefusal, start, minute}
+use Rattle.minute_state.specs.Minute.{Lent, windowOf, State, older, stepOn, ended, stepped, ticked, setPlace, changed, eventOn, after, startRefusal, start, minute}
 use Rattle.minute.specs.Separate.{singleStep, setAlone, eventAlone, separately, Equals}
 use Rattle.minute.proofs.Plain.{plain-built, plain-set, lent-kept, tick-plain}
 

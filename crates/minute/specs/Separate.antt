@@ -18,7 +18,7 @@ use Rattle.falls.specs.Answers.{fallingEntry}
 use Rattle.logs.specs.declared.CellSet.{CellSet}
 use Rattle.logs.specs.declared.Event.{Event}
 use Rattle.logs.specs.declared.Event.the-variants as event
-use Rattle.minute.specs.Minute.{Lent, windowOf, State, older, ended, ticked, setPlace}
+use Rattle.minute_state.specs.Minute.{Lent, windowOf, State, older, ended, ticked, setPlace}
 
 -- the words of a state are those of cells and columns here
 abbrev pub singleStep : Lent → State → FallingAnswer
