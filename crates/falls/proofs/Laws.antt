@@ -17,7 +17,7 @@ use Rattle.lent.specs.Lent.{unless, sound, lentRefusal}
 use Rattle.bodies.specs.declared.BodyNumbers.{BodyNumbers}
 use Rattle.bodies.specs.declared.Rules.{Rules}
 use Rattle.bodies.specs.declared.MotionNumbers.{MotionNumbers}
-use Rattle.ticks.specs.declared.Tick.{Tick}
+use Rattle.step_answers.specs.declared.Tick.{Tick}
 use Rattle.step.specs.Answers.{stepAnswer, checkedAsked, stepEntry}
 use Rattle.step.proofs.Laws.{past-without}
 use Rattle.step.proofs.Summed.{asked-summed}

@@ -13,7 +13,7 @@ use Rattle.summary.specs.Calls.{plain}
 use Rattle.bodies.specs.declared.BodyNumbers.{BodyNumbers}
 use Rattle.bodies.specs.declared.Rules.{Rules}
 use Rattle.bodies.specs.declared.MotionNumbers.{MotionNumbers}
-use Rattle.ticks.specs.declared.Tick.{Tick}
+use Rattle.step_answers.specs.declared.Tick.{Tick}
 use Rattle.step_answers.specs.declared.FallingAnswer.{FallingAnswer}
 use Rattle.step_answers.specs.Answers.{stepAnswer}
 pub use Rattle.step_answers.specs.Answers.{fallOver, refusedFalling}

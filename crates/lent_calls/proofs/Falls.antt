@@ -16,7 +16,7 @@ use Rattle.window.specs.declared.Window.{Window}
 use Rattle.lent.specs.Lent.{unless, sound}
 use Rattle.summary.specs.Calls.{plain, summed}
 use Rattle.window.specs.Numbers.{withAir}
-use Rattle.ticks.specs.declared.Tick.{Tick}
+use Rattle.step_answers.specs.declared.Tick.{Tick}
 use Rattle.step.specs.Answers.{stepAnswer}
 use Rattle.fall_rule.specs.declared.Fall.{Fall}
 use Rattle.step_answers.specs.declared.FallingAnswer.{FallingAnswer}

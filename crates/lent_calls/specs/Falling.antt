@@ -8,7 +8,7 @@ use Rattle.window.specs.declared.Window.{Window}
 use Rattle.lent.specs.Lent.{lentRefusal}
 use Rattle.base.specs.Ask.{Ask}
 use Rattle.summary.specs.Calls.{plain}
-use Rattle.ticks.specs.declared.Tick.{Tick}
+use Rattle.step_answers.specs.declared.Tick.{Tick}
 use Rattle.step.specs.Answers.{stepAnswer}
 use Rattle.fall_rule.specs.declared.Fall.{Fall}
 use Rattle.step_answers.specs.declared.FallingAnswer.{FallingAnswer}

@@ -17,7 +17,7 @@ use Rattle.window.specs.declared.Window.{Window}
 use Rattle.window.specs.Window.{windowFits, windowRefusal}
 use Rattle.lent.specs.Lent.{unless, lentRefusal}
 use Rattle.bodies.specs.declared.MotionNumbers.{MotionNumbers}
-use Rattle.ticks.specs.declared.Tick.{Tick}
+use Rattle.step_answers.specs.declared.Tick.{Tick}
 use Rattle.step.specs.Answers.{stepAnswer, pastAsked}
 use Rattle.fall_rule.specs.declared.Fall.{Fall}
 use Rattle.step_answers.specs.declared.FallingAnswer.{FallingAnswer}

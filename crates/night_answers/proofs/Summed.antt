@@ -21,7 +21,7 @@ use Rattle.groups.specs.Summary.{wordsBefore, hasSummary, agrees, summaryRefusa
 use Rattle.groups.proofs.Sets.{Has, has}
 use Rattle.summary.specs.Calls.{plain}
 use Rattle.bodies.specs.Limits.{numberRefusal}
-use Rattle.ticks.specs.declared.Tick.{Tick}
+use Rattle.step_answers.specs.declared.Tick.{Tick}
 use Rattle.step.specs.Answers.{stepAnswer, checkedAsked, fitting, summedAsked}
 use Rattle.step.proofs.Summed.{past-plain}
 use Rattle.step_answers.specs.declared.FallingAnswer.{FallingAnswer}

@@ -34,7 +34,7 @@ use Rattle.drags.specs.declared.Support.{Support}
 use Rattle.drags.specs.Drags.{sunk, applyLivingDrag, keptAfter, pulled}
 use Rattle.samples.specs.Samples.{supportingFriction, livingSample, livingSupport, groundSupport, supportAfter}
 use Rattle.through.specs.Through.{moveAabb}
-use Rattle.ticks.specs.declared.Tick.{Tick}
+use Rattle.step_answers.specs.declared.Tick.{Tick}
 use Rattle.ticks.specs.Step.{tickAfter, afterMove, moveOnBy, tickBegins, senses, stepBodyBy, stepBodySensed}
 use Rattle.step_answers.specs.declared.StepAnswer.{StepAnswer}
 use Rattle.step.specs.Answers.{stepAnswer, fitting, checkedAsked, stepEntry, summedAsked, stepSummed}

@@ -16,7 +16,7 @@ use Rattle.summary.specs.Calls.{plain, summed}
 use Rattle.bodies.specs.declared.BodyNumbers.{BodyNumbers}
 use Rattle.bodies.specs.declared.Rules.{Rules}
 use Rattle.bodies.specs.declared.MotionNumbers.{MotionNumbers}
-use Rattle.ticks.specs.declared.Tick.{Tick}
+use Rattle.step_answers.specs.declared.Tick.{Tick}
 use Rattle.step_answers.specs.declared.StepAnswer.{StepAnswer}
 use Rattle.step_answers.specs.declared.FrictionAnswer.{FrictionAnswer}
 pub use Rattle.step_answers.specs.Answers.{stepAnswer, frictionAnswer}

@@ -11,9 +11,9 @@ use Rattle.bodies.specs.Body.{isYes, yesNumber}
 use Rattle.drags.specs.declared.Sample.{Sample}
 use Rattle.drags.specs.declared.Support.the-variants.{Asked, NotAsked}
 use Rattle.drags.specs.Cases.{sampleOr}
-use Rattle.ticks.specs.declared.Tick.{Tick}
 use Rattle.fall_rule.specs.declared.Fall.{Fall}
 use Rattle.fall_rule.specs.Rule.{fallAfter}
+use Rattle.step_answers.specs.declared.Tick.{Tick}
 use Rattle.step_answers.specs.declared.StepAnswer.{StepAnswer}
 use Rattle.step_answers.specs.declared.FallingAnswer.{FallingAnswer}
 use Rattle.step_answers.specs.declared.FrictionAnswer.{FrictionAnswer}

@@ -1,4 +1,6 @@
-// What a host is handed of a step: its answer or its refusal, the same with a fall record beside it, and the friction under a living body.
+// What a step comes to, and what a host is handed of it: its answer or its refusal, the same with a fall record beside it, and the friction
+// under a living body.
+use bodies::Motion;
 use bodies::MotionNumbers;
 use bodies::yes_number;
 use boxes::Vec3;
@@ -7,10 +9,16 @@ use drags::Support;
 use fall_rule::Fall;
 use fall_rule::fall_after;
 use tables::LiquidKind;
-use ticks::Tick;
 ghost use mathlib.Core.Path.{_≡_};
 ghost use Rattle.base.specs.Ask.{refused, found};
 ghost use Rattle.step_answers.specs.Answers.{stepAnswer, withFall, refusedFalling, refusedFriction, frictionAnswer};
+
+// What a step comes to: the motion after it, the liquid that a living body travelled in, and the sample that it took.
+pub struct Tick {
+    pub motion: Motion,
+    pub liquid: LiquidKind,
+    pub support: Support,
+}
 
 // What a host is handed: refusal 0, the motion after the step, the liquid and the sample; or a refusal, the motion as given, none, and not asked.
 pub struct StepAnswer {
