@@ -89,8 +89,7 @@ fn swept_through(cap: u32, records: &[u32], shapes: &[f32], cells: &[u32], w: Wi
     let mut list = Few::new();
     for y in 0..r.y.count {
         layer = passing::lines_at(cells, w, r, over, y, layer);
-        let lines = layer.lines;
-        for x in 0..lines {
+        for x in 0..layer.lines {
             for z in 0..r.z.count {
                 let p = ranges::place(r, At { x, y, z });
                 let part = match solids::quick_part(records, cells, w, p) {

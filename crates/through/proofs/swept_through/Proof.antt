@@ -25,25 +25,25 @@ use Rattle.through.proofs.swept_through.Statement.{statement}
 use Rattle.through.proofs.swept_through.Tie as tie
 
 abbrev Inv-loop4 : tie.InvT-loop4
-Inv-loop4 cap records shapes cells w q area r most over layer list₀ y lines x z p part shape n k₀ y-end z-end list k =
+Inv-loop4 cap records shapes cells w q area r most over layer list₀ y x z p part shape n k₀ y-end x-end z-end list k =
     Room few (list .boxes) (list .count) × (boxesFrom (push (capOf cap)) area (cellsFrom (push (capOf cap)) (lookAt cells w) records shapes area r (passes cells w r) y x (z + 1)) (nthAabb (part .cube) shape p) n k (take (list .count) (list .boxes)) ≡ allPast (push (capOf cap)) (lookAt cells w) records shapes area r (passes cells w r) [])
 
 abbrev μ-loop4 : tie.MeasureT-loop4
-μ-loop4 cap records shapes cells w q area r most over layer list₀ y lines x z p part shape n k₀ y-end z-end list k = n - k
+μ-loop4 cap records shapes cells w q area r most over layer list₀ y x z p part shape n k₀ y-end x-end z-end list k = n - k
 
 abbrev Inv-loop3 : tie.InvT-loop3
-Inv-loop3 cap records shapes cells w q area r most over layer list₀ y lines x z₀ y-end z-end list z =
+Inv-loop3 cap records shapes cells w q area r most over layer list₀ y x z₀ y-end x-end z-end list z =
     Room few (list .boxes) (list .count) × (cellsFrom (push (capOf cap)) (lookAt cells w) records shapes area r (passes cells w r) y x z (take (list .count) (list .boxes)) ≡ allPast (push (capOf cap)) (lookAt cells w) records shapes area r (passes cells w r) [])
 
 abbrev μ-loop3 : tie.MeasureT-loop3
-μ-loop3 cap records shapes cells w q area r most over layer list₀ y lines x z₀ y-end z-end list z = z-end - z
+μ-loop3 cap records shapes cells w q area r most over layer list₀ y x z₀ y-end x-end z-end list z = z-end - z
 
 abbrev Inv-loop2 : tie.InvT-loop2
-Inv-loop2 cap records shapes cells w q area r most over layer list₀ y lines x₀ y-end list x =
+Inv-loop2 cap records shapes cells w q area r most over layer list₀ y x₀ y-end x-end list x =
     Room few (list .boxes) (list .count) × (linesFrom (push (capOf cap)) (lookAt cells w) records shapes area r (passes cells w r) y x (take (list .count) (list .boxes)) ≡ allPast (push (capOf cap)) (lookAt cells w) records shapes area r (passes cells w r) [])
 
 abbrev μ-loop2 : tie.MeasureT-loop2
-μ-loop2 cap records shapes cells w q area r most over layer list₀ y lines x₀ y-end list x = lines - x
+μ-loop2 cap records shapes cells w q area r most over layer list₀ y x₀ y-end x-end list x = x-end - x
 
 abbrev Inv-loop : tie.InvT-loop
 Inv-loop cap records shapes cells w q area r most over layer₀ list₀ y₀ y-end layer list y =
