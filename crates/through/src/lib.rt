@@ -116,11 +116,10 @@ fn swept_through(cap: u32, records: &[u32], shapes: &[f32], cells: &[u32], w: Wi
     for pass in 0..7u32 {
         let axis = sweeps::axis_of(pass);
         let now = s.now;
-        let mover = now.aabb;
         let mut d = attempts::wanted(pass, axis, q, now);
         for i in 0..list.count {
             let b = list.boxes[i];
-            d = sweeps::clip_along(axis, b, mover, d);
+            d = sweeps::clip_along(axis, b, now.aabb, d);
         }
         s = attempts::next(pass, q, s.first, attempts::gone(pass, axis, now, d));
         if s.over {

@@ -53,11 +53,11 @@ abbrev μ-loop : tie.MeasureT-loop
 μ-loop cap records shapes cells w q area r most over layer₀ list₀ y₀ y-end layer list y = y-end - y
 
 abbrev Inv-loop6 : tie.InvT-loop6
-Inv-loop6 cap records shapes cells q most list s pass axis now mover d₀ i₀ i-end d i =
-    clipAll (clipAlong axis) (drop i (take (list .count) (list .boxes))) mover d ≡ clipAll (clipAlong axis) (take (list .count) (list .boxes)) mover d₀
+Inv-loop6 cap records shapes cells q most list s pass axis now d₀ i₀ i-end d i =
+    clipAll (clipAlong axis) (drop i (take (list .count) (list .boxes))) (now .aabb) d ≡ clipAll (clipAlong axis) (take (list .count) (list .boxes)) (now .aabb) d₀
 
 abbrev μ-loop6 : tie.MeasureT-loop6
-μ-loop6 cap records shapes cells q most list s pass axis now mover d₀ i₀ i-end d i = i-end - i
+μ-loop6 cap records shapes cells q most list s pass axis now d₀ i₀ i-end d i = i-end - i
 
 abbrev Inv-loop5 : tie.InvT-loop5
 Inv-loop5 cap records shapes cells q most list s₀ pass₀ s pass =
@@ -215,11 +215,11 @@ loop6-holds : tie.Need-loop6-holds Inv-loop4 μ-loop4 Inv-loop3 μ-loop3 Inv-loo
 loop6-holds c = refl
 
 mul-b-2 : tie.Need-mul-b-2 Inv-loop4 μ-loop4 Inv-loop3 μ-loop3 Inv-loop2 μ-loop2 Inv-loop μ-loop Inv-loop6 μ-loop6 Inv-loop5 μ-loop5
-mul-b-2 c = let i = c .before .before .before .before .before .before .before .before .before .before .loop .inv .0 .counts in let j = c .before .before .before .before .before .before .before .before .before .before .loop .inv .0 .whole in omega arith
+mul-b-2 c = let i = c .before .before .before .before .before .before .before .before .before .loop .inv .0 .counts in let j = c .before .before .before .before .before .before .before .before .before .loop .inv .0 .whole in omega arith
 
 element-copy-out-b :
     tie.Need-element-copy-out-b Inv-loop4 μ-loop4 Inv-loop3 μ-loop3 Inv-loop2 μ-loop2 Inv-loop μ-loop Inv-loop6 μ-loop6 Inv-loop5 μ-loop5
-element-copy-out-b c = let i = c .before .before .before .before .before .before .before .before .before .before .loop .inv .0 .counts in let j = c .before .before .before .before .before .before .before .before .before .before .loop .inv .0 .whole in omega arith
+element-copy-out-b c = let i = c .before .before .before .before .before .before .before .before .before .loop .inv .0 .counts in let j = c .before .before .before .before .before .before .before .before .before .loop .inv .0 .whole in omega arith
 
 clip-along-requires :
     tie.Need-clip-along-requires Inv-loop4 μ-loop4 Inv-loop3 μ-loop3 Inv-loop2 μ-loop2 Inv-loop μ-loop Inv-loop6 μ-loop6 Inv-loop5 μ-loop5
@@ -235,7 +235,7 @@ loop6-again : tie.Need-loop6-again Inv-loop4 μ-loop4 Inv-loop3 μ-loop3 Inv-loo
 loop6-again c =
     let at-loop6-test = c .before .before in
     let at-loop6 = at-loop6-test .before in
-    let at-axis-of = at-loop6 .before .before .before .before in
+    let at-axis-of = at-loop6 .before .before .before in
     let at-loop5 = at-axis-of .before .before in
     let at-loop = at-loop5 .before .before .before in
     clip-turn (at-loop .loop .list .boxes) (at-loop .loop .list .count) few (at-loop .loop .inv .0 .whole) _ (at-loop6 .loop6 .i) (fully few _ _ (at-loop .loop .inv .0)) (clipAlong (at-axis-of .axis-of .result)) (at-loop5 .loop5 .s .now .aabb) _ (at-loop6 .loop6 .d) _ _ (at-loop6-test .loop6-test .taken) (c .clip-along .ensures) (at-loop6 .loop6 .inv)
@@ -256,7 +256,7 @@ returns-3 c =
     let at-loop6-test = at-gone .before in
     let at-loop6 = at-loop6-test .before in
     let at-wanted = at-loop6 .before in
-    let at-axis-of = at-wanted .before .before .before in
+    let at-axis-of = at-wanted .before .before in
     let at-loop5-test = at-axis-of .before in
     let at-loop5 = at-loop5-test .before in
     let at-loop-test = at-loop5 .before .before in
@@ -275,7 +275,7 @@ loop5-again c =
     let at-loop6-test = at-gone .before in
     let at-loop6 = at-loop6-test .before in
     let at-wanted = at-loop6 .before in
-    let at-axis-of = at-wanted .before .before .before in
+    let at-axis-of = at-wanted .before .before in
     let at-loop5-test = at-axis-of .before in
     let at-loop5 = at-loop5-test .before in
     let at-loop = at-loop5 .before .before .before in
