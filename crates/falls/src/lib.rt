@@ -8,6 +8,7 @@ use fall_rule::fall_fits;
 use lent::check_lent;
 use step_answers::FallingAnswer;
 use step_answers::refused_falling;
+use step_answers::unfit_record;
 use step_answers::with_fall;
 use window::Window;
 ghost use mathlib.Core.Path.{_≡_};
@@ -23,7 +24,7 @@ pub fn step_falling_checked(
         let a = view::checked_window(records, shapes, cells, w, rules, body, given, age);
         return with_fall(fall, given, a);
     }
-    refused_falling(3, given, fall)
+    unfit_record(given, fall)
 }
 
 // For hosts: one tick of a body with its fall record, 1 and 2 before all that.
@@ -52,7 +53,7 @@ pub fn step_falling_summed(
     let cells = summary::plain_words(words, w);
     let refusal = check_lent(records, shapes, cells, w);
     if refusal == 0 {
-        return refused_falling(3, given, fall);
+        return unfit_record(given, fall);
     }
     refused_falling(refusal, given, fall)
 }

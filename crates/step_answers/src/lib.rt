@@ -96,6 +96,13 @@ pub fn refused_falling(refusal: u32, given: MotionNumbers, fall: Fall) -> Fallin
     }
 }
 
+// A record that does not fit: 3, before the step.
+pub fn unfit_record(given: MotionNumbers, fall: Fall) -> FallingAnswer
+    ensures { λ r. ⌜ r ≡ refusedFalling 3 given fall ⌝ }
+{
+    refused_falling(3, given, fall)
+}
+
 // A step's answer, and the record after it.
 pub fn with_fall(fall: Fall, given: MotionNumbers, a: StepAnswer) -> FallingAnswer
     ensures { λ r. ⌜ r ≡ withFall fall given a ⌝ }
