@@ -2,7 +2,7 @@
 use bodies::MotionNumbers;
 use boxes::Vec3;
 use fall_rule::Fall;
-use falls::FallingAnswer;
+use step_answers::FallingAnswer;
 ghost use mathlib.Core.Path.{_≡_};
 ghost use mathlib.Core.List.{[]};
 ghost use Prim.Native.Nat.{_<_, _*_};
