@@ -5,7 +5,7 @@ use mathlib.Core.Path.{_≡_, refl, sym, ap, _∙_, subst}
 use lib.Dec.{T, eqb}
 use Rattle.base.specs.Choose.{choose}
 use Rattle.fall_rule.specs.declared.Fall.{Fall}
-use Rattle.falls.specs.declared.FallingAnswer.{FallingAnswer}
+use Rattle.step_answers.specs.declared.FallingAnswer.{FallingAnswer}
 use Rattle.fall_rule.specs.Rule.{fallFits, fresh}
 use Rattle.falls.specs.Answers.{fallOver, withFall}
 use Rattle.falls.specs.Moves.{Fallen, after, through, Call, played, stepOf, stepMove, movesOf}

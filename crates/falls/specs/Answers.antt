@@ -3,10 +3,8 @@ use mathlib.Core.Bool.{not}
 use mathlib.Core.List.{List}
 use mathlib.Core.Path.{_≡_}
 use Prim.Native.Nat.{ℕ}
-use lib.Dec.{eqb}
 use lib.Ieee.{Float}
-use Rattle.base.specs.Choose.{choose}
-use Rattle.base.specs.Ask.{Ask, refused}
+use Rattle.base.specs.Ask.{Ask}
 use Rattle.tables.specs.declared.LiquidKind.the-variants.{None}
 use Rattle.drags.specs.declared.Support.the-variants.{NotAsked}
 use Rattle.window.specs.declared.Window.{Window}
@@ -15,25 +13,14 @@ use Rattle.summary.specs.Calls.{plain}
 use Rattle.bodies.specs.declared.BodyNumbers.{BodyNumbers}
 use Rattle.bodies.specs.declared.Rules.{Rules}
 use Rattle.bodies.specs.declared.MotionNumbers.{MotionNumbers}
-use Rattle.bodies.specs.Body.{isYes}
-use Rattle.ticks.specs.declared.Tick.{Tick}
-use Rattle.step.specs.declared.StepAnswer.{StepAnswer}
-use Rattle.step.specs.Answers.{stepAnswer, checkedAsked, pastAsked, summedAsked}
+use Rattle.step_answers.specs.declared.Tick.{Tick}
+use Rattle.step_answers.specs.declared.FallingAnswer.{FallingAnswer}
+use Rattle.step_answers.specs.Answers.{stepAnswer}
+pub use Rattle.step_answers.specs.Answers.{fallOver, refusedFalling}
+unfoldable pub use Rattle.step_answers.specs.Answers.{withFall}
+use Rattle.step.specs.Answers.{checkedAsked, pastAsked, summedAsked}
 use Rattle.fall_rule.specs.declared.Fall.{Fall}
-use Rattle.falls.specs.declared.FallingAnswer.{FallingAnswer}
-use Rattle.fall_rule.specs.Rule.{fallAfter, fallFits}
-
--- the record after a step that was accepted: from the feet given to the feet answered, with the ground and the liquid that the step answers
-abbrev pub fallOver : Fall → MotionNumbers → StepAnswer → Fall
-fallOver fall given a = fallAfter fall (given .feet .y) (a .motion .feet .y) (isYes (a .motion .ground)) (a .liquid)
-
--- "a refused step hands the record back unchanged"
-unfoldable pub withFall : Fall → MotionNumbers → StepAnswer → FallingAnswer
-withFall fall given a = record { step = a; fall = choose (eqb (a .refusal) 0) (fallOver fall given a) fall }
-
--- what a refusal before the step hands back: position, velocity and ground flag as given, liquid none, no sample, and the record as given
-abbrev pub refusedFalling : ℕ → MotionNumbers → Fall → FallingAnswer
-refusedFalling n given fall = record { step = stepAnswer given (refused n); fall = fall }
+use Rattle.fall_rule.specs.Rule.{fallFits}
 
 -- the record's 3 is among the 3s: then the step's own 3, and 4, before any cell is asked for
 abbrev pub fallingAsked : List ℕ → List Float → List ℕ → Window → Rules → BodyNumbers → MotionNumbers → ℕ → Fall → Ask Tick

@@ -84,7 +84,7 @@ pub fn counts_within(file: &[u8]) -> Counted
         if states <= 4096 {
             if boxes <= 16384 {
                 let s = sizes_at(file, window_part(states as u16, boxes as u16));
-                if window::sizes_fit(s) {
+                if window_check::sizes_fit(s) {
                     return Counted::Are(Counts {
                         states: states as u16,
                         boxes: boxes as u16,

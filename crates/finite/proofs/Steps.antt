@@ -46,7 +46,7 @@ use Rattle.drags.specs.Constants.{defaultGrip, lift, waterViscosity, buoyancy, 
 use Rattle.drags.specs.Drags as drag
 use Rattle.samples.specs.Samples as sample
 use Rattle.ticks.specs.declared.Begun.{Begun}
-use Rattle.ticks.specs.declared.Tick.{Tick}
+use Rattle.step_answers.specs.declared.Tick.{Tick}
 use Rattle.ticks.specs.Step as tick
 use Rattle.ticks.proofs.Tells.{Finds, one, by, either, after}
 use Rattle.finite.specs.Finite.{farthestStep, fastestStep}

@@ -29,7 +29,7 @@ use Rattle.bodies.specs.declared.MotionNumbers.{MotionNumbers}
 use Rattle.bodies.specs.Body.{isYes, flapOf, bodyOf, motionOf}
 use Rattle.bodies.specs.Limits.{isExtent, isSmall, numbersFit, isPosition, isVelocity, motionFits, numberRefusal}
 use Rattle.bodies.proofs.Fits.{Measured, Ruled, fitted}
-use Rattle.ticks.specs.declared.Tick.{Tick}
+use Rattle.step_answers.specs.declared.Tick.{Tick}
 use Rattle.through.specs.Through.{moveAabb}
 use Rattle.ticks.specs.Step.{stepBodyBy, stepBodySensed, movePast, stepBodyPast}
 use Rattle.ticks.proofs.Refuses.{core-refuses, past-refuses}

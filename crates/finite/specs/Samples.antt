@@ -18,7 +18,7 @@ use Rattle.window.specs.declared.Window.{Window}
 use Rattle.bodies.specs.declared.BodyNumbers.{BodyNumbers}
 use Rattle.bodies.specs.declared.Rules.{Rules}
 use Rattle.bodies.specs.declared.MotionNumbers.{MotionNumbers}
-use Rattle.step.specs.declared.StepAnswer.{StepAnswer}
+use Rattle.step_answers.specs.declared.StepAnswer.{StepAnswer}
 use Rattle.step.specs.Answers.{checkedEntry, stepEntry}
 use Rattle.small_scenes.specs.Palette.{firstWords, unlinked, records, shapes, air, fullCube}
 use Rattle.finite.specs.Finite.{limit, farthestMove, longestWay, fastestStep}

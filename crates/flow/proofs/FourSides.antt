@@ -12,7 +12,7 @@ use Rattle.cover.specs.declared.Side.{Side}
 use Rattle.tables.specs.declared.LiquidState.{LiquidState}
 use Rattle.window.specs.declared.Pos.{Pos}
 use Rattle.window.specs.Look.{Block}
-use Rattle.flow.specs.declared.Gap.{Gap}
+use Rattle.flow_sides.specs.declared.Gap.{Gap}
 use Rattle.flow.specs.Flow.{FlowSoFar, difference, flowedBy, walledBy, sideFlow, normalisedFlow, sideOf, sideTurn, liquidFlow}
 
 abbrev pub soFar : Vec3 → Bool → FlowSoFar

@@ -1,5 +1,3 @@
 -- What the proofs of flow share.
 pub mod Answers
-pub mod Constants
-pub mod Gaps
 pub mod FourSides

@@ -3,7 +3,7 @@ use mathlib.Core.Bool.{Bool}
 use Rattle.base.specs.Ask.{Ask, refused, found}
 use Rattle.boxes.specs.declared.Vec3.{Vec3}
 use Rattle.tables.specs.declared.LiquidState.{LiquidState}
-use Rattle.flow.specs.declared.Gap.{Gap}
+use Rattle.flow_sides.specs.declared.Gap.{Gap}
 use Rattle.flow.specs.declared.AskedLiquid.{AskedLiquid}
 use Rattle.flow.specs.declared.AskedLiquid.the-variants as liquids
 use Rattle.flow.specs.declared.AskedBool.{AskedBool}

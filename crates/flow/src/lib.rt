@@ -1,6 +1,7 @@
 // Module 7, below: what liquid a cell holds, whether it stops a flow, and how a liquid flows by what is around it (sides.rt).
 mod sides;
 
+use flow_sides::Gap;
 pub use sides::liquid_flow;
 use tables::LiquidKind;
 use tables::LiquidState;
@@ -25,13 +26,7 @@ pub enum AskedBool {
     Refused(u32),
 }
 
-// By how much the liquid on a side is deeper.
-enum Gap {
-    By(f64),
-    Nothing,
-}
-
-// The same, or the number of a refusal.
+// By how much the liquid on a side is deeper, or the number of a refusal.
 enum AskedGap {
     Is(Gap),
     Refused(u32),

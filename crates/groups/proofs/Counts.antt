@@ -1,21 +1,14 @@
 -- How many groups and words there are in a window that passes its check, and which group is number i of them. Assumes nothing.
-use mathlib.Core.Path.{_≡_, refl, sym, ap, _∙_, subst}
-use mathlib.Core.Bool.{Bool, true}
+use mathlib.Core.Path.{_≡_, subst}
 use Prim.Native.Nat.{ℕ, _+_, _*_, _/_, _%_, _≤_, _<_}
-use native.Mathlib.Nat.{mul-le-mul, mul-comm, mul-assoc, mod-lt, div-lt-iff-lt-mul}
+use native.Mathlib.Nat.{mul-le-mul, mod-lt, div-lt-iff-lt-mul}
 use native.Mathlib.Omega.{arith}
 use mir.Syntax.{w8, w32}
-use mir.Val.{SFits, Fits, toZ, ofZ}
-use mir.ValLaws.{toZ-ofZ}
-use lib.IntN.{ℤ, pos, _+ℤ_}
-use Rattle.window.specs.declared.Pos.{Pos}
+use mir.Val.{Fits}
 use Rattle.window.specs.declared.Sizes.{Sizes}
-use Rattle.window.specs.declared.Window.{Window}
-use Rattle.window.specs.Window.{sizesFit, cellCount, columnCount}
-use Rattle.window.specs.Look.{stepped}
-use Rattle.window.proofs.Check.{AllSmall, sizes-small, cell-count, column-count}
-use Rattle.groups.specs.declared.Group.{Group}
-use Rattle.groups.specs.Groups.{groupsOn, groupCount, groupIndex, groupAt, cut, cellAt}
+use Rattle.window.proofs.Check.{AllSmall, cell-count, column-count}
+use Rattle.group_words.specs.declared.Group.{Group}
+use Rattle.groups.specs.Groups.{groupsOn, groupCount, groupAt}
 use Rattle.groups.specs.Summary.{wordsBefore}
 
 pub few : (n : ℕ) → n ≤ 64 → groupsOn n ≤ 16
@@ -66,39 +59,12 @@ module _ (s : Sizes) (k : AllSmall s) (i : ℕ) (h : i < groupCount s) where
   pub at-near : Near (groupAt s i)
   at-near = record { x = below at-x (few (s .x) (k .x .high)); y = below at-y (few (s .y) (k .y .high)); z = below at-z (few (s .z) (k .z .high)) }
 
--- ---- the cell so far from the origin is a step away from it
-small-is : (n : ℕ) → n < 128 → (d : ℤ) → d ≡ pos n → toZ w8 (ofZ w8 d) ≡ pos n
-small-is n h d e = rw e (toZ-ofZ w8 (pos n) record { sfits = omega arith })
-
-pub a-step-away : (w : Window) (x y z : ℕ) → x < 128 → y < 128 → z < 128 → (dx dy dz : ℤ) → dx ≡ pos x → dy ≡ pos y → dz ≡ pos z
-    → stepped (w .origin) record { x = toZ w8 (ofZ w8 dx); y = toZ w8 (ofZ w8 dy); z = toZ w8 (ofZ w8 dz) } ≡ cellAt w x y z
-a-step-away w x y z hx hy hz dx dy dz ex ey ez =
-    let a = small-is x hx dx ex in
-    let b = small-is y hy dy ey in
-    let c = small-is z hz dz ez in
-    λ i. record { x = w .origin .x +ℤ a i; y = w .origin .y +ℤ b i; z = w .origin .z +ℤ c i }
-
--- ---- the cells of a group among 16
-pub line-ends : (g n size : ℕ) → g < 16 → n ≡ cut size g → g * 4 + n ≤ 128
-line-ends g n size h e = omega arith
-
-pub cell-near : (g n size k : ℕ) → g < 16 → n ≡ cut size g → k < n → g * 4 + k < 128
-cell-near g n size k h e l = omega arith
-
-pub cell-fits : (g n size k : ℕ) → g < 16 → n ≡ cut size g → k < n → Fits w32 (g * 4 + k)
-cell-fits g n size k h e l = record { fits = omega arith }
-
-pub four-fits : (g : ℕ) → g < 16 → Fits w32 (g * 4)
-four-fits g h = record { fits = omega arith }
-
+-- ---- where the words of a summary stand
 pub word-fits : (s : Sizes) → AllSmall s → (at n i : ℕ) → at ≡ wordsBefore s → n ≡ groupCount s → i < n → Fits w32 (at + i)
 word-fits s k at n i e f h = let a = all-groups s k in let b = all-words s k in record { fits = omega arith }
 
 pub next-fits : (s : Sizes) → AllSmall s → (n i : ℕ) → n ≡ groupCount s → i < n → Fits w32 (i + 1)
 next-fits s k n i f h = let a = all-groups s k in record { fits = omega arith }
-
-pub reached : {n k m j : ℕ} → n ≡ m → n ≤ k → j < m → j < k
-reached e l h = omega arith
 
 -- ---- where a group's word stands
 module _ (s : Sizes) (small : AllSmall s) (gx gy gz across deep : ℕ) (hx : gx < 16) (hy : gy < 16) (hz : gz < 16) (ea : across ≡ groupsOn (s .x)) (ed : deep ≡ groupsOn (s .z)) where

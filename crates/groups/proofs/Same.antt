@@ -22,7 +22,7 @@ use Rattle.window.specs.Window.{within, columnInside, heightInside, cellCount, 
 use Rattle.window.specs.Look.{Block, lookAt}
 use Rattle.window.proofs.Offsets.{below-size}
 use Rattle.window.proofs.Cells.{outside-refused, is-inside, index-below}
-use Rattle.groups.specs.declared.Group.{Group}
+use Rattle.group_words.specs.declared.Group.{Group}
 use Rattle.groups.specs.Groups.{groupCount, groupAt, cut, cellAt, isEmpty, isEmptyLine, isEmptyLayer, isEmptyGroup, groupWord}
 use Rattle.groups.specs.Summary.{wordsBefore, summaryOf}
 

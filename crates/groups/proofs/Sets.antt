@@ -22,7 +22,7 @@ use Rattle.window.specs.declared.Window.{Window}
 use Rattle.window.specs.Window.{columnInside, heightInside, cellCount, columnCount, indexOf, columnIndexOf, sizesFit}
 use Rattle.window.specs.Look.{lookAt}
 use Rattle.window.proofs.Cells.{Inside, is-inside, Near, is-near, index-below, index-unique}
-use Rattle.groups.specs.declared.Group.{Group}
+use Rattle.group_words.specs.declared.Group.{Group}
 use Rattle.groups.specs.Groups.{groupsOn, groupCount, groupIndex, groupAt, groupOf, cut, cellAt, isEmpty, isEmptyLine, isEmptyLayer, isEmptyGroup, groupWord}
 use Rattle.groups.specs.Summary.{summaryOf, wordsBefore, hasSummary, built, isInside, mended, setIn, afterSet, CellSet, afterSets}
 use Rattle.groups.proofs.Same.{Alike, itself, behind, look-same, word-alike}

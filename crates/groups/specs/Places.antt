@@ -11,7 +11,7 @@ use Rattle.window.specs.declared.Pos.{Pos}
 use Rattle.window.specs.declared.Sizes.{Sizes}
 use Rattle.window.specs.declared.Window.{Window}
 use Rattle.window.specs.Window.{within, indexAt, sizesFit}
-use Rattle.groups.specs.declared.Group.{Group}
+use Rattle.group_words.specs.declared.Group.{Group}
 use Rattle.groups.specs.declared.Place.{Place}
 use Rattle.groups.specs.declared.Layout.{Layout}
 use Rattle.groups.specs.Groups.{groupsOn, groupIndex, groupWord}

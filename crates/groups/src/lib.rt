@@ -1,142 +1,23 @@
-// The summary of a window: one word for each group of 4 by 4 by 4 cells, which tells whether collection may pass over it. The words stand behind
-// those of cells and columns, in the one slice that a host lends.
-use window::Cell;
-use window::CellStep;
+// The summary of a window: one word for each group of 4 by 4 by 4 cells (`group_words`), which tells whether collection may pass over it. The words
+// stand behind those of cells and columns, in the one slice that a host lends.
+use group_words::Group;
 use window::Pos;
 use window::Sizes;
 use window::Window;
 ghost use mathlib.Core.Path.{_≡_};
 ghost use mathlib.Core.Bool.{true};
 ghost use Prim.Native.Nat.{_+_, _<_, _≤_};
-ghost use lib.IntN.{pos};
 ghost use lib.ListN.{getD, set};
 ghost use Rattle.base.specs.Loop.{stored};
 ghost use Rattle.window.specs.Window.{sizesFit, indexAt};
-ghost use Rattle.window.specs.Look.{lookAt};
-ghost use Rattle.groups.specs.Groups.{groupsOn, groupCount, groupIndex, groupAt, cut, cellAt, isEmptyState, isEmpty, isEmptyLine, isEmptyLayer, groupWord};
+ghost use Rattle.groups.specs.Groups.{groupsOn, groupCount, groupIndex, groupAt, cellAt, groupWord};
 ghost use Rattle.groups.specs.Summary.{summaryOf, wordsBefore, summedWords, hasSummary, buildRefusal, built, agrees, summaryRefusal, setRefusal, afterSet};
 ghost use Rattle.groups.specs.Places.{layoutOf, offsetIn, placeIn, isIn, setAt};
-
-// A group, counted from the origin on each axis.
-pub struct Group {
-    pub x: u32,
-    pub y: u32,
-    pub z: u32,
-}
 
 fn wide(x: u32) -> usize
     ensures { λ r. ⌜ r ≡ x ⌝ }
 {
     x as usize
-}
-
-// A registered state that connects as nothing and has no boxes.
-fn is_empty_state(records: &[u32], id: u32) -> bool
-    ensures { λ r. ⌜ r ≡ isEmptyState (now (records .entry)) id ⌝ }
-{
-    let h = tables::head_at(records, id);
-    h.registered & (h.kind == 0) & (h.count == 0)
-}
-
-// A number as one step of a look-up takes it.
-fn small(n: u32) -> i8
-    requires { ⌜ n < 128 ⌝ }
-    ensures { λ r. ⌜ r ≡ pos n ⌝ }
-{
-    n as i8
-}
-
-// Whether the cell so far from the origin is such a state.
-fn is_empty(records: &[u32], words: &[u32], w: Window, x: u32, y: u32, z: u32) -> bool
-    requires { ⌜ x < 128 ⌝ }
-    requires { ⌜ y < 128 ⌝ }
-    requires { ⌜ z < 128 ⌝ }
-    ensures { λ r. ⌜ r ≡ isEmpty (now (records .entry)) (lookAt (now (words .entry)) w (cellAt w x y z)) ⌝ }
-{
-    let dx = small(x);
-    let dy = small(y);
-    let dz = small(z);
-    let cell = window::look_by(words, w, w.origin, CellStep { x: dx, y: dy, z: dz });
-    match cell {
-        Cell::Outside => false,
-        Cell::Unloaded => false,
-        Cell::State(id) => is_empty_state(records, id),
-    }
-}
-
-// So many cells along x.
-fn is_empty_line(records: &[u32], words: &[u32], w: Window, n: u32, x: u32, y: u32, z: u32) -> bool
-    requires { ⌜ x + n ≤ 128 ⌝ }
-    requires { ⌜ y < 128 ⌝ }
-    requires { ⌜ z < 128 ⌝ }
-    ensures { λ r. ⌜ r ≡ isEmptyLine (now (records .entry)) (now (words .entry)) w n x y z ⌝ }
-{
-    let mut k = 0u32;
-    while k < n {
-        if is_empty(records, words, w, x + k, y, z) {
-            k += 1;
-        } else {
-            return false;
-        }
-    }
-    true
-}
-
-// How many of a group's four cells along an axis lie in the window.
-fn cut_of(size: u32, g: u32) -> u32
-    requires { ⌜ g < 16 ⌝ }
-    ensures { λ r. ⌜ r ≡ cut size g ⌝ }
-{
-    let at = g * 4;
-    if size <= at {
-        return 0;
-    }
-    if size - at < 4 {
-        return size - at;
-    }
-    4
-}
-
-// The cells of a group in one layer.
-fn is_empty_layer(records: &[u32], words: &[u32], w: Window, g: Group, y: u32) -> bool
-    requires { ⌜ g .x < 16 ⌝ }
-    requires { ⌜ g .z < 16 ⌝ }
-    requires { ⌜ y < 128 ⌝ }
-    ensures { λ r. ⌜ r ≡ isEmptyLayer (now (records .entry)) (now (words .entry)) w g y ⌝ }
-{
-    let n = cut_of(w.sizes.z, g.z);
-    let across = cut_of(w.sizes.x, g.x);
-    let x = g.x * 4;
-    let z = g.z * 4;
-    let mut k = 0u32;
-    while k < n {
-        if is_empty_line(records, words, w, across, x, y, z + k) {
-            k += 1;
-        } else {
-            return false;
-        }
-    }
-    true
-}
-
-// The word of a group: all its cells in the window are looked up.
-fn group_word(records: &[u32], words: &[u32], w: Window, g: Group) -> u32
-    requires { ⌜ g .x < 16 ⌝ }
-    requires { ⌜ g .y < 16 ⌝ }
-    requires { ⌜ g .z < 16 ⌝ }
-    ensures { λ r. ⌜ r ≡ groupWord (now (records .entry)) (now (words .entry)) w g ⌝ }
-{
-    let n = cut_of(w.sizes.y, g.y);
-    let y = g.y * 4;
-    let mut k = 0u32;
-    while k < n {
-        if is_empty_layer(records, words, w, g, y + k) {
-            k += 1;
-        } else {
-            return 1;
-        }
-    }
-    0
 }
 
 fn groups_on(size: u32) -> u32
@@ -174,7 +55,7 @@ pub struct Layout {
 pub fn layout_of(s: Sizes) -> Layout
     ensures { λ r. ⌜ r ≡ layoutOf s ⌝ }
 {
-    if window::sizes_fit(s) {
+    if window_check::sizes_fit(s) {
         let before = words_before(s);
         let across = groups_on(s.x) as u8;
         let deep = groups_on(s.z) as u8;
@@ -204,14 +85,14 @@ fn word_of(records: &[u32], words: &[u32], w: Window, i: u32) -> u32
     ensures { λ r. ⌜ r ≡ groupWord (now (records .entry)) (now (words .entry)) w (groupAt (w .sizes) i) ⌝ }
 {
     let g = group_at(w.sizes, i);
-    group_word(records, words, w, g)
+    group_words::group_word(records, words, w, g)
 }
 
 // How many words a host lends with a summary: those of cells, columns and groups; none where the sizes break their limit.
 pub fn summed_words(s: Sizes) -> u32
     ensures { λ r. ⌜ r ≡ summedWords s ⌝ }
 {
-    if window::sizes_fit(s) {
+    if window_check::sizes_fit(s) {
         let before = words_before(s);
         let groups = group_count(s);
         return before + groups;
@@ -223,7 +104,7 @@ pub fn summed_words(s: Sizes) -> u32
 pub fn has_summary(words: &[u32], w: Window) -> bool
     ensures { λ r. ⌜ r ≡ hasSummary (now (words .entry)) w ⌝ }
 {
-    if window::sizes_fit(w.sizes) {
+    if window_check::sizes_fit(w.sizes) {
         let before = words_before(w.sizes);
         let groups = group_count(w.sizes);
         return words.len() == wide(before + groups);
@@ -372,7 +253,7 @@ fn set_in(records: &[u32], words: &mut [u32], w: Window, t: Place, state: u32)
         y: t.y / 4,
         z: t.z / 4,
     };
-    let word = group_word(records, words, w, g);
+    let word = group_words::group_word(records, words, w, g);
     put(words, group_place(w.sizes, g), word);
 }
 

@@ -9,7 +9,7 @@ pub fn check_lent(records: &[u32], shapes: &[f32], cells: &[u32], w: Window) -> 
 {
     let tables = table_check::check_tables(records, shapes);
     if tables == 0 {
-        return window::check_window(cells, w);
+        return window_check::check_window(cells, w);
     }
     tables
 }

@@ -1,4 +1,3 @@
 -- Laws of this crate's definitions, on plain values.
-pub mod Answers
 pub mod Lent
 pub mod Put

@@ -1,3 +1,3 @@
--- The definitions of boxes in lent numbers, and of the move over them.
+-- The definitions of boxes in lent numbers, and of what is refused of a move over them.
 pub mod Boxes
-pub mod Moves
+pub mod Refusals

@@ -1,11 +1,7 @@
-// Boxes in lent numbers, six to a box: they are read where they lie. moved.rt has the move over them.
-mod moved;
-
-pub use moved::move_over_any;
-pub use moved::move_over_lent;
-pub use moved::moved_over;
+// Boxes in lent numbers, six to a box: they are read where they lie; and what is refused of a move over them.
 use boxes::Aabb;
 use boxes::Vec3;
+use movers::mover_refusal;
 ghost use mathlib.Core.Path.{_≡_};
 ghost use Prim.Native.Nat.{_+_, _*_, _<_};
 ghost use lib.ListN.{length};
@@ -13,9 +9,10 @@ ghost use Rattle.base.specs.Loop.{stored};
 ghost use Rattle.boxes.specs.Limits.{areBoxes};
 ghost use Rattle.movers.specs.Movers.{aabbAt};
 ghost use Rattle.lent_boxes.specs.Boxes.{boxesOf, sixOf, lentFit};
+ghost use Rattle.lent_boxes.specs.Refusals.{listRefusal};
 
 // The box whose six numbers begin at a place; they are there, so that reading them takes no test.
-fn box_at(numbers: &[f64], at: usize) -> Aabb
+pub fn box_at(numbers: &[f64], at: usize) -> Aabb
     requires { ⌜ at + 5 < length (now numbers) ⌝ }
     ensures { λ r. ⌜ r ≡ aabbAt (now (numbers .entry)) at ⌝ }
 {
@@ -71,4 +68,22 @@ fn lent_fit(numbers: &[f64]) -> bool
         return are_boxes(numbers);
     }
     false
+}
+
+// What a move over lent boxes is refused by: 3, 4, 11 and 6 in order, or 0.
+pub fn list_refusal(cap: u32, boxes: &[f64], mover: &[f64], step: f64, ground: u32, places: usize) -> u32
+    ensures { λ r. ⌜ r ≡ listRefusal cap (now (boxes .entry)) (now (mover .entry)) step ground places ⌝ }
+{
+    let sound = lent_fit(boxes);
+    let early = mover_refusal(cap, mover, step, ground, sound);
+    if early != 0 {
+        return early;
+    }
+    if places < 10 {
+        return 11;
+    }
+    if boxes.len() / 6 > sweeps::cap_of(cap) {
+        return 6;
+    }
+    0
 }

@@ -14,9 +14,9 @@ use Rattle.bodies.specs.Numbers.{lengthsFit}
 use Rattle.lent.specs.Lent.{sound}
 use Rattle.summary.specs.Calls.{plain, summed}
 use Rattle.window.specs.Numbers.{withAir}
-use Rattle.ticks.specs.declared.Tick.{Tick}
+use Rattle.step_answers.specs.declared.Tick.{Tick}
 use Rattle.window.specs.declared.Window.{Window}
-use Rattle.step.specs.declared.StepAnswer.{StepAnswer}
+use Rattle.step_answers.specs.declared.StepAnswer.{StepAnswer}
 use Rattle.step.specs.Answers.{stepAnswer, stepEntry, checkedEntry, stepSummed}
 use Rattle.lent_steps.specs.Steps.{stepPlaces}
 use Rattle.lent_room.specs.Room.{shortOf, wholeBody, answerWritten}

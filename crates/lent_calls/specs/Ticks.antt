@@ -13,8 +13,8 @@ use Rattle.summary.specs.Calls.{plain, summed}
 use Rattle.window.specs.declared.Window.{Window}
 use Rattle.window.specs.Look.{lookAt}
 use Rattle.window.specs.Numbers.{withAir}
-use Rattle.step.specs.declared.StepAnswer.{StepAnswer}
-use Rattle.ticks.specs.declared.Tick.{Tick}
+use Rattle.step_answers.specs.declared.StepAnswer.{StepAnswer}
+use Rattle.step_answers.specs.declared.Tick.{Tick}
 use Rattle.step.specs.Answers.{stepAnswer}
 use Rattle.ticks.specs.Step.{stepBodySensed, stepBodyPast}
 use Rattle.lent_room.specs.Room.{roomy}

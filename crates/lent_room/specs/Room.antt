@@ -9,7 +9,7 @@ use Rattle.base.specs.Choose.{choose}
 use Rattle.base.specs.Loop.{stored}
 use Rattle.base.specs.Ask.{Ask, unless}
 use Rattle.bodies.specs.Numbers.{lengthsFit}
-use Rattle.step.specs.declared.StepAnswer.{StepAnswer}
+use Rattle.step_answers.specs.declared.StepAnswer.{StepAnswer}
 use Rattle.lent_steps.specs.Steps.{stepPlaces, stepNumbers}
 use Rattle.lent_steps.specs.Falling.{fallingPlaces}
 

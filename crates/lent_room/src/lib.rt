@@ -1,6 +1,6 @@
 // Lengths of what a host hands over in lent numbers, and room for what is written to it.
 use lent_steps::put_step;
-use step::StepAnswer;
+use step_answers::StepAnswer;
 ghost use mathlib.Core.Path.{_≡_};
 ghost use Rattle.lent_room.specs.Room.{shortOf, wholeBody, wholeFalling, answerWritten};
 

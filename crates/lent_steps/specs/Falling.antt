@@ -5,7 +5,7 @@ use lib.Dec.{eqb}
 use lib.Ieee.{Float}
 use Rattle.base.specs.Choose.{choose}
 use Rattle.base.specs.Loop.{stored}
-use Rattle.falls.specs.declared.FallingAnswer.{FallingAnswer}
+use Rattle.step_answers.specs.declared.FallingAnswer.{FallingAnswer}
 use Rattle.lent_steps.specs.Steps.{motionNumbers, supportNumbers}
 
 -- the motion's eight numbers, then the record after it, sum and landed, then the sample: twelve numbers

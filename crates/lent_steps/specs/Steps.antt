@@ -11,7 +11,7 @@ use Rattle.base.specs.Loop.{stored}
 use Rattle.tables.specs.Tables.{kindNumber}
 use Rattle.drags.specs.declared.Support.{Support}
 use Rattle.drags.specs.Cases.{caseNumber, sampledNumber}
-use Rattle.step.specs.declared.StepAnswer.{StepAnswer}
+use Rattle.step_answers.specs.declared.StepAnswer.{StepAnswer}
 
 -- feet, velocity, ground, and the liquid: 0 none, 1 water, 2 lava; eight numbers
 abbrev pub motionNumbers : StepAnswer → List Float

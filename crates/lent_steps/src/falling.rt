@@ -1,8 +1,8 @@
 // What a step with a fall record comes to, written into lent numbers.
 use crate::put_motion;
 use crate::put_support;
-use falls::FallingAnswer;
 use lent_numbers::put;
+use step_answers::FallingAnswer;
 ghost use mathlib.Core.Path.{_≡_};
 ghost use Rattle.base.specs.Loop.{stored};
 ghost use Rattle.lent_steps.specs.Falling.{fallingNumbers, fallingWritten};

@@ -6,7 +6,7 @@ pub use falling::put_falling;
 use drags::Support;
 use lent_numbers::put;
 use lent_numbers::put_vec;
-use step::StepAnswer;
+use step_answers::StepAnswer;
 use tables::LiquidKind;
 ghost use mathlib.Core.Path.{_≡_};
 ghost use lib.IntN.{pos};

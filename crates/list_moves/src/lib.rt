@@ -24,13 +24,13 @@ pub fn swept_over(list: BoxList, q: Request) -> Sweep
     ensures { λ r. ⌜ r ≡ sweepOf (listOf list) q ⌝ }
 {
     let n = counted(list.count);
-    let mut s = sweeps::begun(q);
+    let mut s = attempts::begun(q);
     let mut pass = 0u32;
     while pass < 7 {
         let axis = sweeps::axis_of(pass);
         let now = s.now;
         let mover = now.aabb;
-        let mut d = sweeps::wanted(pass, axis, q, now);
+        let mut d = attempts::wanted(pass, axis, q, now);
         let mut i = 0usize;
         while i < n {
             let b = list.boxes[i];
@@ -38,7 +38,7 @@ pub fn swept_over(list: BoxList, q: Request) -> Sweep
             i += 1;
         }
         let first = s.first;
-        s = sweeps::next(pass, q, first, sweeps::gone(pass, axis, now, d));
+        s = attempts::next(pass, q, first, attempts::gone(pass, axis, now, d));
         if s.over {
             return s;
         }

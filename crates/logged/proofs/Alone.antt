@@ -12,8 +12,8 @@ use Rattle.bodies.specs.Limits.{numberRefusal}
 use Rattle.groups.specs.Summary.{hasSummary, buildRefusal}
 use Rattle.summary.specs.Calls.{plain}
 use Rattle.logs.specs.declared.Event.{Event}
-use Rattle.minute.specs.Minute.{Lent, windowOf, State, startRefusal, start, minute}
-use Rattle.minute.specs.Turns.{minuteOf}
+use Rattle.minute_state.specs.Minute.{Lent, windowOf, State, startRefusal, start, minute}
+use Rattle.minute_state.specs.Turns.{minuteOf}
 use Rattle.minute.specs.Separate.{separately, Equals}
 use Rattle.minute.proofs.Separate.{minute-separate}
 use Rattle.logged.specs.Logged.{sceneRefusal, minuteAlone}

@@ -6,6 +6,7 @@ use Prim.Native.Nat.{ℕ, zero, suc, _+_, _-_, _*_, _%_, _≤_}
 use native.Mathlib.Nat.{mul-le-mul}
 use native.Mathlib.Omega.{arith}
 use lib.Dec.{eqb, leb}
+use lib.Ieee.{Float}
 use lib.ListN.{length, length-append}
 use borrow.Author.Tests.{leb-true}
 use Rattle.base.specs.Choose.{choose}
@@ -13,7 +14,7 @@ use Rattle.base.specs.Loop.{listed}
 use Rattle.base.proofs.Every.{both}
 use Rattle.base.proofs.Listed.{listed-length}
 use Rattle.bodies.specs.declared.MotionNumbers.{MotionNumbers}
-use Rattle.falls.specs.declared.FallingAnswer.{FallingAnswer}
+use Rattle.step_answers.specs.declared.FallingAnswer.{FallingAnswer}
 use Rattle.files.specs.Files.{isScene}
 use Rattle.files.specs.Contents.{Contents, contentsIn}
 use Rattle.groups.specs.Summary.{isInside}
@@ -21,7 +22,7 @@ use Rattle.logs.specs.declared.CellSet.{CellSet}
 use Rattle.logs.specs.declared.Event.{Event}
 use Rattle.logs.specs.declared.Event.the-variants as event
 use Rattle.logs.specs.Logs.{endFrom, eventAt, logWord, logOf, logFits, blocksIn, wholeLog, isLog, sceneIn, eventsBy, eventsOf}
-use Rattle.minute.specs.Minute.{Lent, windowOf, State, stepped, ended, ticked, setPlace, start}
+use Rattle.minute_state.specs.Minute.{Lent, windowOf, State, stepped, ended, ticked, setPlace, start}
 use Rattle.minute.specs.Separate.{singleStep, setAlone, eventAlone, separately}
 use Rattle.logged.specs.Logged.{sceneRefusal, minuteAlone, minuteOver, malformed, minuteIn}
 
@@ -107,3 +108,7 @@ minute-few file = go (isLog file) refl
     go : (b : Bool) → isLog file ≡ b → length ((choose b (minuteOver (contentsIn (sceneIn file)) (eventsOf file)) malformed) .lines) ≤ 3840
     go true t = let h = over-few (contentsIn (sceneIn file)) (eventsOf file) in let k = events-few file t in omega arith
     go false t = omega arith
+
+-- so many numbers hold the feet of every tick
+pub all-feet : (file : List ℕ) (feet : List Float) → length feet ≡ 11520 → length (minuteIn file .lines) * 3 ≤ length feet
+all-feet file feet e = let h = minute-few file in omega arith

@@ -3,6 +3,5 @@ pub mod Alone
 pub mod Scenes
 pub mod Files
 pub mod Few
-pub mod Back
 pub mod Room
 pub mod Refusals

@@ -21,7 +21,7 @@ use Rattle.lent.specs.Lent.{unless, lentRefusal}
 use Rattle.step.specs.Answers.{stepAnswer}
 use Rattle.step.proofs.Refuses.{Named, step-refusal}
 use Rattle.fall_rule.specs.declared.Fall.{Fall}
-use Rattle.falls.specs.declared.FallingAnswer.{FallingAnswer}
+use Rattle.step_answers.specs.declared.FallingAnswer.{FallingAnswer}
 use Rattle.fall_rule.specs.Rule.{fallFits}
 use Rattle.falls.specs.Answers.{withFall, fallingEntry}
 use Rattle.falls.proofs.Laws.{beside, unfit}
@@ -31,7 +31,7 @@ use Rattle.logs.specs.declared.CellSet.{CellSet}
 use Rattle.logs.specs.declared.Event.{Event}
 use Rattle.logs.specs.declared.Event.the-variants as event
 use Rattle.logs.specs.Logs.{isLog, sceneIn, eventsOf}
-use Rattle.minute.specs.Minute.{Lent, windowOf, State, stepped, ended, ticked, setPlace, start}
+use Rattle.minute_state.specs.Minute.{Lent, windowOf, State, stepped, ended, ticked, setPlace, start}
 use Rattle.minute.specs.Separate.{singleStep, setAlone, eventAlone, separately}
 use Rattle.logged.specs.Logged.{sceneRefusal, minuteAlone, lentOf, minuteOver, malformed, minuteIn}
 

@@ -32,7 +32,7 @@ use Rattle.files.specs.Contents.{Contents, contentsOf, numbersIn, lateWords, ag
 use Rattle.files.proofs.Scenes.{rooms}
 use Rattle.files.proofs.Told.{tells}
 use Rattle.logs.specs.declared.Event.{Event}
-use Rattle.minute.specs.Minute.{lentBy, minute}
+use Rattle.minute_state.specs.Minute.{lentBy, minute}
 use Rattle.logged.specs.Logged.{lentOf, minuteOver}
 use Rattle.logged.specs.Held.{heldContents, heldMinute}
 use Rattle.logged.proofs.Alone.{Same, alone}

@@ -11,7 +11,7 @@ use Rattle.files.specs.declared.Counts.{Counts}
 use Rattle.files.specs.Files.{windowIn}
 use Rattle.files.specs.Contents.{Contents, contentsOf, numbersIn, lateWords, ageIn}
 use Rattle.logs.specs.declared.Event.{Event}
-use Rattle.minute.specs.Minute.{State, minute}
+use Rattle.minute_state.specs.Minute.{State, minute}
 use Rattle.logged.specs.Logged.{lentOf}
 
 -- what stands first in the three places, with the summary's words among the cells

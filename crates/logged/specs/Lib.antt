@@ -1,4 +1,3 @@
--- The definitions of the minute of a log file, of what is printed of it, and of how the program holds its scene.
+-- The definitions of the minute of a log file, and of how the program holds its scene.
 pub mod Logged
-pub mod Printed
 pub mod Held

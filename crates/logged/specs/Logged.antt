@@ -1,6 +1,6 @@
 -- The minute of a log file, as separate steps. Document 02's words stand in quotes.
 use mathlib.Core.List.{List, []}
-use Prim.Native.Nat.{ℕ, min}
+use Prim.Native.Nat.{ℕ}
 use lib.Dec.{eqb}
 use lib.ListN.{take}
 use Rattle.base.specs.Choose.{choose}
@@ -12,9 +12,8 @@ use Rattle.bodies.specs.Lent.{motionAt, bodyAt, rulesAt}
 use Rattle.lent.specs.Lent.{lentRefusal}
 use Rattle.files.specs.Contents.{Contents, contentsIn}
 use Rattle.logs.specs.declared.Event.{Event}
-use Rattle.logs.specs.declared.Log.{Log}
 use Rattle.logs.specs.Logs.{sceneIn, isLog, eventsOf}
-use Rattle.minute.specs.Minute.{Lent, lentBy, windowOf, State, start}
+use Rattle.minute_state.specs.Minute.{Lent, lentBy, windowOf, State, start}
 use Rattle.minute.specs.Separate.{separately}
 
 -- ---- over tables, cells and a body
@@ -49,7 +48,3 @@ minuteIn file = choose (isLog file) (minuteOver (contentsIn (sceneIn file)) (eve
 -- the same of the first so many events
 unfoldable pub minuteFirst : List ℕ → ℕ → State
 minuteFirst file n = choose (isLog file) (minuteOver (contentsIn (sceneIn file)) (take n (eventsOf file))) malformed
-
--- how the program cuts a log; no contract of a public function cites it
-abbrev pub firstOf : Log → ℕ → Log
-firstOf log n = record { scene = log .scene; blocks = log .blocks; events = min n (log .events) }

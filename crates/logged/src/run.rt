@@ -1,7 +1,4 @@
 // The minute of a log file.
-use blocks::box_part;
-use blocks::cell_part;
-use blocks::record_part;
 use bodies::MotionNumbers;
 use boxes::Vec3;
 use fall_rule::Fall;
@@ -9,27 +6,22 @@ use files::Counted;
 use files::Counts;
 use logs::Log;
 use logs::Logged;
-use minute::Minute;
+use minute_state::Minute;
 use scene_held::age_in;
 use scene_held::numbers_in;
 use scene_held::words_in;
 use scene_held::held;
-use scene_held::put_singles;
-use scene_held::put_words;
+use scene_held::put_apart;
 use window::Window;
 ghost use mathlib.Core.Path.{_≡_};
 ghost use mathlib.Core.Bool.{true};
-ghost use Prim.Native.Nat.{_*_, min};
-ghost use lib.Ieee.{ofBits, binary32};
-ghost use lib.ListN.{length, take};
-ghost use Rattle.base.specs.Loop.{listed, stored};
-ghost use Rattle.blocks.specs.Blocks.{partWord, recordPart, boxPart, cellPart};
+ghost use Rattle.base.specs.Loop.{stored};
 ghost use Rattle.files.specs.Files.{countsOf, isScene};
 ghost use Rattle.files.specs.Contents.{contentsOf, contentsIn, numbersIn, lateWords, ageIn, contentsBehind};
 ghost use Rattle.logs.specs.Logs.{sceneIn, isLog, eventsBy};
-ghost use Rattle.minute.specs.Minute.{numbersOf};
-ghost use Rattle.minute.specs.Turns.{minuteOf};
-ghost use Rattle.logged.specs.Logged.{minuteOver, malformed, minuteIn, firstOf, minuteFirst};
+ghost use Rattle.minute_state.specs.Minute.{numbersOf};
+ghost use Rattle.minute_state.specs.Turns.{minuteOf};
+ghost use Rattle.logged.specs.Logged.{minuteOver, malformed, minuteIn, minuteFirst};
 ghost use Rattle.logged.specs.Held.{heldContents, heldMinute};
 
 // 8: there is nothing to hand back.
@@ -104,17 +96,6 @@ fn run_held(
     run_among(scene, &records[..a], &singles[..b], &mut words[..c], w, file, log, feet)
 }
 
-// Puts a scene's records, shapes and cells into these places, each as far as there is room.
-fn put_scene(records: &mut [u32], singles: &mut [f32], words: &mut [u32], scene: &[u8], n: Counts)
-    ensures { λ _. ⌜ take (min (n .states * 20) (length (now (records .entry)))) (now (records .exit)) ≡ listed (partWord (now (scene .entry)) (recordPart (n .states))) (min (n .states * 20) (length (now (records .entry)))) 0 ⌝ }
-    ensures { λ _. ⌜ take (min (n .boxes * 6) (length (now (singles .entry)))) (now (singles .exit)) ≡ listed (λ i. ofBits binary32 (partWord (now (scene .entry)) (boxPart (n .states) (n .boxes)) i)) (min (n .boxes * 6) (length (now (singles .entry)))) 0 ⌝ }
-    ensures { λ _. ⌜ take (min (n .cells) (length (now (words .entry)))) (now (words .exit)) ≡ listed (partWord (now (scene .entry)) (cellPart (n .states) (n .boxes) (n .cells))) (min (n .cells) (length (now (words .entry)))) 0 ⌝ }
-{
-    put_words(records, scene, record_part(n.states));
-    put_singles(singles, scene, box_part(n.states, n.boxes));
-    put_words(words, scene, cell_part(n.states, n.boxes, n.cells));
-}
-
 // The minute of a scene with these counts. 128 blocks hold no more than 15,744 words of a part, and no window has more than 4,096 groups.
 fn run_in(scene: &[u8], n: Counts, file: &[u8], log: Log, feet: &mut [f64]) -> Minute
     ensures { λ r. ⌜ (isScene (now (scene .entry)) ≡ true → countsOf (now (scene .entry)) ≡ n → r ≡ minuteOf (minuteOver (contentsBehind (now (scene .entry)) n) (eventsBy (now (file .entry)) log))) ⌝ }
@@ -123,7 +104,7 @@ fn run_in(scene: &[u8], n: Counts, file: &[u8], log: Log, feet: &mut [f64]) -> M
     let mut records = [0u32; 15744];
     let mut singles = [0.0f32; 15744];
     let mut words = [0u32; 19840];
-    put_scene(&mut records, &mut singles, &mut words, scene, n);
+    put_apart(&mut records, &mut singles, &mut words, scene, n);
     run_held(scene, n, &records, &singles, &mut words, file, log, feet)
 }
 
@@ -151,18 +132,6 @@ pub fn run_log(file: &[u8], feet: &mut [f64]) -> Minute
     }
 }
 
-// The first so many events of a log.
-fn first_of(log: Log, events: u16) -> Log
-    ensures { λ r. ⌜ r ≡ firstOf log events ⌝ }
-{
-    let n = if events < log.events { events } else { log.events };
-    Log {
-        scene: log.scene,
-        blocks: log.blocks,
-        events: n,
-    }
-}
-
 // The same of a log's first so many events alone: what a minute has come to there.
 pub fn run_first(file: &[u8], events: u16, feet: &mut [f64]) -> Minute
     ensures { λ r. ⌜ r ≡ minuteOf (minuteFirst (now (file .entry)) events) ⌝ }
@@ -170,6 +139,6 @@ pub fn run_first(file: &[u8], events: u16, feet: &mut [f64]) -> Minute
 {
     match logs::log_of(file) {
         Logged::Unfit => refused_log(),
-        Logged::Is(log) => run_with(file, first_of(log, events), feet),
+        Logged::Is(log) => run_with(file, logs::first_of(log, events), feet),
     }
 }

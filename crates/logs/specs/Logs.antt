@@ -1,7 +1,7 @@
 -- Which files are logs of a minute, and the events that they hold. Document 02's words stand in quotes.
 use mathlib.Core.Bool.{Bool, _&&_, _||_}
 use mathlib.Core.List.{List, []}
-use Prim.Native.Nat.{ℕ, zero, suc, _+_, _-_, _*_, _/_, _%_}
+use Prim.Native.Nat.{ℕ, zero, suc, _+_, _-_, _*_, _/_, _%_, min}
 use lib.Dec.{eqb, ltb, leb}
 use lib.ListN.{length, take}
 use Rattle.base.specs.Choose.{choose}
@@ -104,6 +104,10 @@ eventsBy file l = listed (eventAt (logWord file (l .scene) (l .blocks))) (l .eve
 
 abbrev pub eventsOf : List ℕ → List Event
 eventsOf file = eventsBy file (logOf file)
+
+-- a log cut behind its first n events
+abbrev pub firstOf : Log → ℕ → Log
+firstOf l n = record { scene = l .scene; blocks = l .blocks; events = min n (l .events) }
 
 -- what the program finds of a file
 abbrev pub logAsked : Logged → Ask Log

@@ -11,7 +11,7 @@ ghost use Rattle.base.specs.Choose.{choose};
 ghost use Rattle.base.specs.Every.{every};
 ghost use Rattle.base.specs.Ask.{refused, found};
 ghost use Rattle.blocks.specs.Blocks.{partWord};
-ghost use Rattle.logs.specs.Logs.{isTick, isSet, eventFits, setOf, eventAt, endFrom, endFits, restZero, eventsFit, firstBlocks, sceneIn, logWord, logBehind, logFrom, logOf, logFits, wholeLog, isLog, logAsked};
+ghost use Rattle.logs.specs.Logs.{isTick, isSet, eventFits, setOf, eventAt, endFrom, endFits, restZero, eventsFit, firstBlocks, sceneIn, logWord, logBehind, logFrom, logOf, logFits, wholeLog, isLog, firstOf, logAsked};
 
 // A cell that is set: how far it lies from the window's origin, and the state that it becomes.
 pub struct CellSet {
@@ -256,4 +256,16 @@ pub fn event_at(file: &[u8], l: Log, i: u16) -> Event
     let position = event_word(file, p, i, 1);
     let state = event_word(file, p, i, 2);
     Event::Set(set_of(position, state))
+}
+
+// The log cut behind its first so many events.
+pub fn first_of(l: Log, events: u16) -> Log
+    ensures { λ r. ⌜ r ≡ firstOf l events ⌝ }
+{
+    let n = if events < l.events { events } else { l.events };
+    Log {
+        scene: l.scene,
+        blocks: l.blocks,
+        events: n,
+    }
 }

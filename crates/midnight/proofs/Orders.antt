@@ -14,11 +14,11 @@ use borrow.Author.Tests.{ne-eqb}
 use Rattle.base.specs.Choose.{choose}
 use Rattle.base.specs.Loop.{listed, stored}
 use Rattle.table_check.specs.Check.{tableRefusal}
-use Rattle.night_rows.specs.Rows.{Row, rowOf, rowAt, windowAt, namedIn, answerWidth, answerNumbers}
+use Rattle.night_rows.specs.Rows.{Row, rowOf, rowAt, windowAt, namedIn}
+use Rattle.answer_rows.specs.Answers.{answerWidth, answerNumbers, countRefusal}
 use Rattle.night_answers.specs.Answers.{Lent, singleStep, answerOf}
 use Rattle.base.proofs.Stored.{stored-first}
 use Rattle.base.proofs.Listed.{listed-length, listed-at, map-listed}
-use Rattle.night_rows.specs.Rows.{countRefusal}
 use Rattle.midnight.specs.Run.{runRefusal, bodiesOf, answerRow, rowsOf, checkedWritten, runWritten, answersIn}
 use Rattle.night_answers.proofs.Bodies.{Named, single}
 

@@ -7,8 +7,9 @@ use lib.ListN.{length, getD}
 use lib.Ieee.{Float}
 use Rattle.base.specs.Loop.{listed, stored}
 use Rattle.base.proofs.Fill.{stored-then}
-use Rattle.falls.specs.declared.FallingAnswer.{FallingAnswer}
-use Rattle.night_rows.specs.Rows.{Row, namedIn, answerWidth, answerNumbers}
+use Rattle.step_answers.specs.declared.FallingAnswer.{FallingAnswer}
+use Rattle.night_rows.specs.Rows.{Row, namedIn}
+use Rattle.answer_rows.specs.Answers.{answerWidth, answerNumbers}
 use Rattle.night_windows.specs.Windows.{checkedAt}
 use Rattle.night_answers.specs.Answers.{Lent, answerBy, answerOf}
 use Rattle.midnight.specs.Run.{answerRow, rowsOf}

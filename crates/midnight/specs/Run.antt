@@ -8,7 +8,8 @@ use lib.Ieee.{Float}
 use Rattle.base.specs.Choose.{choose}
 use Rattle.base.specs.Loop.{listed, stored}
 use Rattle.table_check.specs.Check.{tableRefusal}
-use Rattle.night_rows.specs.Rows.{Row, rowOf, rowAt, answerWidth, answerNumbers, countRefusal}
+use Rattle.night_rows.specs.Rows.{Row, rowOf, rowAt}
+use Rattle.answer_rows.specs.Answers.{answerWidth, answerNumbers, countRefusal}
 use Rattle.night_answers.specs.Answers.{Lent, answerOf}
 
 -- ---- refusals of the whole call

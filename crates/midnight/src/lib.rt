@@ -1,15 +1,16 @@
 // The midnight run: up to 4,096 bodies over up to 16 windows and one table. Tables are checked once and each window once, however many bodies
-// name it. `night_rows` has what stands where, `night_windows` the check of a window, `night_answers` one body's answer; here is the call whole.
+// name it. `night_rows` and `answer_rows` have what stands where, `night_windows` the check of a window, `night_answers` one body's
+// answer; here is the call whole.
 // Each answer is the single step's, and follows its body in any order (proofs/Orders.antt).
-use night_rows::count_refusal;
+use answer_rows::count_refusal;
+use answer_rows::put_row;
 use night_rows::numbers_at;
-use night_rows::put_row;
 use night_rows::words_at;
 ghost use mathlib.Core.Path.{_≡_};
 ghost use Prim.Native.Nat.{_≤_};
 ghost use lib.ListN.{length};
 ghost use Rattle.base.specs.Loop.{stored};
-ghost use Rattle.night_rows.specs.Rows.{countRefusal};
+ghost use Rattle.answer_rows.specs.Answers.{countRefusal};
 ghost use Rattle.night_answers.specs.Answers.{lentWith};
 ghost use Rattle.midnight.specs.Run.{runRefusal, bodiesOf, rowsOf, checkedWritten, runWritten};
 

@@ -5,9 +5,9 @@ mod rows;
 mod two;
 
 use fall_rule::Fall;
-use falls::FallingAnswer;
 use rows::fill_numbers;
 use rows::fill_words;
+use step_answers::FallingAnswer;
 
 // States: 0 air, 1 a cube, 2 a cell of 16 small boxes, 3 water.
 const RECORDS: [u32; 80] = [

@@ -19,12 +19,12 @@ use Rattle.groups.specs.Groups.{groupCount}
 use Rattle.groups.specs.Summary.{hasSummary, buildRefusal, built, isInside, setRefusal, afterSet, CellSet, afterSets, agrees}
 use Rattle.groups.proofs.Sets.{Kept, built-there, built-fresh, many-sets}
 use Rattle.summary.specs.Calls.{plain}
-use Rattle.falls.specs.declared.FallingAnswer.{FallingAnswer}
+use Rattle.step_answers.specs.declared.FallingAnswer.{FallingAnswer}
 use Rattle.falls.specs.Answers.{fallingEntry}
 use Rattle.logs.specs.declared.CellSet.{CellSet as LogSet}
 use Rattle.logs.specs.declared.Event.{Event}
 use Rattle.logs.specs.declared.Event.the-variants as event
-use Rattle.minute.specs.Minute.{Lent, windowOf, State, older, stepOn, ended, stepped, ticked, setPlace, changed, eventOn, after, startRefusal, start, minute}
+use Rattle.minute_state.specs.Minute.{Lent, windowOf, State, older, stepOn, ended, stepped, ticked, setPlace, changed, eventOn, after, startRefusal, start, minute}
 use Rattle.minute.specs.Separate.{singleStep, setAlone, eventAlone, separately, Equals}
 use Rattle.minute.proofs.Plain.{plain-built, plain-set, lent-kept, tick-plain}
 

@@ -13,12 +13,12 @@ use Rattle.window.specs.Window.{indexOf}
 use Rattle.groups.specs.Summary.{isInside, agrees}
 use Rattle.summary.specs.Calls.{plain}
 use Rattle.fall_rule.specs.declared.Fall.{Fall}
-use Rattle.falls.specs.declared.FallingAnswer.{FallingAnswer}
+use Rattle.step_answers.specs.declared.FallingAnswer.{FallingAnswer}
 use Rattle.falls.specs.Answers.{fallingEntry}
 use Rattle.logs.specs.declared.CellSet.{CellSet}
 use Rattle.logs.specs.declared.Event.{Event}
 use Rattle.logs.specs.declared.Event.the-variants as event
-use Rattle.minute.specs.Minute.{Lent, windowOf, State, older, ended, ticked, setPlace}
+use Rattle.minute_state.specs.Minute.{Lent, windowOf, State, older, ended, ticked, setPlace}
 
 -- the words of a state are those of cells and columns here
 abbrev pub singleStep : Lent → State → FallingAnswer

@@ -3,69 +3,25 @@
 use bodies::BodyNumbers;
 use bodies::MotionNumbers;
 use bodies::Rules;
-use boxes::Vec3;
-use fall_rule::Fall;
 use groups::Place;
 use logs::CellSet;
 use logs::Event;
 use logs::Log;
+use minute_state::Minute;
+use minute_state::begin;
+use minute_state::ended_with;
+use minute_state::ticked;
 use window::Window;
 ghost use mathlib.Core.Path.{_≡_};
 ghost use mathlib.Core.List.{[]};
-ghost use Prim.Native.Nat.{_<_, _*_};
+ghost use Prim.Native.Nat.{_<_};
 ghost use Rattle.base.specs.Loop.{listed, stored};
 ghost use Rattle.window.specs.Numbers.{withAir};
 ghost use Rattle.groups.specs.Groups.{cellAt};
 ghost use Rattle.groups.specs.Summary.{setRefusal, afterSet};
 ghost use Rattle.logs.specs.Logs.{logWord, eventAt, eventsBy};
-ghost use Rattle.minute.specs.Minute.{lentBy, older, after, start, startRefusal, minute, numbersOf};
-ghost use Rattle.minute.specs.Turns.{minuteOf, stateOf, endedWith, stepBy, tickedBy, feetNumbers, feetBy, turnedBy, wordsBy, feetAfter};
-
-// What a host is handed of the state after a log: how many ticks were done, and the refusal that ended it, or 0. Its cells and its summary stand in
-// the lent words.
-pub struct Minute {
-    pub motion: MotionNumbers,
-    pub age: u64,
-    pub fall: Fall,
-    pub ticks: u32,
-    pub refusal: u32,
-}
-
-fn minute_of(motion: MotionNumbers, age: u64, fall: Fall, ticks: u32, refusal: u32) -> Minute
-    ensures { λ r. ⌜ r ≡ record { motion = motion; age = age; fall = fall; ticks = ticks; refusal = refusal } ⌝ }
-{
-    Minute {
-        motion,
-        age,
-        fall,
-        ticks,
-        refusal,
-    }
-}
-
-fn ended_with(m: Minute, refusal: u32) -> Minute
-    ensures { λ r. ⌜ r ≡ endedWith m refusal ⌝ }
-{
-    let motion = m.motion;
-    let fall = m.fall;
-    minute_of(motion, m.age, fall, m.ticks, refusal)
-}
-
-fn older_than(age: u64) -> u64
-    ensures { λ r. ⌜ r ≡ older age ⌝ }
-{
-    std::num::wrapping_add_u64(age, 1)
-}
-
-// The feet of tick number n.
-fn put_feet(feet: &mut [f64], n: u32, v: Vec3)
-    ensures { λ _. ⌜ now (feet .exit) ≡ stored (now (feet .entry)) (n * 3) (feetNumbers v) ⌝ }
-{
-    let at = n as usize * 3;
-    lent_numbers::put(feet, at, v.x);
-    lent_numbers::put(feet, at + 1, v.y);
-    lent_numbers::put(feet, at + 1 + 1, v.z);
-}
+ghost use Rattle.minute_state.specs.Minute.{lentBy, after, startRefusal, minute, numbersOf};
+ghost use Rattle.minute_state.specs.Turns.{minuteOf, stateOf, stepBy, tickedBy, feetBy, turnedBy, wordsBy, feetAfter};
 
 // One tick, over the words as they now are.
 fn tick(
@@ -78,14 +34,7 @@ fn tick(
     let given = m.motion;
     let fall = m.fall;
     let a = falls::step_falling_checked(records, shapes, words, window::with_air(w, rules.air), rules, body, given, m.age, fall);
-    let refusal = a.step.refusal;
-    if refusal != 0 {
-        return ended_with(m, refusal);
-    }
-    put_feet(feet, m.ticks, a.step.motion.feet);
-    let motion = a.step.motion;
-    let after = a.fall;
-    minute_of(motion, older_than(m.age), after, m.ticks + 1, 0)
+    ticked(m, a, feet)
 }
 
 fn place_of(q: CellSet) -> Place
@@ -142,17 +91,6 @@ fn play(
         i += 1;
     }
     m
-}
-
-// Before the first event, with a fresh fall record.
-fn begin(given: MotionNumbers, age: u64, refusal: u32) -> Minute
-    ensures { λ r. ⌜ r ≡ minuteOf (start given age [] refusal) ⌝ }
-{
-    let fall = Fall {
-        sum: 0.0,
-        landed: 0.0,
-    };
-    minute_of(given, age, fall, 0, refusal)
 }
 
 // 1 to 4, before anything runs; then 11 for words with no room for a summary.

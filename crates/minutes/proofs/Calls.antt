@@ -16,10 +16,11 @@ use Rattle.summary.specs.Calls.{plain}
 use Rattle.files.proofs.Scenes.{unfit, are}
 use Rattle.logs.specs.declared.Log.{Log}
 use Rattle.logs.specs.Logs.{isLog, logOf, eventsBy}
-use Rattle.minute.specs.declared.Minute.{Minute}
-use Rattle.minute.specs.Minute.{State, lentBy, start, minute, numbersOf}
-use Rattle.minute.specs.Turns.{minuteOf}
-use Rattle.minutes.specs.Calls.{wholeBody, shortOf, shortAt, minuteAt, minuteWritten}
+use Rattle.minute_state.specs.declared.Minute.{Minute}
+use Rattle.minute_state.specs.Minute.{State, lentBy, start, minute, numbersOf}
+use Rattle.minute_state.specs.Turns.{minuteOf}
+use Rattle.minute_told.specs.Numbers.{minuteWritten}
+use Rattle.minutes.specs.Calls.{wholeBody, shortOf, shortAt, minuteAt}
 
 -- ---- a refusal before anything runs
 

@@ -1,22 +1,18 @@
 -- A minute in lent memory: a body in the order of a scene file, 19 numbers and 7 words, a log as its bytes, and `places`, how many numbers there is room
 -- for in what is lent to be written to.
-use mathlib.Core.Bool.{Bool, _&&_, _||_}
-use mathlib.Core.List.{List, [], _∷_}
+use mathlib.Core.Bool.{Bool, _&&_}
+use mathlib.Core.List.{List}
 use Prim.Native.Nat.{ℕ}
-use lib.Dec.{eqb, ltb, leb}
-use lib.IntN.{pos}
-use lib.Ieee.{Float, binary64, ofInt}
+use lib.Dec.{eqb, leb}
+use lib.Ieee.{Float}
 use Rattle.base.specs.Choose.{choose}
-use Rattle.base.specs.Loop.{stored}
 use Rattle.bodies.specs.Numbers.{lengthsFit}
 use Rattle.bodies.specs.Lent.{motionAt, bodyAt, rulesAt, bodyRefusal}
 use Rattle.window.specs.declared.Window.{Window}
 use Rattle.lent.specs.Lent.{lentRefusal}
-use Rattle.lent_words.specs.Words.{lowOf, highOf}
 use Rattle.summary.specs.Calls.{plain}
 use Rattle.logs.specs.Logs.{isLog, eventsOf}
-use Rattle.minute.specs.declared.Minute.{Minute}
-use Rattle.minute.specs.Minute.{State, lentBy, start, minute}
+use Rattle.minute_state.specs.Minute.{State, lentBy, start, minute}
 
 -- ---- what is handed over
 
@@ -43,21 +39,3 @@ minuteAt records shapes cells w numbers words age log places =
     (minute (lentBy records shapes w (rulesAt numbers words) (bodyAt numbers words)) cells (motionAt numbers words) age (eventsOf log))
     (start (motionAt numbers words) age cells (shortAt records shapes cells w numbers words)))
     (start (motionAt numbers words) age cells 8)
-
--- ---- what is handed back
-
--- feet, velocity, ground; the fall record, sum and landed; how many ticks were done; the age, low word and high
-abbrev pub minuteNumbers : Minute → List Float
-minuteNumbers m =
-    m .motion .feet .x ∷ m .motion .feet .y ∷ m .motion .feet .z
-    ∷ m .motion .velocity .x ∷ m .motion .velocity .y ∷ m .motion .velocity .z
-    ∷ ofInt binary64 (pos (m .motion .ground)) ∷ m .fall .sum ∷ m .fall .landed
-    ∷ ofInt binary64 (pos (m .ticks)) ∷ ofInt binary64 (pos (lowOf (m .age))) ∷ ofInt binary64 (pos (highOf (m .age))) ∷ []
-
--- the log came to its end, or a tick was done
-abbrev pub hasMoved : Minute → Bool
-hasMoved m = eqb (m .refusal) 0 || ltb 0 (m .ticks)
-
--- a refusal before the first tick writes nothing
-unfoldable pub minuteWritten : List Float → Minute → List Float
-minuteWritten out m = choose (hasMoved m) (stored out 0 (minuteNumbers m)) out

@@ -1,26 +1,19 @@
 // What a host of minutes links beside `exports`, or alone: a body run through the events of a log, over lent memory. The order of parameters is that of
 // the step in `exports`. In an archive of its own the step has one caller, and the compiler puts it there.
-use bodies::MotionNumbers;
-use lent_numbers::put;
-use lent_numbers::put_vec;
-use lent_steps::float_of;
 use logs::Log;
 use logs::Logged;
-use minute::Minute;
+use minute_state::Minute;
 use window::Window;
 ghost use mathlib.Core.Path.{_≡_};
-ghost use mathlib.Core.List.{[], _∷_};
-ghost use lib.IntN.{pos};
-ghost use lib.Ieee.{binary64, ofInt};
 ghost use lib.ListN.{length};
 ghost use Rattle.base.specs.Loop.{stored};
 ghost use Rattle.bodies.specs.Lent.{motionAt, bodyAt, rulesAt};
 ghost use Rattle.window.specs.Numbers.{windowOf};
-ghost use Rattle.lent_words.specs.Words.{lowOf, highOf};
 ghost use Rattle.logs.specs.Logs.{eventsBy};
-ghost use Rattle.minute.specs.Minute.{lentBy, minute, numbersOf};
-ghost use Rattle.minute.specs.Turns.{minuteOf};
-ghost use Rattle.minutes.specs.Calls.{wholeBody, shortAt, minuteAt, minuteNumbers, hasMoved, minuteWritten};
+ghost use Rattle.minute_state.specs.Minute.{lentBy, minute, numbersOf};
+ghost use Rattle.minute_state.specs.Turns.{minuteOf};
+ghost use Rattle.minute_told.specs.Numbers.{minuteWritten};
+ghost use Rattle.minutes.specs.Calls.{wholeBody, shortAt, minuteAt};
 
 fn whole_body(numbers: &[f64], words: &[u32], places: usize) -> bool
     ensures { λ r. ⌜ r ≡ wholeBody (now (numbers .entry)) (now (words .entry)) places ⌝ }
@@ -42,53 +35,6 @@ fn short_at(records: &[u32], shapes: &[f32], cells: &[u32], w: Window, numbers: 
         return early;
     }
     lent
-}
-
-// Seven numbers, from the first place on.
-fn put_motion(out: &mut [f64], m: MotionNumbers)
-    ensures { λ _. ⌜ now (out .exit) ≡ stored (now (out .entry)) 0 (m .feet .x ∷ m .feet .y ∷ m .feet .z ∷ m .velocity .x ∷ m .velocity .y ∷ m .velocity .z ∷ ofInt binary64 (pos (m .ground)) ∷ []) ⌝ }
-{
-    put_vec(out, 0, m.feet);
-    put_vec(out, 3, m.velocity);
-    put(out, 6, float_of(m.ground));
-}
-
-// From place 9 on: how many ticks were done, and the age.
-fn put_counts(out: &mut [f64], ticks: u32, age: u64)
-    ensures { λ _. ⌜ now (out .exit) ≡ stored (now (out .entry)) 9 (ofInt binary64 (pos ticks) ∷ ofInt binary64 (pos (lowOf age)) ∷ ofInt binary64 (pos (highOf age)) ∷ []) ⌝ }
-{
-    put(out, 9, float_of(ticks));
-    put(out, 10, float_of(lent_words::low_of(age)));
-    put(out, 11, float_of(lent_words::high_of(age)));
-}
-
-// Twelve numbers, as `minuteNumbers` has them.
-fn put_minute(out: &mut [f64], m: Minute)
-    ensures { λ _. ⌜ now (out .exit) ≡ stored (now (out .entry)) 0 (minuteNumbers m) ⌝ }
-{
-    let motion = m.motion;
-    put_motion(out, motion);
-    put(out, 7, m.fall.sum);
-    put(out, 8, m.fall.landed);
-    put_counts(out, m.ticks, m.age);
-}
-
-fn has_moved(m: Minute) -> bool
-    ensures { λ r. ⌜ r ≡ hasMoved m ⌝ }
-{
-    (m.refusal == 0) | (0 < m.ticks)
-}
-
-// A refusal before the first tick writes nothing.
-fn minute_into(out: &mut [f64], m: Minute) -> u32
-    ensures { λ r. ⌜ r ≡ m .refusal ⌝ }
-    ensures { λ _. ⌜ now (out .exit) ≡ minuteWritten (now (out .entry)) m ⌝ }
-{
-    if has_moved(m) {
-        put_minute(out, m);
-        return m.refusal;
-    }
-    m.refusal
 }
 
 // The minute of a body that has its numbers.
@@ -126,7 +72,7 @@ pub extern "C" fn boltjuniper_minute(
         Logged::Is(l) => {
             if whole_body(numbers, words, out.len()) {
                 let m = run_body(records, shapes, cells, w, numbers, words, age, log, l, feet);
-                return minute_into(out, m);
+                return minute_told::minute_into(out, m);
             }
             short_at(records, shapes, cells, w, numbers, words)
         }

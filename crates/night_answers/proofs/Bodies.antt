@@ -17,10 +17,10 @@ use Rattle.window.specs.declared.Window.{Window}
 use Rattle.window.specs.Window.{windowFits, windowRefusal}
 use Rattle.lent.specs.Lent.{unless, lentRefusal}
 use Rattle.bodies.specs.declared.MotionNumbers.{MotionNumbers}
-use Rattle.ticks.specs.declared.Tick.{Tick}
+use Rattle.step_answers.specs.declared.Tick.{Tick}
 use Rattle.step.specs.Answers.{stepAnswer, pastAsked}
 use Rattle.fall_rule.specs.declared.Fall.{Fall}
-use Rattle.falls.specs.declared.FallingAnswer.{FallingAnswer}
+use Rattle.step_answers.specs.declared.FallingAnswer.{FallingAnswer}
 use Rattle.fall_rule.specs.Rule.{fallFits}
 use Rattle.falls.specs.Answers.{withFall, fallingChecked, fallingEntry, HandedBack}
 use Rattle.falls.proofs.Laws.{checked-alike}

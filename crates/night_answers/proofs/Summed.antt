@@ -21,10 +21,10 @@ use Rattle.groups.specs.Summary.{wordsBefore, hasSummary, agrees, summaryRefusa
 use Rattle.groups.proofs.Sets.{Has, has}
 use Rattle.summary.specs.Calls.{plain}
 use Rattle.bodies.specs.Limits.{numberRefusal}
-use Rattle.ticks.specs.declared.Tick.{Tick}
+use Rattle.step_answers.specs.declared.Tick.{Tick}
 use Rattle.step.specs.Answers.{stepAnswer, checkedAsked, fitting, summedAsked}
 use Rattle.step.proofs.Summed.{past-plain}
-use Rattle.falls.specs.declared.FallingAnswer.{FallingAnswer}
+use Rattle.step_answers.specs.declared.FallingAnswer.{FallingAnswer}
 use Rattle.fall_rule.specs.Rule.{fallFits}
 use Rattle.falls.specs.Answers.{withFall, fallingChecked, fallingEntry, fallingSummed}
 use Rattle.falls.proofs.Laws.{summed-alike}

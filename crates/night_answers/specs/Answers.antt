@@ -6,7 +6,7 @@ use lib.Dec.{ltb, eqb}
 use lib.Ieee.{Float}
 use Rattle.base.specs.Choose.{choose}
 use Rattle.bodies.specs.Limits.{numberRefusal}
-use Rattle.falls.specs.declared.FallingAnswer.{FallingAnswer}
+use Rattle.step_answers.specs.declared.FallingAnswer.{FallingAnswer}
 use Rattle.fall_rule.specs.Rule.{fallFits}
 use Rattle.falls.specs.Answers.{refusedFalling, fallingChecked, fallingEntry}
 use Rattle.night_rows.specs.declared.WindowRow.{WindowRow}

@@ -1,6 +1,5 @@
 // One body's answer in the midnight run: its row's own 3, then 10, then 2 of its window, then what the step gives. It is the single step's
 // (proofs/Bodies.antt, `single`), over a summary too (proofs/Summed.antt).
-use falls::FallingAnswer;
 use night_rows::WindowRow;
 use night_rows::age_in;
 use night_rows::fall_in;
@@ -13,6 +12,7 @@ use night_rows::window_at;
 use night_windows::cells_in;
 use night_windows::last_in;
 use night_windows::step_words;
+use step_answers::FallingAnswer;
 ghost use mathlib.Core.Path.{_≡_};
 ghost use lib.ListN.{getD};
 ghost use Rattle.tables.specs.Tables.{wordAt};
@@ -25,7 +25,7 @@ fn refused_body(older: bool, refusal: u32, numbers: &[f64], words: &[u32]) -> Fa
 {
     let given = given_in(older, numbers, words);
     let fall = fall_in(numbers);
-    falls::refused_falling(refusal, given, fall)
+    step_answers::refused_falling(refusal, given, fall)
 }
 
 // The step in a window that passed its check.

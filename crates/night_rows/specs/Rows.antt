@@ -1,13 +1,11 @@
--- Windows, bodies and answers are lent in rows, one row after the other. How wide a row is, and what stands where in it, is said here alone.
-use mathlib.Core.Bool.{Bool, _&&_, _||_}
-use mathlib.Core.List.{List, _∷_}
-use Prim.Native.Nat.{ℕ, _+_, _*_}
-use lib.Dec.{eqb, ltb}
-use lib.IntN.{pos}
+-- Windows and bodies are lent in rows, one row after the other. How wide a row is, and what stands where in it, is said here alone.
+use mathlib.Core.Bool.{Bool, _&&_}
+use mathlib.Core.List.{List}
+use Prim.Native.Nat.{ℕ, _*_}
+use lib.Dec.{eqb}
 use lib.ListN.{length, take, drop}
-use lib.Ieee.{Float, binary64, ofInt}
+use lib.Ieee.{Float}
 use Rattle.base.specs.Choose.{choose}
-use Rattle.base.specs.Loop.{stored}
 use Rattle.tables.specs.Tables.{wordAt}
 use Rattle.bodies.specs.declared.BodyNumbers.{BodyNumbers}
 use Rattle.bodies.specs.declared.Rules.{Rules}
@@ -15,9 +13,7 @@ use Rattle.bodies.specs.declared.MotionNumbers.{MotionNumbers}
 use Rattle.bodies.specs.Body.{withCap}
 use Rattle.bodies.specs.Numbers.{numberAt, motionFrom, bodyFrom, rulesFrom}
 use Rattle.lent_words.specs.Words.{wideOf, windowFrom}
-use Rattle.lent_steps.specs.Falling.{fallingNumbers}
 use Rattle.fall_rule.specs.declared.Fall.{Fall}
-use Rattle.falls.specs.declared.FallingAnswer.{FallingAnswer}
 use Rattle.fall_rule.specs.Rule.{fallOf}
 use Rattle.night_rows.specs.declared.WindowRow.{WindowRow}
 
@@ -89,22 +85,3 @@ rulesIn row = withCap (rulesFrom (numberAt (row .numbers)) (sceneWord row)) (cap
 
 abbrev pub fallIn : Row → Fall
 fallIn row = fallOf (numberAt (row .numbers) 19) (numberAt (row .numbers) 20)
-
--- ---- an answer: its refusal; feet, velocity, ground and liquid; the fall record after it; the case of its sample, and the sampled number. What a
--- later rule tells of a step comes behind
-
-abbrev pub answerWidth : ℕ
-answerWidth = 13
-
-abbrev pub answerNumbers : FallingAnswer → List Float
-answerNumbers a = ofInt binary64 (pos (a .step .refusal)) ∷ fallingNumbers a
-
--- a body's answer goes to its own row, refused or not
-abbrev pub rowWritten : List Float → ℕ → FallingAnswer → List Float
-rowWritten out i a = stored out (i * answerWidth) (answerNumbers a)
-
--- ---- how many rows a call may have: 14 for more windows or bodies than these, then 11 for less room than their answers take; or 0
-
-unfoldable pub countRefusal : ℕ → ℕ → ℕ → ℕ
-countRefusal windows bodies room =
-    choose (ltb 16 windows || ltb 4096 bodies) 14 (choose (ltb room (bodies * answerWidth)) 11 0)

@@ -1,10 +1,7 @@
-// Rows of the midnight run: windows, bodies and answers stand one row behind the other in lent slices. Of a row that is not there whole, what
-// there is of it. body.rt reads a body out of its row, answer.rt writes an answer into its own.
-mod answer;
+// Rows of the midnight run: windows and bodies stand one row behind the other in lent slices. Of a row that is not there whole, what there is of
+// it. body.rt reads a body out of its row.
 mod body;
 
-pub use answer::count_refusal;
-pub use answer::put_row;
 pub use body::age_in;
 pub use body::fall_in;
 pub use body::given_in;
@@ -16,7 +13,7 @@ ghost use mathlib.Core.Path.{_≡_};
 ghost use lib.ListN.{take, drop};
 ghost use Rattle.night_rows.specs.Rows.{rowOf, windowWidth, numberWidth, wordWidth, windowOfRow, windowAt};
 
-// How many words a window has, numbers and words a body, and numbers an answer.
+// How many words a window has, and numbers and words a body.
 pub const WINDOW_WIDTH: usize = 10;
 
 pub(crate) const NUMBER_WIDTH: usize = 21;
@@ -27,8 +24,6 @@ pub(crate) const WORD_WIDTH: usize = 10;
 pub(crate) const OLDER_WIDTH: usize = 9;
 
 pub(crate) const OLDER_CAP: u32 = 128;
-
-pub(crate) const ANSWER_WIDTH: usize = 13;
 
 // A window, and where its own words begin among those of all windows, and how many they are.
 pub struct WindowRow {

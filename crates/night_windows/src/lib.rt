@@ -50,13 +50,13 @@ fn own_refusal(records: &[u32], own: &[u32], w: Window) -> u32
     ensures { λ r. ⌜ r ≡ ownRefusal (now (records .entry)) (now (own .entry)) w ⌝ }
 {
     if is_summed(own, w) {
-        if window::check_window(summary::plain_words(own, w), w) == 0 {
+        if window_check::check_window(summary::plain_words(own, w), w) == 0 {
             let air = last_in(own);
             return groups::check_summary(records, front(own), window::with_air(w, air));
         }
         return 2;
     }
-    window::check_window(own, w)
+    window_check::check_window(own, w)
 }
 
 // 0, 2 or 13.

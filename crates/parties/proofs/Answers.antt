@@ -12,15 +12,16 @@ use borrow.Author.Tests.{ne-eqb, le-ltb}
 use Rattle.base.specs.Choose.{choose}
 use Rattle.base.specs.Loop.{stored}
 use Rattle.table_check.specs.Check.{tableRefusal}
-use Rattle.night_rows.specs.Rows.{rowOf, rowAt, windowAt, isWhole, namedIn, answerWidth, answerNumbers}
+use Rattle.night_rows.specs.Rows.{rowOf, rowAt, windowAt, isWhole, namedIn}
+use Rattle.answer_rows.specs.Answers.{answerWidth, answerNumbers, countRefusal}
 use Rattle.night_answers.specs.Answers.{refusedBody, singleStep}
-use Rattle.night_rows.specs.Rows.{countRefusal}
 use Rattle.midnight.specs.Run.{runRefusal, rowsOf, checkedWritten, runWritten}
 use Rattle.base.proofs.Listed.{listed-length}
 use Rattle.night_answers.proofs.Bodies.{Named, no-window}
 use Rattle.midnight.proofs.Orders as midnight
 use Rattle.parties.specs.Parties.{Call, Who, partyOf, lentTo, bodiesIn, halfLength, halfOf, partyRefusal, refusalOf, partyWritten, halfAfter, callWritten}
-use Rattle.parties.proofs.Halves.{half-length, own-half}
+use Rattle.halves.proofs.Halves.{half-length}
+use Rattle.parties.proofs.Halves.{own-half}
 
 -- ---- the limits, in the words of the request: "14 for more than 2,048 bodies or 16 windows, then 11 for its half"
 

@@ -12,7 +12,8 @@ use Rattle.base.specs.Choose.{choose}
 use Rattle.table_check.specs.Check.{tableRefusal}
 use Rattle.parties.specs.declared.Refusals.{Refusals}
 use Rattle.parties.specs.Parties.{Call, Who, first, second, partyOf, lentTo, bodiesIn, halfLength, halfOf, nobodys, partyRefusal, refusalOf, callRefusals, partyWritten, halfAfter, callWritten}
-use Rattle.parties.proofs.Halves.{half-length, written-length}
+use Rattle.halves.proofs.Halves.{half-length}
+use Rattle.parties.proofs.Halves.{written-length}
 
 abbrev refusals : ℕ → ℕ → Refusals
 refusals r s = record { first = r; second = s }

@@ -2,15 +2,16 @@
 -- buffer; a refusal of the one is no business of the other.
 use mathlib.Core.Bool.{false}
 use mathlib.Core.List.{List, _++_}
-use Prim.Native.Nat.{ℕ, _+_, _/_}
+use Prim.Native.Nat.{ℕ}
 use lib.Dec.{ltb, eqb}
-use lib.ListN.{length, take, drop}
+use lib.ListN.{length}
 use lib.Ieee.{Float}
 use Rattle.base.specs.Choose.{choose}
 use Rattle.table_check.specs.Check.{tableRefusal}
+pub use Rattle.halves.specs.Halves.{Who, first, second, halfLength, placeOf, halfOf, nobodys}
 use Rattle.night_rows.specs.Rows.{Row}
 use Rattle.night_answers.specs.Answers.{Lent, lentWith}
-use Rattle.night_rows.specs.Rows.{countRefusal}
+use Rattle.answer_rows.specs.Answers.{countRefusal}
 use Rattle.midnight.specs.Run.{bodiesOf, checkedWritten, answersIn}
 use Rattle.parties.specs.declared.Refusals.{Refusals}
 
@@ -37,14 +38,10 @@ pub record Call : Type 0 where
   pub out : List Float
 
 abbrev pub callWith : List ℕ → List Float → Party → Party → List Float → Call
-callWith records shapes first second out =
-    record { records = records; shapes = shapes; first = first; second = second; out = out }
+callWith records shapes one two out =
+    record { records = records; shapes = shapes; first = one; second = two; out = out }
 
 -- ---- one of the two
-
-pub data Who : Type 0 where
-  first : Who
-  second : Who
 
 abbrev pub partyOf : Who → Call → Party
 partyOf first call = call .first
@@ -57,23 +54,6 @@ lentTo who call =
 
 abbrev pub bodiesIn : Who → Call → List Row
 bodiesIn who call = bodiesOf false (partyOf who call .numbers) (partyOf who call .words) (partyOf who call .bodies)
-
--- ---- its half of the buffer: places 0 to h - 1, and h to 2h - 1
-
--- h, rounded down
-abbrev pub halfLength : List Float → ℕ
-halfLength out = length out / 2
-
-abbrev pub placeOf : Who → List Float → ℕ
-placeOf first out = 0
-placeOf second out = halfLength out
-
-abbrev pub halfOf : Who → List Float → List Float
-halfOf who out = take (halfLength out) (drop (placeOf who out) out)
-
--- a last odd place is nobody's
-abbrev pub nobodys : List Float → List Float
-nobodys out = drop (halfLength out + halfLength out) out
 
 -- ---- refusals
 

@@ -20,7 +20,7 @@ use Rattle.window.specs.Window.{within, sizesFit}
 use Rattle.window.specs.Look.{lookAt}
 use Rattle.ranges.specs.declared.Range.{Range}
 use Rattle.ranges.specs.Ranges.{onFrom, placeAt}
-use Rattle.groups.specs.declared.Group.{Group}
+use Rattle.group_words.specs.declared.Group.{Group}
 use Rattle.groups.specs.declared.Layout.{Layout}
 use Rattle.groups.specs.Groups.{groupsOn, groupCount, groupIndex, groupAt, cut, cellAt, isEmpty, isEmptyLine, isEmptyLayer, isEmptyGroup, groupWord}
 use Rattle.groups.specs.Summary.{wordsBefore, hasSummary}

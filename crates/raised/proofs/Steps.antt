@@ -34,12 +34,12 @@ use Rattle.drags.specs.declared.Support.{Support}
 use Rattle.drags.specs.Drags.{sunk, applyLivingDrag, keptAfter, pulled}
 use Rattle.samples.specs.Samples.{supportingFriction, livingSample, livingSupport, groundSupport, supportAfter}
 use Rattle.through.specs.Through.{moveAabb}
-use Rattle.ticks.specs.declared.Tick.{Tick}
+use Rattle.step_answers.specs.declared.Tick.{Tick}
 use Rattle.ticks.specs.Step.{tickAfter, afterMove, moveOnBy, tickBegins, senses, stepBodyBy, stepBodySensed}
-use Rattle.step.specs.declared.StepAnswer.{StepAnswer}
+use Rattle.step_answers.specs.declared.StepAnswer.{StepAnswer}
 use Rattle.step.specs.Answers.{stepAnswer, fitting, checkedAsked, stepEntry, summedAsked, stepSummed}
 use Rattle.fall_rule.specs.declared.Fall.{Fall}
-use Rattle.falls.specs.declared.FallingAnswer.{FallingAnswer}
+use Rattle.step_answers.specs.declared.FallingAnswer.{FallingAnswer}
 use Rattle.fall_rule.specs.Rule.{fallFits}
 use Rattle.falls.specs.Answers.{withFall, fallingEntry, fallingSummed}
 use Rattle.raised.specs.Raised.{Raised, Alters6}

@@ -18,10 +18,10 @@ use Rattle.bodies.specs.declared.MotionNumbers.{MotionNumbers}
 use Rattle.bodies.specs.declared.Rules.{Rules}
 use Rattle.bodies.specs.Body.{withCap}
 use Rattle.moves.specs.Answers.{collectEntry, moveEntry, moveSummed}
-use Rattle.step.specs.declared.StepAnswer.{StepAnswer}
+use Rattle.step_answers.specs.declared.StepAnswer.{StepAnswer}
 use Rattle.step.specs.Answers.{stepEntry, stepSummed}
 use Rattle.fall_rule.specs.declared.Fall.{Fall}
-use Rattle.falls.specs.declared.FallingAnswer.{FallingAnswer}
+use Rattle.step_answers.specs.declared.FallingAnswer.{FallingAnswer}
 use Rattle.falls.specs.Answers.{fallingEntry, fallingSummed}
 
 -- two caps, of which the second in force is not below the first

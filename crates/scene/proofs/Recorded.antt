@@ -23,7 +23,7 @@ use Rattle.bodies.specs.Body.{isYes, flapOf, bodyOf}
 use Rattle.bodies.specs.Numbers.{numberAt, lengthsFit}
 use Rattle.bodies.specs.Limits.{isExtent, isSmall, measuresFit, casesFit, rulesFit, numbersFit, motionFits, numberRefusal}
 use Rattle.bodies.specs.Lent.{motionAt, bodyAt, rulesAt, bodyRefusal}
-use Rattle.step.specs.declared.StepAnswer.{StepAnswer}
+use Rattle.step_answers.specs.declared.StepAnswer.{StepAnswer}
 use Rattle.step.specs.Answers.{stepEntry}
 use Rattle.files.specs.Places.{presentWord}
 use Rattle.files.specs.Files.{isScene}

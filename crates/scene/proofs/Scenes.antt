@@ -5,7 +5,7 @@ use Prim.Native.Nat.{ℕ, _≤_}
 use Rattle.base.specs.Choose.{choose}
 use Rattle.base.specs.Ask.{refused, found}
 use Rattle.base.proofs.Cases.{yes, no}
-use Rattle.step.specs.declared.StepAnswer.{StepAnswer}
+use Rattle.step_answers.specs.declared.StepAnswer.{StepAnswer}
 use Rattle.files.specs.declared.Counts.{Counts}
 use Rattle.files.specs.Files.{countsOf, blocksFor, isScene}
 use Rattle.files.proofs.Scenes.{no-scene, scene}

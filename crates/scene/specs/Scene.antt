@@ -7,7 +7,7 @@ use Rattle.boxes.specs.Boxes.{vec}
 use Rattle.tables.specs.declared.LiquidKind.the-variants.{None}
 use Rattle.drags.specs.declared.Support.the-variants.{NotAsked}
 use Rattle.bodies.specs.Lent.{motionAt, bodyAt, rulesAt}
-use Rattle.step.specs.declared.StepAnswer.{StepAnswer}
+use Rattle.step_answers.specs.declared.StepAnswer.{StepAnswer}
 use Rattle.step.specs.Answers.{stepEntry}
 use Rattle.text.specs.Text.{textOf}
 use Rattle.files.specs.declared.Counts.{Counts}

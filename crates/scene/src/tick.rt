@@ -9,7 +9,7 @@ use scene_held::held;
 use scene_held::numbers_in;
 use scene_held::put_all;
 use scene_held::words_in;
-use step::StepAnswer;
+use step_answers::StepAnswer;
 use tables::LiquidKind;
 use window::Window;
 ghost use mathlib.Core.Path.{_≡_};

@@ -7,5 +7,6 @@ pub use numbers::numbers_in;
 pub use numbers::words_in;
 pub use parts::held;
 pub use parts::put_all;
+pub use parts::put_apart;
 pub use parts::put_singles;
 pub use parts::put_words;

@@ -6,7 +6,7 @@ use blocks::part_word;
 use blocks::record_part;
 use files::Counts;
 ghost use mathlib.Core.Path.{_≡_};
-ghost use Prim.Native.Nat.{min};
+ghost use Prim.Native.Nat.{_*_, min};
 ghost use lib.ListN.{take, drop, length};
 ghost use lib.Ieee.{ofBits, binary32};
 ghost use Rattle.base.specs.Loop.{listed};
@@ -61,4 +61,15 @@ pub fn put_all(words: &mut [u32], singles: &mut [f32], file: &[u8], n: Counts)
     put_words(words, file, record_part(n.states));
     put_words(&mut words[a..], file, cell_part(n.states, n.boxes, n.cells));
     put_singles(singles, file, box_part(n.states, n.boxes));
+}
+
+// Puts a scene's records, shapes and cells into places of their own, each as far as there is room.
+pub fn put_apart(records: &mut [u32], singles: &mut [f32], words: &mut [u32], file: &[u8], n: Counts)
+    ensures { λ _. ⌜ take (min (n .states * 20) (length (now (records .entry)))) (now (records .exit)) ≡ listed (partWord (now (file .entry)) (recordPart (n .states))) (min (n .states * 20) (length (now (records .entry)))) 0 ⌝ }
+    ensures { λ _. ⌜ take (min (n .boxes * 6) (length (now (singles .entry)))) (now (singles .exit)) ≡ listed (λ i. ofBits binary32 (partWord (now (file .entry)) (boxPart (n .states) (n .boxes)) i)) (min (n .boxes * 6) (length (now (singles .entry)))) 0 ⌝ }
+    ensures { λ _. ⌜ take (min (n .cells) (length (now (words .entry)))) (now (words .exit)) ≡ listed (partWord (now (file .entry)) (cellPart (n .states) (n .boxes) (n .cells))) (min (n .cells) (length (now (words .entry)))) 0 ⌝ }
+{
+    put_words(records, file, record_part(n.states));
+    put_singles(singles, file, box_part(n.states, n.boxes));
+    put_words(words, file, cell_part(n.states, n.boxes, n.cells));
 }

@@ -15,7 +15,7 @@ use Rattle.bodies.specs.declared.Rules.{Rules}
 use Rattle.drags.specs.declared.Sample.{Sample}
 use Rattle.drags.specs.Cases.{sampleOr}
 use Rattle.samples.specs.Samples.{livingSample, livingBlockFriction}
-use Rattle.step.specs.declared.FrictionAnswer.{FrictionAnswer}
+use Rattle.step_answers.specs.declared.FrictionAnswer.{FrictionAnswer}
 use Rattle.step.specs.Answers.{frictionAnswer, frictionEntry, numberAnswer, frictionNumber}
 
 pub record Same (a : FrictionAnswer) (b : Answer) : Type 0 where

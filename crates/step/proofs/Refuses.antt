@@ -20,7 +20,7 @@ use Rattle.bodies.specs.declared.BodyNumbers.{BodyNumbers}
 use Rattle.bodies.specs.declared.Rules.{Rules}
 use Rattle.bodies.specs.declared.MotionNumbers.{MotionNumbers}
 use Rattle.bodies.specs.Limits.{numbersFit, motionFits, numberRefusal}
-use Rattle.ticks.specs.declared.Tick.{Tick}
+use Rattle.step_answers.specs.declared.Tick.{Tick}
 use Rattle.ticks.proofs.Refuses.{FiveToSeven, core-refuses}
 use Rattle.step.specs.Answers.{stepAnswer, stepAsked, stepEntry}
 

@@ -22,7 +22,7 @@ use Rattle.bodies.specs.declared.Rules.{Rules}
 use Rattle.bodies.specs.declared.MotionNumbers.{MotionNumbers}
 use Rattle.bodies.specs.Body.{bodyOf, motionOf}
 use Rattle.bodies.specs.Limits.{numberRefusal}
-use Rattle.ticks.specs.declared.Tick.{Tick}
+use Rattle.step_answers.specs.declared.Tick.{Tick}
 use Rattle.ticks.specs.Step.{stepBodySensed}
 use Rattle.step.specs.Answers.{stepAnswer, fitting, checkedAsked, pastAsked, checkedEntry, summedAsked, stepSummed, stepEntry}
 use Rattle.step.proofs.Laws.{past-with}

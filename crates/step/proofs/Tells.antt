@@ -19,10 +19,10 @@ use Rattle.bodies.specs.declared.Rules.{Rules}
 use Rattle.bodies.specs.declared.MotionNumbers.{MotionNumbers}
 use Rattle.bodies.specs.Body.{isYes, yesNumber, bodyOf, motionOf}
 use Rattle.samples.specs.Samples.{isAsked}
-use Rattle.ticks.specs.declared.Tick.{Tick}
+use Rattle.step_answers.specs.declared.Tick.{Tick}
 use Rattle.ticks.specs.Step.{tellsSample}
 use Rattle.ticks.proofs.Tells.{Finds, nothing, either, tick-tells}
-use Rattle.step.specs.declared.StepAnswer.{StepAnswer}
+use Rattle.step_answers.specs.declared.StepAnswer.{StepAnswer}
 use Rattle.step.specs.Answers.{stepAnswer, stepAsked, stepEntry}
 use Rattle.step.proofs.Refuses.{Named, step-refuses}
 

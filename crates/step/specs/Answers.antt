@@ -8,7 +8,6 @@ use Rattle.base.specs.Ask.{Ask, refused, found}
 use Rattle.floats.specs.declared.Answer.{Answer}
 use Rattle.floats.specs.Numbers.{zero64}
 use Rattle.boxes.specs.declared.Vec3.{Vec3}
-use Rattle.tables.specs.declared.LiquidKind.the-variants.{None}
 use Rattle.window.specs.declared.Window.{Window}
 use Rattle.window.specs.Look.{lookAt}
 use Rattle.window.specs.Numbers.{withAir}
@@ -17,28 +16,15 @@ use Rattle.summary.specs.Calls.{plain, summed}
 use Rattle.bodies.specs.declared.BodyNumbers.{BodyNumbers}
 use Rattle.bodies.specs.declared.Rules.{Rules}
 use Rattle.bodies.specs.declared.MotionNumbers.{MotionNumbers}
-use Rattle.ticks.specs.declared.Tick.{Tick}
-use Rattle.step.specs.declared.StepAnswer.{StepAnswer}
+use Rattle.step_answers.specs.declared.Tick.{Tick}
+use Rattle.step_answers.specs.declared.StepAnswer.{StepAnswer}
+use Rattle.step_answers.specs.declared.FrictionAnswer.{FrictionAnswer}
+pub use Rattle.step_answers.specs.Answers.{stepAnswer, frictionAnswer}
 use Rattle.step.specs.declared.MotionAnswer.{MotionAnswer}
-use Rattle.step.specs.declared.FrictionAnswer.{FrictionAnswer}
-use Rattle.bodies.specs.Body.{yesNumber, bodyOf, motionOf}
+use Rattle.bodies.specs.Body.{bodyOf, motionOf}
 use Rattle.bodies.specs.Limits.{rulesFit, isPosition, numberRefusal}
-use Rattle.drags.specs.declared.Sample.{Sample}
-use Rattle.drags.specs.declared.Support.the-variants.{Asked, NotAsked}
-use Rattle.drags.specs.Cases.{sampleOr}
 use Rattle.samples.specs.Samples.{livingSample, livingBlockFriction}
 use Rattle.ticks.specs.Step.{stepBodySensed, stepBodyPast}
-
--- a refused step returns position, velocity and ground flag as given, and liquid none; "where it is refused .. it carries a fifth case, not asked"
-abbrev pub stepAnswer : MotionNumbers → Ask Tick → StepAnswer
-stepAnswer given (refused n) = record { motion = given; liquid = None; support = NotAsked; refusal = n }
-stepAnswer given (found t) =
-    record {
-      motion = record { feet = t .motion .feet; velocity = t .motion .velocity; ground = yesNumber (t .motion .ground) };
-      liquid = t .liquid;
-      support = t .support;
-      refusal = 0;
-    }
 
 -- 3, then 4, before any cell is asked for
 abbrev pub fitting : {A : Type 0} → List ℕ → Rules → BodyNumbers → MotionNumbers → Ask A → Ask A
@@ -88,14 +74,6 @@ motionAlone a = record { motion = a .motion; refusal = a .refusal }
 abbrev pub fittingFriction : {A : Type 0} → List ℕ → List Float → List ℕ → Window → Rules → Vec3 → Ask A → Ask A
 fittingFriction records shapes cells w rules feet ask =
     sound records shapes cells w (unless (not (rulesFit records rules)) 3 (unless (not (isPosition feet)) 4 ask))
-
--- a refused number is zero, and none was sampled
-abbrev pub refusedFriction : ℕ → FrictionAnswer
-refusedFriction n = record { value = zero64; support = NotAsked; refusal = n }
-
-abbrev pub frictionAnswer : Float → Ask Sample → FrictionAnswer
-frictionAnswer default (refused n) = refusedFriction n
-frictionAnswer default (found s) = record { value = sampleOr default s; support = Asked s; refusal = 0 }
 
 -- then 5
 unfoldable pub frictionEntry : List ℕ → List Float → List ℕ → Window → Rules → Vec3 → FrictionAnswer

@@ -7,78 +7,25 @@ use bodies::is_position;
 use bodies::motion_of;
 use bodies::number_refusal;
 use bodies::rules_fit;
-use bodies::yes_number;
 use boxes::Vec3;
-use drags::Sample;
-use drags::Support;
 use lent::check_lent;
 use samples::AskedSample;
-use tables::LiquidKind;
+use step_answers::FrictionAnswer;
+use step_answers::StepAnswer;
+use step_answers::friction_by;
+use step_answers::refused_friction;
+use step_answers::refused_step;
+use step_answers::step_to;
 use ticks::AskedTick;
-use ticks::Tick;
 use ticks::step_through;
 use window::Window;
 ghost use mathlib.Core.Path.{_≡_};
-ghost use Rattle.base.specs.Ask.{refused, found};
-ghost use Rattle.step.specs.Answers.{stepAnswer, checkedEntry, stepEntry, stepSummed, motionAlone, refusedFriction, frictionAnswer, frictionEntry};
+ghost use Rattle.step.specs.Answers.{checkedEntry, stepEntry, stepSummed, motionAlone, frictionEntry};
 
-// What a host is handed: refusal 0, the motion after the step, the liquid and the sample; or a refusal, the motion as given, none, and not asked.
-pub struct StepAnswer {
-    pub motion: MotionNumbers,
-    pub liquid: LiquidKind,
-    pub support: Support,
-    pub refusal: u32,
-}
-
+// A step's answer without what was sensed.
 pub struct MotionAnswer {
     pub motion: MotionNumbers,
     pub refusal: u32,
-}
-
-// The friction under a living body, and the sample that it comes from.
-pub struct FrictionAnswer {
-    pub value: f64,
-    pub support: Support,
-    pub refusal: u32,
-}
-
-// A refused step: position, velocity and ground flag as given, liquid none, and no sample asked for.
-fn refused_step(refusal: u32, given: MotionNumbers) -> StepAnswer
-    ensures { λ r. ⌜ r ≡ stepAnswer given (refused refusal) ⌝ }
-{
-    let feet = given.feet;
-    let velocity = given.velocity;
-    let support = Support::NotAsked;
-    StepAnswer {
-        motion: MotionNumbers {
-            feet,
-            velocity,
-            ground: given.ground,
-        },
-        liquid: LiquidKind::None,
-        support,
-        refusal,
-    }
-}
-
-fn step_to(given: MotionNumbers, t: Tick) -> StepAnswer
-    ensures { λ r. ⌜ r ≡ stepAnswer given (found t) ⌝ }
-{
-    let feet = t.motion.feet;
-    let velocity = t.motion.velocity;
-    let liquid = t.liquid;
-    let support = t.support;
-    let ground = yes_number(t.motion.ground);
-    StepAnswer {
-        motion: MotionNumbers {
-            feet,
-            velocity,
-            ground,
-        },
-        liquid,
-        support,
-        refusal: 0,
-    }
 }
 
 // For hosts that checked tables and window before, once for many bodies: 3 and 4, then 5, 6 and 7 as they come. That what it hands back is
@@ -155,27 +102,6 @@ pub fn step_body(
     MotionAnswer {
         motion,
         refusal: a.refusal,
-    }
-}
-
-fn refused_friction(n: u32) -> FrictionAnswer
-    ensures { λ r. ⌜ r ≡ refusedFriction n ⌝ }
-{
-    FrictionAnswer {
-        value: 0.0,
-        support: Support::NotAsked,
-        refusal: n,
-    }
-}
-
-fn friction_by(default: f64, s: Sample) -> FrictionAnswer
-    ensures { λ r. ⌜ r ≡ frictionAnswer default (found s) ⌝ }
-{
-    let value = drags::sample_or(default, s);
-    FrictionAnswer {
-        value,
-        support: Support::Asked(s),
-        refusal: 0,
     }
 }
 

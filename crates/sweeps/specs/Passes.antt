@@ -1,6 +1,6 @@
 -- How the code makes a move: up to seven passes over the boxes in one loop, so that the list is handed on once. Passes 0 to 2 are the first
 -- attempt, 3 to 5 the step-up, and 6 settles it back down. The functions that a pass is made of cite this file, and no contract of a whole
--- move does: that is `moveOver` (Move.antt), to which the passes are proved to come (`moves`, crates/boxes/proofs/Shape.antt).
+-- move does: that is `moveOver` (Move.antt), to which the passes are proved to come (`moves`, crates/sweeps/proofs/Shape.antt).
 use mathlib.Core.Bool.{Bool, true, false}
 use mathlib.Core.List.{List, [], _∷_}
 use Prim.Native.Nat.{ℕ, zero, suc, _+_, _%_}

@@ -1,4 +1,4 @@
-// The move of a box over boxes: its records. list.rt has the capped list, and passes.rt what a pass is made of.
+// The move of a box over boxes: its records. list.rt has the capped list, and passes.rt the axes and the end of a move.
 mod list;
 mod passes;
 
@@ -6,12 +6,9 @@ pub use list::cap_of;
 pub use list::counted;
 pub use list::is_cap;
 pub use passes::axis_of;
-pub use passes::begun;
 pub use passes::clip_along;
 pub use passes::ended;
-pub use passes::gone;
-pub use passes::next;
-pub use passes::wanted;
+pub use passes::stopped_falling;
 use boxes::Aabb;
 use boxes::Vec3;
 

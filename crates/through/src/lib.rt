@@ -54,7 +54,7 @@ fn crowded(cap: u32, records: &[u32], shapes: &[f32], cells: &[u32], w: Window, 
     let mut room = [0.0; 3072];
     let c = collection::collect_into(&mut room, sweeps::cap_of(cap), records, shapes, cells, w, area, r);
     if c.refusal == 0 {
-        return AskedMove::To(lent_boxes::moved_over(&room, c.count, q));
+        return AskedMove::To(lent_moves::moved_over(&room, c.count, q));
     }
     AskedMove::Refused(c.refusal)
 }
@@ -70,7 +70,7 @@ fn many(cap: u32, records: &[u32], shapes: &[f32], cells: &[u32], w: Window, q: 
     let mut room = [0.0; 768];
     let c = collection::collect_into(&mut room, within(128, cap), records, shapes, cells, w, area, r);
     if c.refusal == 0 {
-        return AskedMove::To(lent_boxes::moved_over(&room, c.count, q));
+        return AskedMove::To(lent_moves::moved_over(&room, c.count, q));
     }
     if c.refusal == 6 {
         return crowded(cap, records, shapes, cells, w, q, area, r);
@@ -112,16 +112,16 @@ fn swept_through(cap: u32, records: &[u32], shapes: &[f32], cells: &[u32], w: Wi
             }
         }
     }
-    let mut s = sweeps::begun(q);
+    let mut s = attempts::begun(q);
     for pass in 0..7u32 {
         let axis = sweeps::axis_of(pass);
         let now = s.now;
-        let mut d = sweeps::wanted(pass, axis, q, now);
+        let mut d = attempts::wanted(pass, axis, q, now);
         for i in 0..list.count {
             let b = list.boxes[i];
             d = sweeps::clip_along(axis, b, now.aabb, d);
         }
-        s = sweeps::next(pass, q, s.first, sweeps::gone(pass, axis, now, d));
+        s = attempts::next(pass, q, s.first, attempts::gone(pass, axis, now, d));
         if s.over {
             return AskedMove::To(sweeps::ended(q, s));
         }

@@ -16,7 +16,7 @@ use Rattle.drags.specs.Constants.{defaultGrip}
 use Rattle.drags.specs.Cases.{sampleOr}
 use Rattle.drags.specs.Drags.{applyLivingDrag, dragged}
 use Rattle.drags.proofs.Alike.{living-alike, dragged-alike}
-use Rattle.ticks.specs.declared.Tick.{Tick}
+use Rattle.step_answers.specs.declared.Tick.{Tick}
 use Rattle.ticks.specs.Step.{tickTo, tickAfter, numberFor}
 
 -- two ticks that are one but for the sample that they tell

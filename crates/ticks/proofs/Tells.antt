@@ -29,7 +29,7 @@ use Rattle.drags.specs.Drags.{isDry, applyLivingDrag, pulled, keptAfter, dragge
 use Rattle.samples.specs.Samples.{isBlock, takesSample, isAsked, supportAfter}
 use Rattle.samples.proofs.Asks.{asked-there}
 use Rattle.ticks.specs.declared.Begun.{Begun}
-use Rattle.ticks.specs.declared.Tick.{Tick}
+use Rattle.step_answers.specs.declared.Tick.{Tick}
 use Rattle.ticks.specs.Step.{tickTo, tickAfter, afterMove, moveOnBy, tickBegins, senses, stepBodyBy, stepBodySensed, restsBy, isAtRest, tellsSample}
 
 -- ---- what all that can be found fits

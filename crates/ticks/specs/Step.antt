@@ -40,7 +40,7 @@ use Rattle.drags.specs.Cases.{sampleOr}
 use Rattle.drags.specs.Drags.{applyLivingDrag, floated, restsNow, pulled, keptAfter, dragged}
 use Rattle.samples.specs.Samples.{supportAfter, takesSample}
 use Rattle.ticks.specs.declared.Begun.{Begun}
-use Rattle.ticks.specs.declared.Tick.{Tick}
+use Rattle.step_answers.specs.declared.Tick.{Tick}
 
 -- ---- step_body_sensed, after the move
 

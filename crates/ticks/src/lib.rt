@@ -6,6 +6,7 @@ use bodies::is_falling_block;
 use bodies::is_living;
 use boxes::Vec3;
 use drags::Support;
+use step_answers::Tick;
 use tables::LiquidKind;
 ghost use mathlib.Core.Path.{_≡_};
 ghost use Rattle.ticks.specs.Step.{tickTo, tickAfter};
@@ -25,13 +26,6 @@ pub struct Begun {
 pub enum AskedBegun {
     Is(Begun),
     Refused(u32),
-}
-
-// What a step comes to: the motion after it, the liquid that a living body travelled in, and the sample that it took.
-pub struct Tick {
-    pub motion: Motion,
-    pub liquid: LiquidKind,
-    pub support: Support,
 }
 
 // A step, or the number of a refusal.

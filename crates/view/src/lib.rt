@@ -9,7 +9,7 @@ use boxes::Vec3;
 use bodies::BodyNumbers;
 use bodies::MotionNumbers;
 use bodies::Rules;
-use step::StepAnswer;
+use step_answers::StepAnswer;
 use window::Window;
 use window_view::View;
 

@@ -36,7 +36,7 @@ fn first(words: &[u32], n: usize) -> &[u32] {
 
 fn check(what: &[u8], case: u8, words: &[u32], n: usize, w: Window) {
     say(what, case);
-    say_number(window::check_window(first(words, n), w));
+    say_number(window_check::check_window(first(words, n), w));
 }
 
 fn say_cell(cell: Cell) {

@@ -24,7 +24,7 @@ pub fn view_of<'a>(cells: &'a [u32], w: Window) -> View<'a>
 pub fn check_view<'a>(v: View<'a>) -> u32
     ensures { λ r. ⌜ r ≡ windowRefusal (now (v .entry .cells)) (v .entry .window) ⌝ }
 {
-    window::check_window(v.cells, v.window)
+    window_check::check_window(v.cells, v.window)
 }
 
 // The look-up of the cell at p.

@@ -19,12 +19,12 @@ returns : tie.Need-returns
 unfolding fallingChecked checkedEntry choose
 returns c = rw (← c .before .before .before .fall-fits .ensures, c .before .before .if1 .taken, ← c .before .checked-window .ensures, ← c .with-fall .ensures)
 
-refused-falling-requires : tie.Need-refused-falling-requires
-refused-falling-requires c κs = search needs
+unfit-record-requires : tie.Need-unfit-record-requires
+unfit-record-requires c κs = search needs
 
 returns-2 : tie.Need-returns-2
 unfolding fallingChecked withFall choose
-returns-2 c = rw (← c .before .before .fall-fits .ensures, c .before .if1 .left, ← c .refused-falling .ensures)
+returns-2 c = rw (← c .before .before .fall-fits .ensures, c .before .if1 .left, ← c .unfit-record .ensures)
 
 pub step-falling-checked-spec : {M : Type 1} → statement M
 step-falling-checked-spec =
@@ -34,5 +34,5 @@ step-falling-checked-spec =
     checked-window-requires
     with-fall-requires
     returns
-    refused-falling-requires
+    unfit-record-requires
     returns-2)

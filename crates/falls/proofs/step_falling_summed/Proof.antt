@@ -26,8 +26,8 @@ plain-words-requires c κs = search needs
 check-lent-requires : tie.Need-check-lent-requires
 check-lent-requires c κs = search needs
 
-refused-falling-requires : tie.Need-refused-falling-requires
-refused-falling-requires c κs = search needs
+unfit-record-requires : tie.Need-unfit-record-requires
+unfit-record-requires c κs = search needs
 
 returns-2 : tie.Need-returns-2
 unfolding fallingSummed withFall choose
@@ -35,10 +35,10 @@ returns-2 c =
     let at-check-lent = c .before .before in
     let at-if1 = at-check-lent .before .before in
     let checked = rw (at-check-lent .before .plain-words .ensures) at (at-check-lent .check-lent .ensures) in
-    rw (← checked, eq-eqb _ _ (c .before .if2 .taken), ← at-if1 .before .fall-fits .ensures, at-if1 .if1 .left, ← c .refused-falling .ensures)
+    rw (← checked, eq-eqb _ _ (c .before .if2 .taken), ← at-if1 .before .fall-fits .ensures, at-if1 .if1 .left, ← c .unfit-record .ensures)
 
-refused-falling-requires-2 : tie.Need-refused-falling-requires-2
-refused-falling-requires-2 c κs = search needs
+refused-falling-requires : tie.Need-refused-falling-requires
+refused-falling-requires c κs = search needs
 
 returns-3 : tie.Need-returns-3
 unfolding fallingSummed withFall choose
@@ -46,7 +46,7 @@ returns-3 c =
     let at-check-lent = c .before .before in
     let checked = rw (at-check-lent .before .plain-words .ensures) at (at-check-lent .check-lent .ensures) in
     let refuses = ne-eqb _ _ (c .before .if2 .left) in
-    rw (← checked, refuses, refuses, ← c .refused-falling2 .ensures)
+    rw (← checked, refuses, refuses, ← c .refused-falling .ensures)
 
 pub step-falling-summed-spec : {M : Type 1} → statement M
 step-falling-summed-spec =
@@ -58,7 +58,7 @@ step-falling-summed-spec =
     returns
     plain-words-requires
     check-lent-requires
-    refused-falling-requires
+    unfit-record-requires
     returns-2
-    refused-falling-requires-2
+    refused-falling-requires
     returns-3)

@@ -1,5 +1,6 @@
 -- `groups::agrees_all` meets its contract. Assumes nothing.
-use Rattle.groups.proofs.Counts.{word-fits, reached}
+use Rattle.groups.proofs.Counts.{word-fits}
+use Rattle.group_words.proofs.Cells.{reached}
 use Rattle.window.proofs.Check.{sizes-small}
 use Rattle.groups.specs.Summary.{agreesAt, agrees}
 use borrow.Author.Tests.{eq-eqb, ne-eqb}

@@ -5,7 +5,8 @@ use mathlib.Core.List.{List}
 use Prim.Native.Nat.{ℕ, _-_, _*_, _≤_}
 use lib.ListN.{length}
 use Rattle.base.specs.Loop.{listed, stored}
-use Rattle.night_rows.specs.Rows.{Row, rowWith, rowAt, answerWidth}
+use Rattle.night_rows.specs.Rows.{Row, rowWith, rowAt}
+use Rattle.answer_rows.specs.Answers.{answerWidth}
 use Rattle.night_answers.specs.Answers.{Lent, lentWith}
 use Rattle.midnight.specs.Run.{bodiesOf, rowsOf}
 use Rattle.base.proofs.Stored.{stored-length}

@@ -4,9 +4,9 @@ use Prim.Native.Nat.{_-_}
 use native.Mathlib.Omega.{arith}
 use Rattle.base.specs.Loop.{listed}
 use Rattle.logs.specs.Logs.{eventAt, logWord}
-use Rattle.minute.specs.Minute.{lentBy, after}
-use Rattle.minute.specs.Turns.{stateOf}
-use Rattle.minute.proofs.Turns.{Going, going-first, turn-held, turn-words, turn-going, feet-same, held-stop, held-end}
+use Rattle.minute_state.specs.Minute.{lentBy, after}
+use Rattle.minute_state.specs.Turns.{stateOf}
+use Rattle.minute_state.proofs.Turns.{Going, going-first, turn-held, turn-words, turn-going, feet-same, held-stop, held-end}
 use borrow.Author.Needs.{needs}
 use Rattle.minute.proofs.play.Statement.{statement}
 use Rattle.minute.proofs.play.Tie as tie

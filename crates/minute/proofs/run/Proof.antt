@@ -4,8 +4,8 @@ use borrow.Author.Tests.{eq-eqb, ne-eqb}
 use Rattle.base.specs.Choose.{choose}
 use Rattle.base.specs.Loop.{stored}
 use Rattle.logs.specs.Logs.{eventsBy}
-use Rattle.minute.specs.declared.Minute.{Minute}
-use Rattle.minute.specs.Minute.{minute, numbersOf}
+use Rattle.minute_state.specs.declared.Minute.{Minute}
+use Rattle.minute_state.specs.Minute.{minute, numbersOf}
 use borrow.Author.Needs.{needs}
 use Rattle.minute.proofs.run.Statement.{statement}
 use Rattle.minute.proofs.run.Tie as tie

@@ -2,7 +2,7 @@
 use Rattle.base.specs.Choose.{choose}
 use borrow.Author.Tests.{eq-eqb, ne-eqb}
 use Rattle.groups.specs.Summary.{buildRefusal}
-use Rattle.minute.specs.Minute.{startRefusal}
+use Rattle.minute_state.specs.Minute.{startRefusal}
 use borrow.Author.Needs.{needs}
 use Rattle.minute.proofs.start_refusal.Statement.{statement}
 use Rattle.minute.proofs.start_refusal.Tie as tie

@@ -3,7 +3,7 @@ use mathlib.Core.Path.{_≡_, sym, _∙_}
 use native.Mathlib.Omega.{arith}
 use Rattle.table_check.specs.Check.{tableRefusal}
 use Rattle.parties.specs.Parties.{Call, first, partyWith, callWith}
-use Rattle.parties.proofs.Halves.{half-length}
+use Rattle.halves.proofs.Halves.{half-length}
 use Rattle.parties.proofs.Both.{both-refused, both-kept, told-both, written-both}
 use borrow.Author.Needs.{needs}
 use Rattle.parties.proofs.run.Statement.{statement}

@@ -43,7 +43,7 @@ use Rattle.step.specs.Answers.{stepEntry}
 use Rattle.bodies.specs.declared.Rules.{Rules}
 use Rattle.bodies.specs.declared.BodyNumbers.{BodyNumbers}
 use Rattle.bodies.specs.declared.MotionNumbers.{MotionNumbers}
-use Rattle.step.specs.declared.StepAnswer.{StepAnswer}
+use Rattle.step_answers.specs.declared.StepAnswer.{StepAnswer}
 use Rattle.window.proofs.Window as N
 use Rattle.window.proofs.Window.Laws as N′
 use Rattle.bodies.proofs.Rules as X
@@ -52,8 +52,8 @@ use Rattle.bodies.proofs.BodyNumbers as Y
 use Rattle.bodies.proofs.BodyNumbers.Laws as Y′
 use Rattle.bodies.proofs.MotionNumbers as Z
 use Rattle.bodies.proofs.MotionNumbers.Laws as Z′
-use Rattle.step.proofs.StepAnswer as R
-use Rattle.step.proofs.StepAnswer.Laws as R′
+use Rattle.step_answers.proofs.StepAnswer as R
+use Rattle.step_answers.proofs.StepAnswer.Laws as R′
 use Rattle.window_view.specs.declared.View.{View}
 use Rattle.window_view.proofs.Apart.{Whole, Parts, apart}
 use Rattle.window_view.proofs.View as T

@@ -2,8 +2,8 @@
 use mathlib.Core.Path.{ap, _∙_}
 use Rattle.base.specs.Loop.{stored}
 use Rattle.logs.specs.Logs.{eventsBy}
-use Rattle.minute.specs.Minute.{State, numbersOf}
-use Rattle.minute.specs.Turns.{minuteOf}
+use Rattle.minute_state.specs.Minute.{State, numbersOf}
+use Rattle.minute_state.specs.Turns.{minuteOf}
 use Rattle.logged.proofs.Scenes.{among}
 use borrow.Author.Needs.{needs}
 use Rattle.logged.proofs.run.run_among.Statement.{statement}

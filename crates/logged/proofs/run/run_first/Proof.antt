@@ -3,8 +3,8 @@ use mathlib.Core.Path.{sym, ap, _∙_}
 use Rattle.base.specs.Loop.{stored}
 use Rattle.files.proofs.Scenes.{are}
 use Rattle.logs.specs.Logs.{isLog, logOf, logAsked}
-use Rattle.minute.specs.Minute.{State, numbersOf}
-use Rattle.minute.specs.Turns.{minuteOf}
+use Rattle.minute_state.specs.Minute.{State, numbersOf}
+use Rattle.minute_state.specs.Turns.{minuteOf}
 use Rattle.logged.proofs.Files.{no-first, first-log}
 use borrow.Author.Needs.{needs}
 use Rattle.logged.proofs.run.run_first.Statement.{statement}

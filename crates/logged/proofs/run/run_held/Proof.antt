@@ -5,8 +5,8 @@ use lib.ListN.{length-take}
 use Rattle.base.specs.Loop.{stored}
 use Rattle.files.specs.Contents.{Contents}
 use Rattle.logs.specs.Logs.{eventsBy}
-use Rattle.minute.specs.Minute.{numbersOf}
-use Rattle.minute.specs.Turns.{minuteOf}
+use Rattle.minute_state.specs.Minute.{numbersOf}
+use Rattle.minute_state.specs.Turns.{minuteOf}
 use Rattle.logged.specs.Held.{heldMinute}
 use Rattle.logged.proofs.Scenes.{handed-on}
 use borrow.Author.Needs.{needs}

@@ -4,8 +4,8 @@ use Rattle.base.specs.Loop.{stored}
 use Rattle.files.specs.Files.{countsAsked}
 use Rattle.files.proofs.Scenes.{scene}
 use Rattle.logs.specs.Logs.{eventsBy}
-use Rattle.minute.specs.Minute.{State, numbersOf}
-use Rattle.minute.specs.Turns.{minuteOf}
+use Rattle.minute_state.specs.Minute.{State, numbersOf}
+use Rattle.minute_state.specs.Turns.{minuteOf}
 use Rattle.logged.proofs.Files.{no-counts, minute-by}
 use borrow.Author.Needs.{needs}
 use Rattle.logged.proofs.run.run_with.Statement.{statement}

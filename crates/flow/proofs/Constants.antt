@@ -1,9 +1,0 @@
--- Each number of the Rust text is the f64 nearest to its decimal, by computing. Assumes nothing.
-use mathlib.Core.Bool.{false}
-use mathlib.Core.Path.{_≡_, refl}
-use lib.Ieee.{binary64, ofBits, round}
-use Rattle.flow.specs.Flow.{six64}
-
-pub six-decimal : six64 ≡ round binary64 false 6 1
-unfolding ofBits round
-six-decimal = refl

@@ -1,0 +1,3 @@
+-- What the proofs of a flow's sides share.
+pub mod Constants
+pub mod Gaps

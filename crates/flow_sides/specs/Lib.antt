@@ -1,0 +1,2 @@
+-- The definitions of a flow's sides.
+pub mod Sides

@@ -1,0 +1,2 @@
+-- Laws of the cells of a group, on plain values.
+pub mod Cells

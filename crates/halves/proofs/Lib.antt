@@ -1,0 +1,2 @@
+-- Laws of a buffer's halves.
+pub mod Halves

@@ -1,0 +1,2 @@
+-- The definitions of a buffer's halves.
+pub mod Halves

@@ -1,0 +1,2 @@
+-- The definitions of the move over boxes in lent numbers.
+pub mod Moves

@@ -1,0 +1,70 @@
+// The move over boxes in lent numbers.
+use lent_boxes::box_at;
+use lent_boxes::list_refusal;
+use lent_numbers::put_result;
+use movers::request_of;
+use sweeps::MoveResult;
+use sweeps::Request;
+ghost use mathlib.Core.Path.{_≡_};
+ghost use Prim.Native.Nat.{_*_, _≤_};
+ghost use lib.ListN.{length};
+ghost use Rattle.sweeps.specs.Move.{moveOver};
+ghost use Rattle.lent_numbers.specs.Written.{writtenBy};
+ghost use Rattle.lent_boxes.specs.Boxes.{boxesIn};
+ghost use Rattle.lent_moves.specs.Moves.{moveListOf, moveAnyOf};
+
+// The move over the first n boxes. They are read where they lie: a list of them would be made at each call, and copied where it is handed on.
+pub fn moved_over(numbers: &[f64], n: usize, q: Request) -> MoveResult
+    requires { ⌜ n * 6 ≤ length (now numbers) ⌝ }
+    ensures { λ r. ⌜ r ≡ moveOver (boxesIn (now (numbers .entry)) n) (q .aabb) (q .delta) (q .step) (q .ground) ⌝ }
+{
+    let mut s = attempts::begun(q);
+    let mut pass = 0u32;
+    while pass < 7 {
+        let axis = sweeps::axis_of(pass);
+        let now = s.now;
+        let mover = now.aabb;
+        let mut d = attempts::wanted(pass, axis, q, now);
+        let mut i = 0usize;
+        while i < n {
+            let b = box_at(numbers, i * 6);
+            d = sweeps::clip_along(axis, b, mover, d);
+            i += 1;
+        }
+        let first = s.first;
+        s = attempts::next(pass, q, first, attempts::gone(pass, axis, now, d));
+        if s.over {
+            return sweeps::ended(q, s);
+        }
+        pass += 1;
+    }
+    sweeps::ended(q, s)
+}
+
+// The move of a box over boxes, for a host, who may hand over anything. It writes ten numbers and returns 0, or writes nothing and returns
+// 3, 4, 11 or 6.
+pub fn move_over_lent(cap: u32, boxes: &[f64], mover: &[f64], step: f64, ground: u32, out: &mut [f64]) -> u32
+    ensures { λ r. ⌜ r ≡ moveListOf cap (now (boxes .entry)) (now (mover .entry)) step ground (length (now (out .entry))) .refusal ⌝ }
+    ensures { λ _. ⌜ now (out .exit) ≡ writtenBy (now (out .entry)) (moveListOf cap (now (boxes .entry)) (now (mover .entry)) step ground (length (now (out .entry)))) ⌝ }
+{
+    let refusal = list_refusal(cap, boxes, mover, step, ground, out.len());
+    if refusal != 0 {
+        return refusal;
+    }
+    put_result(out, moved_over(boxes, boxes.len() / 6, request_of(mover, step, ground)));
+    0
+}
+
+// The same for any numbers, to be timed beside the original: it looks at no limit, takes what is not there for 0 and drops what there is no
+// room for. For more boxes than a list holds it writes nothing and returns 6.
+pub fn move_over_any(boxes: &[f64], mover: &[f64], step: f64, ground: u32, out: &mut [f64]) -> u32
+    ensures { λ r. ⌜ r ≡ moveAnyOf (now (boxes .entry)) (now (mover .entry)) step ground .refusal ⌝ }
+    ensures { λ _. ⌜ now (out .exit) ≡ writtenBy (now (out .entry)) (moveAnyOf (now (boxes .entry)) (now (mover .entry)) step ground) ⌝ }
+{
+    let count = boxes.len() / 6;
+    if count > sweeps::ROOM {
+        return 6;
+    }
+    put_result(out, moved_over(boxes, count, request_of(mover, step, ground)));
+    0
+}

@@ -1,0 +1,2 @@
+-- Laws of a minute's events, on plain values.
+pub mod Turns

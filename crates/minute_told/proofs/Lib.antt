@@ -1,0 +1,4 @@
+-- Laws of this crate's definitions, on plain values.
+pub mod Text
+pub mod Back
+pub mod Room
