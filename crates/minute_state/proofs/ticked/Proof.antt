@@ -36,7 +36,8 @@ returns-2 c =
     let at-older-than = at-later-than .before in
     let at-put-feet = at-older-than .before .before .before .before .before in
     let at-if1 = at-put-feet .before .before in
-    rw (eq-eqb _ _ (at-if1 .if1 .left), ← at-older-than .older-than .ensures, ← at-later-than .later-than .ensures) (c .minute-of .ensures, at-put-feet .put-feet .ensures)
+    rw (eq-eqb _ _ (at-if1 .if1 .left), ← at-older-than .older-than .ensures, ← at-later-than .later-than .ensures)
+    (c .minute-of .ensures, at-put-feet .put-feet .ensures)
 
 pub ticked-spec : {M : Type 1} → statement M
 ticked-spec =
