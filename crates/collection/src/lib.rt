@@ -11,7 +11,7 @@ use sweeps::Collected;
 use window::Pos;
 use window::Window;
 ghost use mathlib.Core.Path.{_≡_};
-ghost use Prim.Native.Nat.{_≤_};
+ghost use Prim.Native.Nat.{_≤_, min};
 ghost use Rattle.sweeps.specs.Lists.{room, capOf, heldIn};
 ghost use Rattle.tables.specs.Tables.{boxesAt};
 ghost use Rattle.lent_boxes.specs.Boxes.{atMost};
@@ -67,12 +67,12 @@ fn box_in(shapes: &[f32], part: Shape, p: Pos, k: u32) -> Aabb
     solids::nth_aabb(part.cube, shape, p, k)
 }
 
-// The boxes of every cell of a range, which strictly overlap the area: as many as the cap says, and with one more it refuses 6. The list is built
-// in place.
+// The boxes of every cell of a range, which strictly overlap the area: as many as the cap says and as a list has room for, and with one more it
+// refuses 6. The list is built in place.
 fn collect_up_to(cap: usize, records: &[u32], shapes: &[f32], cells: &[u32], w: Window, area: Aabb, r: Range) -> Collected
-    requires { ⌜ cap ≤ room ⌝ }
-    ensures { λ c. ⌜ heldIn c ≡ heldAsked (collectInPast none cap (lookAt (now (cells .entry)) w) (now (records .entry)) (now (shapes .entry)) area r) ⌝ }
+    ensures { λ c. ⌜ heldIn c ≡ heldAsked (collectInPast none (min cap room) (lookAt (now (cells .entry)) w) (now (records .entry)) (now (shapes .entry)) area r) ⌝ }
 {
+    let most = sweeps::counted(cap);
     let mut list = BoxList::new();
     for y in 0..r.y.count {
         for x in 0..r.x.count {
@@ -87,7 +87,7 @@ fn collect_up_to(cap: usize, records: &[u32], shapes: &[f32], cells: &[u32], w: 
                     let b = box_in(shapes, part, p, k);
                     if b.intersects(area) {
                         let i = list.count;
-                        if i >= cap {
+                        if i >= most {
                             return Collected::refused(6);
                         }
                         list.boxes[i] = b;
