@@ -1,6 +1,6 @@
 -- `lent_moves::moved_over` meets its contract. Assumes nothing.
 use mathlib.Core.Path.{_≡_, ap, _∙_}
-use Prim.Native.Nat.{_-_}
+use Prim.Native.Nat.{_-_, _*_}
 use native.Mathlib.Nat.{sub-zero}
 use native.Mathlib.Omega.{arith}
 use borrow.Author.Needs.{needs}
@@ -10,7 +10,7 @@ use Rattle.sweeps.specs.Passes.{clipAlong, passesFrom, sweepOf}
 use Rattle.sweeps.proofs.Shape.{moves}
 use Rattle.sweeps.proofs.Turns.{pass-is, pass-on, pass-over, passes-end}
 use Rattle.lent_boxes.specs.Boxes.{boxOf, boxesIn}
-use Rattle.lent_boxes.proofs.Lent.{clip-turn, clip-end}
+use Rattle.lent_boxes.proofs.Lent.{whole-box, clip-turn, clip-end}
 use Rattle.lent_moves.proofs.moved_over.Statement.{statement}
 use Rattle.lent_moves.proofs.moved_over.Tie as tie
 
@@ -44,11 +44,59 @@ wanted-requires c κs = search needs
 loop2-holds : tie.Need-loop2-holds Inv-loop2 μ-loop2 Inv-loop μ-loop
 loop2-holds c = rw sub-zero
 
-mul-box-at : tie.Need-mul-box-at Inv-loop2 μ-loop2 Inv-loop μ-loop
-mul-box-at c = let m = c .before .before .before .before .before .before .before .before .before .at-most .ensures in let h = c .loop2-test .taken in omega arith
+mul-at : tie.Need-mul-at Inv-loop2 μ-loop2 Inv-loop μ-loop
+mul-at c = let m = c .before .before .before .before .before .before .before .before .before .at-most .ensures in let h = c .loop2-test .taken in omega arith
 
-box-at-requires : tie.Need-box-at-requires Inv-loop2 μ-loop2 Inv-loop μ-loop
-box-at-requires c κs = search needs
+mul-t18 : tie.Need-mul-t18 Inv-loop2 μ-loop2 Inv-loop μ-loop
+mul-t18 c = let m = c .before .before .before .before .before .before .before .before .before .at-most .ensures in let h = c .loop2-test .taken in omega arith
+
+shared-slice-read-t20 : tie.Need-shared-slice-read-t20 Inv-loop2 μ-loop2 Inv-loop μ-loop
+shared-slice-read-t20 c = let m = c .before .before .before .before .before .before .before .before .before .before .at-most .ensures in let h = c .before .loop2-test .taken in omega arith
+
+add-t21 : tie.Need-add-t21 Inv-loop2 μ-loop2 Inv-loop μ-loop
+add-t21 c = let m = c .before .before .before .before .before .before .before .before .before .before .at-most .ensures in let h = c .before .loop2-test .taken in omega arith
+
+mul-t22 : tie.Need-mul-t22 Inv-loop2 μ-loop2 Inv-loop μ-loop
+mul-t22 c = let m = c .before .before .before .before .before .before .before .before .before .before .at-most .ensures in let h = c .before .loop2-test .taken in omega arith
+
+shared-slice-read-t24 : tie.Need-shared-slice-read-t24 Inv-loop2 μ-loop2 Inv-loop μ-loop
+shared-slice-read-t24 c = let m = c .before .before .before .before .before .before .before .before .before .before .before .at-most .ensures in let h = c .before .before .loop2-test .taken in omega arith
+
+add-t25 : tie.Need-add-t25 Inv-loop2 μ-loop2 Inv-loop μ-loop
+add-t25 c = let m = c .before .before .before .before .before .before .before .before .before .before .before .at-most .ensures in let h = c .before .before .loop2-test .taken in omega arith
+
+mul-t26 : tie.Need-mul-t26 Inv-loop2 μ-loop2 Inv-loop μ-loop
+mul-t26 c = let m = c .before .before .before .before .before .before .before .before .before .before .before .at-most .ensures in let h = c .before .before .loop2-test .taken in omega arith
+
+shared-slice-read-t28 : tie.Need-shared-slice-read-t28 Inv-loop2 μ-loop2 Inv-loop μ-loop
+shared-slice-read-t28 c = let m = c .before .before .before .before .before .before .before .before .before .before .before .before .at-most .ensures in let h = c .before .before .before .loop2-test .taken in omega arith
+
+add-t30 : tie.Need-add-t30 Inv-loop2 μ-loop2 Inv-loop μ-loop
+add-t30 c = let m = c .before .before .before .before .before .before .before .before .before .before .before .before .at-most .ensures in let h = c .before .before .before .loop2-test .taken in omega arith
+
+mul-t31 : tie.Need-mul-t31 Inv-loop2 μ-loop2 Inv-loop μ-loop
+mul-t31 c = let m = c .before .before .before .before .before .before .before .before .before .before .before .before .at-most .ensures in let h = c .before .before .before .loop2-test .taken in omega arith
+
+shared-slice-read-t33 : tie.Need-shared-slice-read-t33 Inv-loop2 μ-loop2 Inv-loop μ-loop
+shared-slice-read-t33 c = let m = c .before .before .before .before .before .before .before .before .before .before .before .before .before .at-most .ensures in let h = c .before .before .before .before .loop2-test .taken in omega arith
+
+add-t34 : tie.Need-add-t34 Inv-loop2 μ-loop2 Inv-loop μ-loop
+add-t34 c = let m = c .before .before .before .before .before .before .before .before .before .before .before .before .before .at-most .ensures in let h = c .before .before .before .before .loop2-test .taken in omega arith
+
+mul-t35 : tie.Need-mul-t35 Inv-loop2 μ-loop2 Inv-loop μ-loop
+mul-t35 c = let m = c .before .before .before .before .before .before .before .before .before .before .before .before .before .at-most .ensures in let h = c .before .before .before .before .loop2-test .taken in omega arith
+
+shared-slice-read-t37 : tie.Need-shared-slice-read-t37 Inv-loop2 μ-loop2 Inv-loop μ-loop
+shared-slice-read-t37 c = let m = c .before .before .before .before .before .before .before .before .before .before .before .before .before .before .at-most .ensures in let h = c .before .before .before .before .before .loop2-test .taken in omega arith
+
+add-t38 : tie.Need-add-t38 Inv-loop2 μ-loop2 Inv-loop μ-loop
+add-t38 c = let m = c .before .before .before .before .before .before .before .before .before .before .before .before .before .before .at-most .ensures in let h = c .before .before .before .before .before .loop2-test .taken in omega arith
+
+mul-t39 : tie.Need-mul-t39 Inv-loop2 μ-loop2 Inv-loop μ-loop
+mul-t39 c = let m = c .before .before .before .before .before .before .before .before .before .before .before .before .before .before .at-most .ensures in let h = c .before .before .before .before .before .loop2-test .taken in omega arith
+
+shared-slice-read-t41 : tie.Need-shared-slice-read-t41 Inv-loop2 μ-loop2 Inv-loop μ-loop
+shared-slice-read-t41 c = let m = c .before .before .before .before .before .before .before .before .before .before .before .before .before .before .before .at-most .ensures in let h = c .before .before .before .before .before .before .loop2-test .taken in omega arith
 
 clip-along-requires : tie.Need-clip-along-requires Inv-loop2 μ-loop2 Inv-loop μ-loop
 clip-along-requires c κs = search needs
@@ -60,7 +108,12 @@ loop2-less : tie.Need-loop2-less Inv-loop2 μ-loop2 Inv-loop μ-loop
 loop2-less c = omega arith
 
 loop2-again : tie.Need-loop2-again Inv-loop2 μ-loop2 Inv-loop μ-loop
-loop2-again c = clip-turn (boxOf (c .before .before .before .before .before .before .before .before .before .before .before .before .before .args .numbers .now)) _ (c .before .before .before .loop2 .i) (clipAlong (c .before .before .before .before .before .before .before .axis-of .result)) (c .before .before .before .before .before .before .before .before .before .loop .s .now .aabb) _ (c .before .before .before .loop2 .d) _ _ (c .before .before .loop2-test .taken) (c .before .box-at .ensures) (c .clip-along .ensures) (c .before .before .before .loop2 .inv)
+loop2-again c =
+    let numbers = c .before .before .before .before .before .before .before .before .before .before .before .before .before .before .before .before .before .before .args .numbers .now in
+    let i = c .before .before .before .before .before .before .before .before .loop2 .i in
+    let m = c .before .before .before .before .before .before .before .before .before .before .before .before .before .before .before .before .at-most .ensures in
+    let h = c .before .before .before .before .before .before .before .loop2-test .taken in
+    clip-turn (boxOf numbers) _ i (clipAlong (c .before .before .before .before .before .before .before .before .before .before .before .before .axis-of .result)) (c .before .before .before .before .before .before .before .before .before .before .before .before .before .before .loop .s .now .aabb) _ (c .before .before .before .before .before .before .before .before .loop2 .d) _ _ h (whole-box numbers (i * 6) _ (omega arith)) (c .clip-along .ensures) (c .before .before .before .before .before .before .before .before .loop2 .inv)
 
 gone-requires : tie.Need-gone-requires Inv-loop2 μ-loop2 Inv-loop μ-loop
 gone-requires c κs = search needs
@@ -103,8 +156,24 @@ moved-over-spec =
     axis-of-requires
     wanted-requires
     loop2-holds
-    mul-box-at
-    box-at-requires
+    mul-at
+    mul-t18
+    shared-slice-read-t20
+    add-t21
+    mul-t22
+    shared-slice-read-t24
+    add-t25
+    mul-t26
+    shared-slice-read-t28
+    add-t30
+    mul-t31
+    shared-slice-read-t33
+    add-t34
+    mul-t35
+    shared-slice-read-t37
+    add-t38
+    mul-t39
+    shared-slice-read-t41
     clip-along-requires
     add-i
     loop2-less
