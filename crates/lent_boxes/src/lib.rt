@@ -18,7 +18,7 @@ pub fn at_most(n: usize, places: usize) -> usize
     if n < whole { n } else { whole }
 }
 
-// From how many places on so many numbers hold six.
+// At how many places a box may begin among so many numbers, with all six of its own there.
 fn starts(places: usize) -> usize
     ensures { λ r. ⌜ r ≡ places - 5 ⌝ }
 {
