@@ -5,13 +5,13 @@ use Prim.Native.Nat.{ℕ, suc, _+_, _*_, _<_, _≤_}
 use native.Mathlib.Decide.{decLt}
 use native.Mathlib.Omega.{arith}
 use lib.ListN.{length, drop, length-append}
-use borrow.Author.Tests.{lt-ltb, le-ltb}
+use borrow.Author.Tests.{lt-ltb, le-ltb, eq-eqb, ne-eqb}
 use Rattle.base.specs.Choose.{choose}
 use Rattle.base.specs.Loop.{stored}
 use Rattle.base.proofs.Fill.{stored-then}
 use Rattle.base.proofs.Stored.{stored-front, stored-all}
 use Rattle.block_checks.specs.Checks.{fileWord, newMark, checkOf, secondOf}
-use Rattle.block_writer.specs.Bytes.{joined, wordBytes, bytesOf, headBytes, payloadWord, withSecond, withCheck, blockBytes}
+use Rattle.block_writer.specs.Bytes.{joined, wordBytes, bytesOf, headBytes, payloadWord, withSecond, withCheck, blockBytes, filledBlock}
 use Rattle.block_writer.proofs.Words.{word-length, bytes-length, bytes-same, check-before, second-before}
 
 -- ---- the payload
@@ -59,6 +59,16 @@ module _ (number kind : ℕ) (f : ℕ → ℕ) (used : ℕ) where
   block-length =
       length-append (withSecond before) (wordBytes (checkOf (withSecond before)))
       ∙ (let a = second-length in let b = word-length (checkOf (withSecond before)) in omega arith)
+
+-- ---- the buffer that is to hold it: of a block's length, or of another
+
+pub filled-is : (old : List ℕ) (number kind : ℕ) (f : ℕ → ℕ) (used : ℕ) → length old ≡ 512 → filledBlock old number kind f used ≡ blockBytes number kind f used
+unfolding filledBlock choose
+filled-is old number kind f used h = rw (eq-eqb (length old) 512 h)
+
+pub other-kept : (old : List ℕ) (number kind : ℕ) (f : ℕ → ℕ) (used : ℕ) → (length old ≡ 512 → ⊥) → filledBlock old number kind f used ≡ old
+unfolding filledBlock choose
+other-kept old number kind f used ne = rw (ne-eqb (length old) 512 ne)
 
 -- ---- what the program leaves of a block: the head, the payload behind it, and behind each the check of what stands before it
 

@@ -1,8 +1,8 @@
 -- What the writer makes of a block, byte for byte. Document 01's and 02's words stand in quotes. A block's words are a function f of their places.
 use mathlib.Core.List.{List, [], _∷_, _++_}
 use Prim.Native.Nat.{ℕ, zero, suc, _*_, _/_, _%_, _^_}
-use lib.Dec.{ltb}
-use lib.ListN.{getD}
+use lib.Dec.{eqb, ltb}
+use lib.ListN.{length, getD}
 use Rattle.base.specs.Choose.{choose}
 use Rattle.block_checks.specs.Checks.{newMark, checkOf, secondOf}
 
@@ -43,6 +43,10 @@ withCheck before = before ++ wordBytes (checkOf before)
 
 unfoldable pub blockBytes : ℕ → ℕ → (ℕ → ℕ) → ℕ → List ℕ
 blockBytes number kind f used = withCheck (withSecond (headBytes number kind ++ bytesOf (payloadWord f used) 123))
+
+-- a buffer of a block's length with the block in it; one of another length keeps its bytes
+unfoldable pub filledBlock : List ℕ → ℕ → ℕ → (ℕ → ℕ) → ℕ → List ℕ
+filledBlock old number kind f used = choose (eqb (length old) 512) (blockBytes number kind f used) old
 
 -- word i of lent words; one that is not there is 0
 abbrev pub wordIn : List ℕ → ℕ → ℕ

@@ -3,7 +3,7 @@ ghost use mathlib.Core.Path.{_≡_};
 ghost use Prim.Native.Nat.{_+_, _*_, _≤_};
 ghost use lib.ListN.{length};
 ghost use Rattle.base.specs.Loop.{stored};
-ghost use Rattle.block_writer.specs.Bytes.{wordBytes, bytesOf, headBytes, payloadWord, blockBytes, wordIn};
+ghost use Rattle.block_writer.specs.Bytes.{wordBytes, bytesOf, headBytes, payloadWord, wordIn, filledBlock};
 
 // Word k of a block, its lowest byte first.
 fn put_word(block: &mut [u8], k: u32, w: u32)
@@ -56,15 +56,16 @@ fn put_payload(block: &mut [u8], words: &[u32], from: u32, used: u32)
     }
 }
 
-// A block of the new mark: its words, and behind them the two checks of what was written.
+// A block of the new mark: its words, and behind them the two checks of what was written. A buffer of another length than a block's keeps its bytes.
 pub fn fill_block(block: &mut [u8], number: u32, kind: u32, words: &[u32], from: u32, used: u32)
-    requires { ⌜ length (now block) ≡ 512 ⌝ }
-    ensures { λ _. ⌜ now (block .exit) ≡ blockBytes number kind (λ k. wordIn (now (words .entry)) (from + k)) used ⌝ }
+    ensures { λ _. ⌜ now (block .exit) ≡ filledBlock (now (block .entry)) number kind (λ k. wordIn (now (words .entry)) (from + k)) used ⌝ }
 {
-    put_head(block, number, kind);
-    put_payload(block, words, from, used);
-    let second = block_checks::second_of(block);
-    put_word(block, 126, second);
-    let check = block_checks::check_of(block);
-    put_word(block, 127, check);
+    if block.len() == 512 {
+        put_head(block, number, kind);
+        put_payload(block, words, from, used);
+        let second = block_checks::second_of(block);
+        put_word(block, 126, second);
+        let check = block_checks::check_of(block);
+        put_word(block, 127, check);
+    }
 }

@@ -9,7 +9,7 @@ use lib.ListN.{length}
 use lib.Ieee.{Float}
 use borrow.Author.Tests.{lt-ltb, le-ltb}
 use Rattle.base.specs.Choose.{choose}
-use Rattle.base.specs.Loop.{listed, stored}
+use Rattle.base.specs.Loop.{listed}
 use Rattle.base.specs.Ask.{Ask, refused, found, next}
 use Rattle.base.proofs.Listed.{listed-length}
 use Rattle.base.proofs.Stored.{stored-length}
@@ -21,8 +21,8 @@ use Rattle.window.specs.Look.{Block}
 use Rattle.ranges.specs.declared.Range.{Range}
 use Rattle.passing.specs.declared.Reach.{Reach}
 use Rattle.passing.specs.Passing.{reachIn, linesBy, passes}
-use Rattle.lent_boxes.specs.Boxes.{boxOf, boxesIn, sixOf}
-use Rattle.lent_boxes.proofs.Put.{one-more}
+use Rattle.lent_boxes.specs.Boxes.{boxOf, boxesIn, lentCount, sixOf, putIn}
+use Rattle.lent_boxes.proofs.Put.{was-put, one-more}
 use Rattle.collection.specs.Collect.{offer, push}
 use Rattle.collection.specs.Past.{collectInPast}
 use Rattle.collection.specs.Answers.{heldAsked}
@@ -54,14 +54,15 @@ out h k = record { long = k .long ∙ h .long; wide = h .wide; counts = k .count
 
 module _ (whole cap : ℕ) (area b : Aabb) (l m : List Float) (i j : ℕ) (has : Space whole cap l i) where
   -- one box more
-  pub put : m ≡ stored l (i * 6) (sixOf b) → j ≡ i + 1 → i < cap → overlap b area ≡ true → Space whole cap m j × (offer (push cap) area b (boxesIn l i) ≡ found (next (boxesIn m j)))
+  pub put : m ≡ putIn l i b → j ≡ i + 1 → i < cap → overlap b area ≡ true → Space whole cap m j × (offer (push cap) area b (boxesIn l i) ≡ found (next (boxesIn m j)))
   unfolding choose
   put e f h o =
       let s = has .long in
       let w = has .wide in
       let n = listed-length (boxOf l) i 0 in
       let t : ltb (length (boxesIn l i)) cap ≡ true = lt-ltb (length (boxesIn l i)) cap (omega arith) in
-      rw (e, f) (record { long = stored-length l (i * 6) (sixOf b) ∙ s; wide = w; counts = omega arith }, rw (o, t, one-more l i b (omega arith)))
+      let there : i < lentCount l = omega arith in
+      rw (e, was-put l i b there, f) (record { long = stored-length l (i * 6) (sixOf b) ∙ s; wide = w; counts = omega arith }, rw (o, t, one-more l i b there))
 
   -- a box that does not overlap
   pub left : m ≡ l → j ≡ i → overlap b area ≡ false → Space whole cap m j × (offer (push cap) area b (boxesIn l i) ≡ found (next (boxesIn m j)))

@@ -11,10 +11,10 @@ use sweeps::Collected;
 use window::Pos;
 use window::Window;
 ghost use mathlib.Core.Path.{_≡_};
-ghost use Prim.Native.Nat.{_*_, _≤_};
-ghost use lib.ListN.{length};
+ghost use Prim.Native.Nat.{_≤_, min};
 ghost use Rattle.sweeps.specs.Lists.{room, capOf, heldIn};
 ghost use Rattle.tables.specs.Tables.{boxesAt};
+ghost use Rattle.lent_boxes.specs.Boxes.{atMost};
 ghost use Rattle.passing.specs.Passing.{passes};
 ghost use Rattle.ranges.specs.Ranges.{trimmed};
 ghost use Rattle.solids.specs.Parts.{countOf, nthAabb};
@@ -67,12 +67,12 @@ fn box_in(shapes: &[f32], part: Shape, p: Pos, k: u32) -> Aabb
     solids::nth_aabb(part.cube, shape, p, k)
 }
 
-// The boxes of every cell of a range, which strictly overlap the area: as many as the cap says, and with one more it refuses 6. The list is built
-// in place.
+// The boxes of every cell of a range, which strictly overlap the area: as many as the cap says and as a list has room for, and with one more it
+// refuses 6. The list is built in place.
 fn collect_up_to(cap: usize, records: &[u32], shapes: &[f32], cells: &[u32], w: Window, area: Aabb, r: Range) -> Collected
-    requires { ⌜ cap ≤ room ⌝ }
-    ensures { λ c. ⌜ heldIn c ≡ heldAsked (collectInPast none cap (lookAt (now (cells .entry)) w) (now (records .entry)) (now (shapes .entry)) area r) ⌝ }
+    ensures { λ c. ⌜ heldIn c ≡ heldAsked (collectInPast none (min cap room) (lookAt (now (cells .entry)) w) (now (records .entry)) (now (shapes .entry)) area r) ⌝ }
 {
+    let most = sweeps::counted(cap);
     let mut list = BoxList::new();
     for y in 0..r.y.count {
         for x in 0..r.x.count {
@@ -87,7 +87,7 @@ fn collect_up_to(cap: usize, records: &[u32], shapes: &[f32], cells: &[u32], w: 
                     let b = box_in(shapes, part, p, k);
                     if b.intersects(area) {
                         let i = list.count;
-                        if i >= cap {
+                        if i >= most {
                             return Collected::refused(6);
                         }
                         list.boxes[i] = b;
@@ -100,13 +100,14 @@ fn collect_up_to(cap: usize, records: &[u32], shapes: &[f32], cells: &[u32], w: 
     Collected { list, refusal: 0 }
 }
 
-// The same into lent numbers, six to a box, for the move: from the cells of a range that is known already, by the summary behind the window's words
-// where there is one. It refuses 5 and 6 alone. What it calls for each cell and box, it calls alone, so that the compiler puts it in place.
+// The same into lent numbers, six to a box, for the move: as many as the cap says and as there is room for, and with one more it refuses 6; from the
+// cells of a range that is known already, by the summary behind the window's words where there is one. It refuses 5 and 6 alone. What it calls for
+// each cell and box, it calls alone, so that the compiler puts it in place.
 pub fn collect_into(room: &mut [f64], cap: usize, records: &[u32], shapes: &[f32], cells: &[u32], w: Window, area: Aabb, r: Range) -> Counted
-    requires { ⌜ cap * 6 ≤ length (now room) ⌝ }
-    ensures { λ c. ⌜ heldLent c (now (room .exit)) ≡ heldAsked (collectInPast (passes (now (cells .entry)) w r) cap (lookAt (now (cells .entry)) w) (now (records .entry)) (now (shapes .entry)) area r) ⌝ }
-    ensures { λ c. ⌜ c .count ≤ cap ⌝ }
+    ensures { λ c. ⌜ heldLent c (now (room .exit)) ≡ heldAsked (collectInPast (passes (now (cells .entry)) w r) (atMost cap (now (room .entry))) (lookAt (now (cells .entry)) w) (now (records .entry)) (now (shapes .entry)) area r) ⌝ }
+    ensures { λ c. ⌜ c .count ≤ atMost cap (now (room .entry)) ⌝ }
 {
+    let most = lent_boxes::at_most(cap, room.len());
     let over = passing::reach_in(cells, w, r);
     let mut layer = Stretch { until: 0, lines: 0 };
     let mut count = 0usize;
@@ -125,7 +126,7 @@ pub fn collect_into(room: &mut [f64], cap: usize, records: &[u32], shapes: &[f32
                 for k in 0..n {
                     let b = solids::nth_aabb(part.cube, shape, p, k);
                     if b.intersects(area) {
-                        if count >= cap {
+                        if count >= most {
                             return Counted { count: 0, refusal: 6 };
                         }
                         lent_boxes::put_box(room, count, b);

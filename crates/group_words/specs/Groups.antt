@@ -3,7 +3,7 @@
 use mathlib.Core.Bool.{Bool, false, _&&_}
 use mathlib.Core.List.{List}
 use Prim.Native.Nat.{ℕ, _+_, _*_, _-_, _/_, _%_, min}
-use lib.Dec.{eqb}
+use lib.Dec.{eqb, ltb}
 use lib.IntN.{pos, natAbs, _+ℤ_, _-ℤ_}
 use Rattle.base.specs.Choose.{choose}
 use Rattle.base.specs.Every.{every}
@@ -81,3 +81,11 @@ isEmptyGroup records words w g = every (cut (w .sizes .y) (g .y)) (λ k. isEmpty
 
 abbrev pub groupWord : List ℕ → List ℕ → Window → Group → ℕ
 groupWord records words w g = choose (isEmptyGroup records words w g) 0 1
+
+-- ---- of any group: one that no window has, whose sizes are 64 at most, is not known to be empty
+
+abbrev pub isGroup : Group → Bool
+isGroup g = ltb (g .x) 16 && ltb (g .y) 16 && ltb (g .z) 16
+
+unfoldable pub wordOfGroup : List ℕ → List ℕ → Window → Group → ℕ
+wordOfGroup records words w g = choose (isGroup g) (groupWord records words w g) 1

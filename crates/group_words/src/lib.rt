@@ -6,7 +6,7 @@ ghost use mathlib.Core.Path.{_≡_};
 ghost use Prim.Native.Nat.{_+_, _<_, _≤_};
 ghost use lib.IntN.{pos};
 ghost use Rattle.window.specs.Look.{lookAt};
-ghost use Rattle.group_words.specs.Groups.{cut, cellAt, isEmptyState, isEmpty, isEmptyLine, isEmptyLayer, groupWord};
+ghost use Rattle.group_words.specs.Groups.{cut, cellAt, isEmptyState, isEmpty, isEmptyLine, isEmptyLayer, isGroup, wordOfGroup};
 
 // A group, counted from the origin on each axis.
 pub struct Group {
@@ -104,22 +104,29 @@ fn is_empty_layer(records: &[u32], words: &[u32], w: Window, g: Group, y: u32) -
     true
 }
 
-// The word of a group: all its cells in the window are looked up.
-pub fn group_word(records: &[u32], words: &[u32], w: Window, g: Group) -> u32
-    requires { ⌜ g .x < 16 ⌝ }
-    requires { ⌜ g .y < 16 ⌝ }
-    requires { ⌜ g .z < 16 ⌝ }
-    ensures { λ r. ⌜ r ≡ groupWord (now (records .entry)) (now (words .entry)) w g ⌝ }
+// Whether a window can have it.
+fn is_group(g: Group) -> bool
+    ensures { λ r. ⌜ r ≡ isGroup g ⌝ }
 {
-    let n = cut_of(w.sizes.y, g.y);
-    let y = g.y * 4;
-    let mut k = 0u32;
-    while k < n {
-        if is_empty_layer(records, words, w, g, y + k) {
-            k += 1;
-        } else {
-            return 1;
+    (g.x < 16) & (g.y < 16) & (g.z < 16)
+}
+
+// The word of a group: all its cells in the window are looked up. One that no window has is not known to be empty.
+pub fn group_word(records: &[u32], words: &[u32], w: Window, g: Group) -> u32
+    ensures { λ r. ⌜ r ≡ wordOfGroup (now (records .entry)) (now (words .entry)) w g ⌝ }
+{
+    if is_group(g) {
+        let n = cut_of(w.sizes.y, g.y);
+        let y = g.y * 4;
+        let mut k = 0u32;
+        while k < n {
+            if is_empty_layer(records, words, w, g, y + k) {
+                k += 1;
+            } else {
+                return 1;
+            }
         }
+        return 0;
     }
-    0
+    1
 }

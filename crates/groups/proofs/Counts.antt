@@ -7,7 +7,7 @@ use mir.Syntax.{w8, w32}
 use mir.Val.{Fits}
 use Rattle.window.specs.declared.Sizes.{Sizes}
 use Rattle.window.proofs.Check.{AllSmall, cell-count, column-count}
-use Rattle.group_words.specs.declared.Group.{Group}
+use Rattle.group_words.proofs.Cells.{Near}
 use Rattle.groups.specs.Groups.{groupsOn, groupCount, groupAt}
 use Rattle.groups.specs.Summary.{wordsBefore}
 
@@ -29,12 +29,6 @@ module _ (s : Sizes) (k : AllSmall s) where
 
   pub all-words : wordsBefore s ≤ 266240
   all-words = let a = cell-count s k in let b = column-count s k in omega arith
-
--- a group of no more than 16 on each axis
-pub record Near (g : Group) : Type 0 where
-  pub x : g .x < 16
-  pub y : g .y < 16
-  pub z : g .z < 16
 
 below : {a b c : ℕ} → a < b → b ≤ c → a < c
 below h l = omega arith

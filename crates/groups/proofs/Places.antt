@@ -23,10 +23,11 @@ use Rattle.window.proofs.Check.{AllSmall, sizes-small}
 use Rattle.window.proofs.Offsets.{within-by, ahead-below, below-size}
 use Rattle.window.proofs.Cells.{is-inside}
 use Rattle.window.proofs.Signs.{mag-add, mag-neg, widens32, wide, wide-is}
+use Rattle.group_words.proofs.Cells.{Near}
 use Rattle.groups.specs.declared.Place.{Place}
 use Rattle.groups.specs.Groups.{cellAt}
 use Rattle.groups.specs.Summary.{isInside, setIn}
-use Rattle.groups.specs.Places.{offsetIn, placeIn, isIn, setAt}
+use Rattle.groups.specs.Places.{offsetIn, placeIn, isIn, groupIn, setAt}
 
 -- ---- c - o in i64
 pub record Apart (c o : ℤ) : Type 0 where
@@ -96,11 +97,11 @@ module _ (s : Sizes) (t : Place) (f : sizesFit s ≡ true) (e : isIn s t ≡ tru
   cell-index = let r = cells in let k = small .x .high in let h = is-in s t e .x in record { fits = omega arith }
 
 -- the group of a place that is in is one of 16 on each axis
-pub near-group : (s : Sizes) (t : Place) → sizesFit s ≡ true → isIn s t ≡ true → (t .x / 4 < 16) × ((t .y / 4 < 16) × (t .z / 4 < 16))
+pub near-group : (s : Sizes) (t : Place) → sizesFit s ≡ true → isIn s t ≡ true → Near (groupIn t)
 near-group s t f e =
     let k = sizes-small s f in
     let i = is-in s t e in
-    (quarter (i .x) (k .x .high), (quarter (i .y) (k .y .high), quarter (i .z) (k .z .high)))
+    record { x = quarter (i .x) (k .x .high); y = quarter (i .y) (k .y .high); z = quarter (i .z) (k .z .high) }
   where
     quarter : {n m : ℕ} → n < m → m ≤ 64 → n / 4 < 16
     quarter h l = omega arith

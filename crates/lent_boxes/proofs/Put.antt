@@ -7,10 +7,12 @@ use native.Mathlib.Omega.{arith}
 use lib.ListN.{length, getD, set, length-set}
 use lib.Seq.{getD-set-same, getD-set-other}
 use lib.Ieee.{Float}
+use borrow.Author.Tests.{lt-ltb, le-ltb}
+use Rattle.base.specs.Choose.{choose}
 use Rattle.base.specs.Loop.{listed, stored}
 use Rattle.floats.specs.Numbers.{zero64}
 use Rattle.boxes.specs.declared.Aabb.{Aabb}
-use Rattle.lent_boxes.specs.Boxes.{boxOf, boxesIn, sixOf}
+use Rattle.lent_boxes.specs.Boxes.{boxOf, boxesIn, lentCount, sixOf, putIn}
 
 -- ---- lists that are listed
 module _ {A : Type 0} (f : ℕ → A) where
@@ -49,18 +51,21 @@ module _ {A : Type 0} (d : A) where
       rw z (among (set l i x) (i + 1) xs k (omega arith) (omega arith))
 
 -- six stored as the program stores them: their places are there, and they come to `stored`
-module _ (l : List Float) (i : ℕ) (h : i + 5 < length l) where
-  pub second : (a : Float) → i + 1 < length (set l i a)
-  second a = let e = length-set l i a in omega arith
+module _ (l : List Float) (k : ℕ) (h : k < lentCount l) where
+  pub second : (a : Float) → k * 6 + 1 < length (set l (k * 6) a)
+  second a = let e = length-set l (k * 6) a in omega arith
 
-  pub third : (a b : Float) → i + 2 < length (set (set l i a) (i + 1) b)
-  third a b = let f = length-set (set l i a) (i + 1) b in let g = length-set l i a in omega arith
+  pub third : (a b : Float) → k * 6 + 2 < length (set (set l (k * 6) a) (k * 6 + 1) b)
+  third a b = let f = length-set (set l (k * 6) a) (k * 6 + 1) b in let g = length-set l (k * 6) a in omega arith
 
-  pub fourth : (a b c : Float) → i + 3 < length (set (set (set l i a) (i + 1) b) (i + 2) c)
-  fourth a b c = let e = length-set (set (set l i a) (i + 1) b) (i + 2) c in let f = length-set (set l i a) (i + 1) b in let g = length-set l i a in omega arith
+  pub fourth : (a b c : Float) → k * 6 + 3 < length (set (set (set l (k * 6) a) (k * 6 + 1) b) (k * 6 + 2) c)
+  fourth a b c = let e = length-set (set (set l (k * 6) a) (k * 6 + 1) b) (k * 6 + 2) c in let f = length-set (set l (k * 6) a) (k * 6 + 1) b in let g = length-set l (k * 6) a in omega arith
 
-  pub fifth : (a b c d : Float) → i + 4 < length (set (set (set (set l i a) (i + 1) b) (i + 2) c) (i + 3) d)
-  fifth a b c d = let j = length-set (set (set (set l i a) (i + 1) b) (i + 2) c) (i + 3) d in let e = length-set (set (set l i a) (i + 1) b) (i + 2) c in let f = length-set (set l i a) (i + 1) b in let g = length-set l i a in omega arith
+  pub fifth : (a b c d : Float) → k * 6 + 4 < length (set (set (set (set l (k * 6) a) (k * 6 + 1) b) (k * 6 + 2) c) (k * 6 + 3) d)
+  fifth a b c d = let j = length-set (set (set (set l (k * 6) a) (k * 6 + 1) b) (k * 6 + 2) c) (k * 6 + 3) d in let e = length-set (set (set l (k * 6) a) (k * 6 + 1) b) (k * 6 + 2) c in let f = length-set (set l (k * 6) a) (k * 6 + 1) b in let g = length-set l (k * 6) a in omega arith
+
+  pub sixth : (a b c d e : Float) → k * 6 + 5 < length (set (set (set (set (set l (k * 6) a) (k * 6 + 1) b) (k * 6 + 2) c) (k * 6 + 3) d) (k * 6 + 4) e)
+  sixth a b c d e = let i = length-set (set (set (set (set l (k * 6) a) (k * 6 + 1) b) (k * 6 + 2) c) (k * 6 + 3) d) (k * 6 + 4) e in let j = length-set (set (set (set l (k * 6) a) (k * 6 + 1) b) (k * 6 + 2) c) (k * 6 + 3) d in let e = length-set (set (set l (k * 6) a) (k * 6 + 1) b) (k * 6 + 2) c in let f = length-set (set l (k * 6) a) (k * 6 + 1) b in let g = length-set l (k * 6) a in omega arith
 
 pub stored-six : (l : List Float) (i : ℕ) (a b c d e f : Float) → set (set (set (set (set (set l i a) (i + 1) b) (i + 2) c) (i + 3) d) (i + 4) e) (i + 5) f ≡ stored l i (a ∷ b ∷ c ∷ d ∷ e ∷ f ∷ [])
 unfolding stored
@@ -72,7 +77,16 @@ stored-six l i a b c d e f =
     rw (k2, k3, k4, k5)
 
 -- ---- boxes
-module _ (l : List Float) (k : ℕ) (b : Aabb) (h : k * 6 + 5 < length l) where
+module _ (l : List Float) (k : ℕ) (b : Aabb) where
+  pub was-put : k < lentCount l → putIn l k b ≡ stored l (k * 6) (sixOf b)
+  unfolding putIn choose
+  was-put h = rw (lt-ltb k (lentCount l) h)
+
+  pub no-room : lentCount l ≤ k → putIn l k b ≡ l
+  unfolding putIn choose
+  no-room h = rw (le-ltb k (lentCount l) h)
+
+module _ (l : List Float) (k : ℕ) (b : Aabb) (h : k < lentCount l) where
   abbrev after : List Float
   after = stored l (k * 6) (sixOf b)
 

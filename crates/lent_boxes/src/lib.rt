@@ -1,40 +1,80 @@
 // Boxes in lent numbers, six to a box: they are read where they lie; and what is refused of a move over them.
+use bodies::number_at;
 use boxes::Aabb;
 use boxes::Vec3;
 use movers::mover_refusal;
 ghost use mathlib.Core.Path.{_≡_};
-ghost use Prim.Native.Nat.{_+_, _*_, _<_};
-ghost use lib.ListN.{length};
-ghost use Rattle.base.specs.Loop.{stored};
+ghost use Prim.Native.Nat.{_-_, _/_, min};
 ghost use Rattle.boxes.specs.Limits.{areBoxes};
 ghost use Rattle.movers.specs.Movers.{aabbAt};
-ghost use Rattle.lent_boxes.specs.Boxes.{boxesOf, sixOf, lentFit};
+ghost use Rattle.lent_boxes.specs.Boxes.{boxesOf, putIn, lentFit};
 ghost use Rattle.lent_boxes.specs.Refusals.{listRefusal};
 
-// The box whose six numbers begin at a place; they are there, so that reading them takes no test.
-pub fn box_at(numbers: &[f64], at: usize) -> Aabb
-    requires { ⌜ at + 5 < length (now numbers) ⌝ }
-    ensures { λ r. ⌜ r ≡ aabbAt (now (numbers .entry)) at ⌝ }
+// How many boxes of n so many numbers hold.
+pub fn at_most(n: usize, places: usize) -> usize
+    ensures { λ r. ⌜ r ≡ min n (places / 6) ⌝ }
 {
-    Aabb {
-        min: Vec3 {
-            x: numbers[at],
-            y: numbers[at + 1],
-            z: numbers[at + 2],
-        },
-        max: Vec3 {
-            x: numbers[at + 3],
-            y: numbers[at + 4],
-            z: numbers[at + 5],
-        },
-    }
+    let whole = places / 6;
+    if n < whole { n } else { whole }
 }
 
-// A box among the numbers, as the box with this number.
-pub fn put_box(numbers: &mut [f64], k: usize, b: Aabb)
-    requires { ⌜ k * 6 + 5 < length (now numbers) ⌝ }
-    ensures { λ _. ⌜ now (numbers .exit) ≡ stored (now (numbers .entry)) (k * 6) (sixOf b) ⌝ }
+// At how many places a box may begin among so many numbers, with all six of its own there.
+fn starts(places: usize) -> usize
+    ensures { λ r. ⌜ r ≡ places - 5 ⌝ }
 {
+    if places < 5 {
+        return 0;
+    }
+    places - 5
+}
+
+// The box whose six numbers begin at a place and are not all there: each that is not is +0.
+fn cut_box(numbers: &[f64], at: usize) -> Aabb
+    ensures { λ r. ⌜ r ≡ aabbAt (now (numbers .entry)) at ⌝ }
+{
+    if at < numbers.len() {
+        let x0 = number_at(numbers, at);
+        let y0 = number_at(numbers, at + 1);
+        let z0 = number_at(numbers, at + 2);
+        let x1 = number_at(numbers, at + 3);
+        let y1 = number_at(numbers, at + 4);
+        let z1 = number_at(numbers, at + 5);
+        let min = Vec3 { x: x0, y: y0, z: z0 };
+        let max = Vec3 { x: x1, y: y1, z: z1 };
+        return Aabb { min, max };
+    }
+    let zero = Vec3 { x: 0.0, y: 0.0, z: 0.0 };
+    Aabb { min: zero, max: zero }
+}
+
+// The box whose six numbers begin at a place. One test says that all of them are there.
+pub fn box_at(numbers: &[f64], at: usize) -> Aabb
+    ensures { λ r. ⌜ r ≡ aabbAt (now (numbers .entry)) at ⌝ }
+{
+    if at < starts(numbers.len()) {
+        return Aabb {
+            min: Vec3 {
+                x: numbers[at],
+                y: numbers[at + 1],
+                z: numbers[at + 2],
+            },
+            max: Vec3 {
+                x: numbers[at + 3],
+                y: numbers[at + 4],
+                z: numbers[at + 5],
+            },
+        };
+    }
+    cut_box(numbers, at)
+}
+
+// A box among the numbers, as the box with this number; one for which there is no room is not put.
+pub fn put_box(numbers: &mut [f64], k: usize, b: Aabb)
+    ensures { λ _. ⌜ now (numbers .exit) ≡ putIn (now (numbers .entry)) k b ⌝ }
+{
+    if k >= numbers.len() / 6 {
+        return;
+    }
     let at = k * 6;
     numbers[at] = b.min.x;
     numbers[at + 1] = b.min.y;

@@ -4,6 +4,7 @@ use mathlib.Core.Path.{_≡_, refl, ap}
 use mathlib.Core.Bool.{Bool, true, false, not, _&&_}
 use mathlib.Core.List.{List}
 use Prim.Native.Nat.{ℕ, _%_, _≤_, _<_}
+use native.Mathlib.Omega.{arith}
 use lib.Dec.{ltb, eqb}
 use lib.ListN.{length}
 use lib.Ieee.{Float}
@@ -18,7 +19,8 @@ use Rattle.boxes.specs.Limits.{isBox, isDelta, isStep, areBoxes}
 use Rattle.sweeps.specs.Move.{moveOver}
 use Rattle.sweeps.specs.Entry.{refusalOf, moveOverList}
 use Rattle.movers.specs.Movers.{vecAt, aabbAt, requestOf, moverRefusal}
-use Rattle.lent_boxes.specs.Boxes.{boxesOf, lentCount, lentFit}
+use Rattle.lent_boxes.specs.Boxes.{boxesOf, lentCount, firstBoxes, lentFit}
+use Rattle.lent_boxes.proofs.Lent.{all-there}
 use Rattle.lent_numbers.specs.Written.{numbersOf, writtenBy}
 use Rattle.lent_boxes.specs.Refusals.{listRefusal}
 use Rattle.lent_moves.specs.Moves.{movedOver, moveListOf}
@@ -29,10 +31,10 @@ module _ (boxes mover : List Float) (step : Float) (ground : ℕ) (out : List Fl
   turned-away h = rw (ne-eqb n 0 h) (refl, refl)
 
   pub goes : (q : Request) (m : MoveResult) (after : List Float) → n ≡ 0 → q ≡ requestOf mover step ground
-      → m ≡ moveOver (boxesOf boxes) (q .aabb) (q .delta) (q .step) (q .ground) → after ≡ stored out 0 (numbersOf m)
+      → m ≡ moveOver (firstBoxes (lentCount boxes) boxes) (q .aabb) (q .delta) (q .step) (q .ground) → after ≡ stored out 0 (numbersOf m)
       → (0 ≡ movedOver boxes mover step ground n .refusal) × (after ≡ writtenBy out (movedOver boxes mover step ground n))
   unfolding writtenBy choose
-  goes q m after h eq em eo = rw (h, eo, em, eq) (refl, refl)
+  goes q m after h eq em eo = rw (h, eo, em, eq, all-there (lentCount boxes) boxes (omega arith)) (refl, refl)
 
 -- ---- where every slice has its length, and there is room, it is `move_over_list` of a list that holds these boxes
 

@@ -14,7 +14,6 @@ use minute_state::ticked;
 use window::Window;
 ghost use mathlib.Core.Path.{_≡_};
 ghost use mathlib.Core.List.{[]};
-ghost use Prim.Native.Nat.{_<_};
 ghost use Rattle.base.specs.Loop.{listed, stored};
 ghost use Rattle.window.specs.Numbers.{withAir};
 ghost use Rattle.groups.specs.Groups.{cellAt};
@@ -27,7 +26,6 @@ ghost use Rattle.minute_state.specs.Turns.{minuteOf, stateOf, stepBy, tickedBy,
 fn tick(
     records: &[u32], shapes: &[f32], words: &[u32], w: Window, rules: Rules, body: BodyNumbers, m: Minute, feet: &mut [f64],
 ) -> Minute
-    requires { ⌜ m .ticks < 65536 ⌝ }
     ensures { λ r. ⌜ r ≡ tickedBy m (stepBy (lentBy (now (records .entry)) (now (shapes .entry)) w rules body) (now (words .entry)) m) ⌝ }
     ensures { λ _. ⌜ now (feet .exit) ≡ feetBy (now (feet .entry)) m (stepBy (lentBy (now (records .entry)) (now (shapes .entry)) w rules body) (now (words .entry)) m) ⌝ }
 {
@@ -55,7 +53,6 @@ fn set_cell(records: &[u32], words: &mut [u32], w: Window, rules: Rules, q: Cell
 fn turn(
     records: &[u32], shapes: &[f32], words: &mut [u32], w: Window, rules: Rules, body: BodyNumbers, m: Minute, e: Event, feet: &mut [f64],
 ) -> Minute
-    requires { ⌜ m .ticks < 65536 ⌝ }
     ensures { λ r. ⌜ r ≡ turnedBy (lentBy (now (records .entry)) (now (shapes .entry)) w rules body) (now (words .entry)) m e ⌝ }
     ensures { λ _. ⌜ now (words .exit) ≡ wordsBy (lentBy (now (records .entry)) (now (shapes .entry)) w rules body) (now (words .entry)) e ⌝ }
     ensures { λ _. ⌜ now (feet .exit) ≡ feetAfter (lentBy (now (records .entry)) (now (shapes .entry)) w rules body) (now (words .entry)) m (now (feet .entry)) e ⌝ }

@@ -3,6 +3,7 @@ use mathlib.Core.Bool.{Bool, true, false}
 use mathlib.Core.List.{List, [], _∷_, _++_}
 use mathlib.Core.Path.{_≡_, refl, sym, ap, _∙_}
 use Prim.Native.Nat.{ℕ, suc, _+_, _-_, _*_, _≤_, _<_}
+use native.Mathlib.Nat.{mod-eq-of-lt}
 use native.Mathlib.Omega.{arith}
 use lib.Dec.{eqb}
 use lib.Ieee.{Float}
@@ -19,7 +20,7 @@ use Rattle.logs.specs.declared.Event.{Event}
 use Rattle.logs.specs.declared.Event.the-variants as event
 use Rattle.minute_state.specs.declared.Minute.{Minute}
 use Rattle.minute_state.specs.Minute.{Lent, windowOf, State, ended, stepped, ticked, setPlace, eventOn, after, numbersOf}
-use Rattle.minute_state.specs.Turns.{minuteOf, stateOf, endedWith, stepBy, steppedBy, tickedBy, feetNumbers, feetBy, turnedBy, wordsBy, feetAfter}
+use Rattle.minute_state.specs.Turns.{minuteOf, stateOf, endedWith, stepBy, later, steppedBy, tickedBy, feetNumbers, feetBy, turnedBy, wordsBy, feetAfter}
 
 -- ---- the lines as numbers
 
@@ -32,6 +33,12 @@ numbers-more : (lines : List Vec3) (v : Vec3) → numbersOf (lines ++ (v ∷ [])
 unfolding numbersOf
 numbers-more [] v = refl
 numbers-more (u ∷ us) v = ap (λ (r : List Float). u .x ∷ u .y ∷ u .z ∷ r) (numbers-more us v)
+
+-- ---- the count of ticks
+
+-- it does not wrap before 2^32 - 1
+pub later-is : (ticks : ℕ) → ticks < 4294967295 → later ticks ≡ ticks + 1
+later-is ticks h = mod-eq-of-lt (omega arith)
 
 -- ---- one event
 
@@ -52,12 +59,12 @@ module _ (m : Minute) (words : List ℕ) (lines : List Vec3) (a : FallingAnswer)
       go true = refl
       go false = refl
 
-  ticked-count : m .ticks ≡ length lines → tickedBy m a .ticks ≡ length line
+  ticked-count : m .ticks < 4294967295 → m .ticks ≡ length lines → tickedBy m a .ticks ≡ length line
   unfolding tickedBy choose line
-  ticked-count e = go (eqb (a .step .refusal) 0)
+  ticked-count small e = go (eqb (a .step .refusal) 0)
     where
       go : (b : Bool) → (choose b (steppedBy m a) (endedWith m (a .step .refusal))) .ticks ≡ length (choose b (lines ++ (a .step .motion .feet ∷ [])) lines)
-      go true = let p = length-append lines (a .step .motion .feet ∷ []) in omega arith
+      go true = let p = length-append lines (a .step .motion .feet ∷ []) in later-is (m .ticks) small ∙ omega arith
       go false = e
 
   ticked-few : tickedBy m a .ticks ≤ m .ticks + 1
@@ -84,10 +91,10 @@ module _ (l : Lent) (words : List ℕ) (m : Minute) (lines : List Vec3) where
   event-is event.Tick = ticked-is m words lines (stepBy l words m)
   event-is (event.Set q) = refl
 
-  event-count : (e : Event) → m .ticks ≡ length lines → turnedBy l words m e .ticks ≡ length (linesBy l words m lines e)
+  event-count : (e : Event) → m .ticks < 4294967295 → m .ticks ≡ length lines → turnedBy l words m e .ticks ≡ length (linesBy l words m lines e)
   unfolding linesBy line
-  event-count event.Tick h = ticked-count m words lines (stepBy l words m) h
-  event-count (event.Set q) h = h
+  event-count event.Tick small h = ticked-count m words lines (stepBy l words m) small h
+  event-count (event.Set q) small h = h
 
   event-few : (e : Event) → turnedBy l words m e .ticks ≤ m .ticks + 1
   event-few event.Tick = ticked-few m words lines (stepBy l words m)
@@ -120,10 +127,11 @@ pub record Held (l : Lent) (ev : ℕ → Event) (n : ℕ) (whole : State) (feet�
   pub here : feet ≡ stored feet₀ 0 (numbersOf lines)
   pub rest : after l (stateOf m words lines) (listed ev (n - i) i) ≡ whole
 
--- and no refusal has come so far
+-- and no refusal has come so far, of fewer events than would let the count of ticks wrap
 pub record Going (l : Lent) (ev : ℕ → Event) (n : ℕ) (whole : State) (words₀ : List ℕ) (feet₀ : List Float) (i : ℕ) (m : Minute) (words : List ℕ) (feet : List Float) : Type 0 where
   pub held : Held l ev n whole feet₀ i m words feet
   pub fine : m .refusal ≡ 0
+  pub short : n < 65536
   pub words-same : length words ≡ length words₀
 
 -- and after the last
@@ -143,21 +151,21 @@ held-first l ev n feet m words e =
     let q : n - 0 ≡ n = omega arith in
     record { lines = []; count = e; few = omega arith; here = refl; rest = ap (λ (k : ℕ). after l (stateOf m words []) (listed ev k 0)) q }
 
-pub going-first : (l : Lent) (ev : ℕ → Event) (n : ℕ) (feet : List Float) (m : Minute) (words : List ℕ) → m .ticks ≡ 0 → m .refusal ≡ 0
+pub going-first : (l : Lent) (ev : ℕ → Event) (n : ℕ) (feet : List Float) (m : Minute) (words : List ℕ) → n < 65536 → m .ticks ≡ 0 → m .refusal ≡ 0
     → Going l ev n (after l (stateOf m words []) (listed ev n 0)) words feet 0 m words feet
-going-first l ev n feet m words e f = record { held = held-first l ev n feet m words e; fine = f; words-same = refl }
+going-first l ev n feet m words k e f = record { held = held-first l ev n feet m words e; fine = f; short = k; words-same = refl }
 
 module _ (l : Lent) (ev : ℕ → Event) (n : ℕ) (whole : State) (feet₀ : List Float) (i : ℕ) (m : Minute) (words : List ℕ) (feet : List Float) (h : Held l ev n whole feet₀ i m words feet) where
-  pub held-next : i < n → m .refusal ≡ 0 → (e : Event) → e ≡ ev i
+  pub held-next : n < 65536 → i < n → m .refusal ≡ 0 → (e : Event) → e ≡ ev i
       → Held l ev n whole feet₀ (i + 1) (turnedBy l words m e) (wordsBy l words e) (feetAfter l words m feet e)
   unfolding after listed choose
-  held-next less fine e is =
+  held-next short less fine e is =
       let q : n - i ≡ suc (n - (i + 1)) = omega arith in
       let few : m .ticks ≤ i = h .few in
       let more : turnedBy l words m e .ticks ≤ m .ticks + 1 = event-few l words m (h .lines) e in
       record {
         lines = linesBy l words m (h .lines) e;
-        count = event-count l words m (h .lines) e (h .count);
+        count = event-count l words m (h .lines) e (omega arith) (h .count);
         few = omega arith;
         here = event-feet l words m (h .lines) e feet₀ feet (h .count) (h .here);
         rest = ap (λ (s : State). after l s (listed ev (n - (i + 1)) (i + 1))) (sym (event-is l words m (h .lines) e) ∙ ap (eventOn l (stateOf m words (h .lines))) is)
@@ -192,10 +200,10 @@ module _ (l : Lent) (ev : ℕ → Event) (n : ℕ) (whole : State) (words₀ : L
     (g : Going l ev n whole words₀ feet₀ i m words feet) (less : i < n) (e : Event) (is : e ≡ ev i)
     (m′ : Minute) (words′ : List ℕ) (feet′ : List Float) (em : m′ ≡ turnedBy l words m e) (ew : words′ ≡ wordsBy l words e) (ef : feet′ ≡ feetAfter l words m feet e) where
   pub turn-held : Held l ev n whole feet₀ (i + 1) m′ words′ feet′
-  turn-held = rw (em, ew, ef) (held-next l ev n whole feet₀ i m words feet (g .held) less (g .fine) e is)
+  turn-held = rw (em, ew, ef) (held-next l ev n whole feet₀ i m words feet (g .held) (g .short) less (g .fine) e is)
 
   pub turn-words : length words′ ≡ length words₀
   turn-words = ap length ew ∙ words-long l words e ∙ g .words-same
 
   pub turn-going : m′ .refusal ≡ 0 → Going l ev n whole words₀ feet₀ (i + 1) m′ words′ feet′
-  turn-going f = record { held = turn-held; fine = f; words-same = turn-words }
+  turn-going f = record { held = turn-held; fine = f; short = g .short; words-same = turn-words }

@@ -1,7 +1,7 @@
 -- What the program works with: it counts the lines and writes each where it belongs, in a lent place. `proofs/Turns` shows that this comes to the
 -- minute as defined in `Minute`.
 use mathlib.Core.List.{List, [], _∷_}
-use Prim.Native.Nat.{ℕ, _+_, _*_}
+use Prim.Native.Nat.{ℕ, _+_, _*_, _%_}
 use lib.Dec.{eqb}
 use lib.Ieee.{Float}
 use lib.ListN.{length}
@@ -31,8 +31,12 @@ endedWith m n = record { motion = m .motion; age = m .age; fall = m .fall; ticks
 abbrev pub stepBy : Lent → List ℕ → Minute → FallingAnswer
 stepBy l words m = fallingChecked (l .records) (l .shapes) words (windowOf l) (l .rules) (l .body) (m .motion) (m .age) (m .fall)
 
+-- the ticks are counted in 32 bits: past 2^32 - 1, which no log comes near, it is 0
+abbrev pub later : ℕ → ℕ
+later ticks = (ticks + 1) % 4294967296
+
 abbrev pub steppedBy : Minute → FallingAnswer → Minute
-steppedBy m a = record { motion = a .step .motion; age = older (m .age); fall = a .fall; ticks = m .ticks + 1; refusal = 0 }
+steppedBy m a = record { motion = a .step .motion; age = older (m .age); fall = a .fall; ticks = later (m .ticks); refusal = 0 }
 
 unfoldable pub tickedBy : Minute → FallingAnswer → Minute
 tickedBy m a = choose (eqb (a .step .refusal) 0) (steppedBy m a) (endedWith m (a .step .refusal))

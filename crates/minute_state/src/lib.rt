@@ -5,10 +5,10 @@ use fall_rule::Fall;
 use step_answers::FallingAnswer;
 ghost use mathlib.Core.Path.{_≡_};
 ghost use mathlib.Core.List.{[]};
-ghost use Prim.Native.Nat.{_<_, _*_};
+ghost use Prim.Native.Nat.{_*_};
 ghost use Rattle.base.specs.Loop.{stored};
 ghost use Rattle.minute_state.specs.Minute.{older, start};
-ghost use Rattle.minute_state.specs.Turns.{minuteOf, endedWith, tickedBy, feetNumbers, feetBy};
+ghost use Rattle.minute_state.specs.Turns.{minuteOf, endedWith, later, tickedBy, feetNumbers, feetBy};
 
 // What a host is handed of the state after a log: how many ticks were done, and the refusal that ended it, or 0. Its cells and its summary stand in
 // the lent words.
@@ -47,6 +47,12 @@ fn older_than(age: u64) -> u64
     std::num::wrapping_add_u64(age, 1)
 }
 
+fn later_than(ticks: u32) -> u32
+    ensures { λ r. ⌜ r ≡ later ticks ⌝ }
+{
+    std::num::wrapping_add_u32(ticks, 1)
+}
+
 // The feet of tick number n.
 fn put_feet(feet: &mut [f64], n: u32, v: Vec3)
     ensures { λ _. ⌜ now (feet .exit) ≡ stored (now (feet .entry)) (n * 3) (feetNumbers v) ⌝ }
@@ -59,7 +65,6 @@ fn put_feet(feet: &mut [f64], n: u32, v: Vec3)
 
 // What one tick's step leaves: a refusal ends the minute, and else the feet are written and the age rises.
 pub fn ticked(m: Minute, a: FallingAnswer, feet: &mut [f64]) -> Minute
-    requires { ⌜ m .ticks < 65536 ⌝ }
     ensures { λ r. ⌜ r ≡ tickedBy m a ⌝ }
     ensures { λ _. ⌜ now (feet .exit) ≡ feetBy (now (feet .entry)) m a ⌝ }
 {
@@ -70,7 +75,7 @@ pub fn ticked(m: Minute, a: FallingAnswer, feet: &mut [f64]) -> Minute
     put_feet(feet, m.ticks, a.step.motion.feet);
     let motion = a.step.motion;
     let fall = a.fall;
-    minute_of(motion, older_than(m.age), fall, m.ticks + 1, 0)
+    minute_of(motion, older_than(m.age), fall, later_than(m.ticks), 0)
 }
 
 // Before the first event, with a fresh fall record.

@@ -1,15 +1,13 @@
 -- What the program works out of a reach fits its types, and comes to the definitions. Assumes nothing.
 use mathlib.Core.Path.{_≡_, refl, sym, ap, _∙_}
 use mathlib.Core.Bool.{Bool, true, false, _&&_}
-use mathlib.Core.List.{List, [], _∷_}
-use Prim.Native.Nat.{ℕ, zero, suc, _+_, _*_, _-_, _/_, _≤_, _<_}
+use Prim.Native.Nat.{ℕ, _+_, _*_, _-_, _/_, _≤_, _<_}
 use native.Mathlib.Nat.{mul-le-mul}
 use native.Mathlib.Omega.{arith}
 use lib.Dec.{ltb}
-use lib.ListN.{length, getD}
 use mir.Syntax.{w8, w32, w64}
 use mir.Val.{Fits}
-use borrow.Author.Tests.{ltb-true, lt-ltb, le-ltb}
+use borrow.Author.Tests.{ltb-true}
 use Rattle.base.specs.Choose.{choose}
 use Rattle.base.proofs.Every.{both, and-true, and-right}
 use Rattle.window.specs.declared.Sizes.{Sizes}
@@ -17,12 +15,11 @@ use Rattle.window.specs.declared.Window.{Window}
 use Rattle.window.specs.Window.{sizesFit}
 use Rattle.window.proofs.Check.{AllSmall, sizes-small}
 use Rattle.ranges.specs.declared.Range.{Range}
-use Rattle.ranges.specs.Ranges.{placeAt}
 use Rattle.groups.specs.declared.Place.{Place}
 use Rattle.groups.specs.declared.Layout.{Layout}
-use Rattle.groups.specs.Places.{layoutOf, placeIn}
+use Rattle.groups.specs.Places.{layoutOf}
 use Rattle.passing.specs.declared.Reach.{Reach}
-use Rattle.passing.specs.Passing.{firstOf, lastOf, spans, reachOf, nowhere, allMarked, passesBy}
+use Rattle.passing.specs.Passing.{firstOf, lastOf, spans, reachOf, nowhere}
 use Rattle.passing.proofs.Clear.{layout-fits, reach-is, reach-not}
 
 -- ---- a reach from what the calls answered
@@ -105,27 +102,3 @@ module _ (before x y layer z j row : ℕ) (fb : Fits w32 before) (fx : Fits w8 x
 
   pub begin-small : before + x + (y / 4 * layer + z + j) * row ≤ 1152921504606846976
   begin-small = let r = rows in let h = fb .fits in let k = fx .fits in omega arith
-
--- ---- whether a layer is passed over, test by test
-module _ (words : List ℕ) (w : Window) (r : Range) (k : Reach) (y : ℕ) where
-  abbrev height : ℕ
-  height = placeIn w (placeAt r 0 y 0) .y
-
-  pub off : k .on ≡ false → false ≡ passesBy words w r k y
-  unfolding passesBy
-  off e = sym (λ i. (e i && ltb height (w .sizes .y)) && allMarked words k height)
-
-  module _ (on : k .on ≡ true) (t : Place) (e : t ≡ placeIn w (placeAt r 0 y 0)) where
-    pub passed : t .y < w .sizes .y → (v : Bool) → v ≡ allMarked words k (t .y) → v ≡ passesBy words w r k y
-    unfolding passesBy
-    passed h v f =
-        let up : t .y ≡ height = λ i. e i .y in
-        let low : ltb height (w .sizes .y) ≡ true = (λ i. ltb (sym up i) (w .sizes .y)) ∙ lt-ltb (t .y) (w .sizes .y) h in
-        f ∙ (λ i. allMarked words k (up i)) ∙ sym (λ i. (on i && low i) && allMarked words k height)
-
-    pub beyond : w .sizes .y ≤ t .y → false ≡ passesBy words w r k y
-    unfolding passesBy
-    beyond h =
-        let up : t .y ≡ height = λ i. e i .y in
-        let high : ltb height (w .sizes .y) ≡ false = (λ i. ltb (sym up i) (w .sizes .y)) ∙ le-ltb (t .y) (w .sizes .y) h in
-        sym (λ i. (on i && high i) && allMarked words k height)

@@ -3,7 +3,7 @@
 use mathlib.Core.Path.{_≡_}
 use mathlib.Core.Bool.{Bool, true, false, _&&_}
 use mathlib.Core.List.{List}
-use Prim.Native.Nat.{ℕ, _+_, _*_, _-_, _/_, _≤_, _<_}
+use Prim.Native.Nat.{ℕ, _+_, _*_, _-_, _/_, _%_, _≤_, _<_, min}
 use lib.Dec.{ltb, eqb}
 use lib.ListN.{length, getD}
 use Rattle.base.specs.Choose.{choose}
@@ -63,9 +63,12 @@ marked words at n = every n (λ i. eqb (getD words (at + i) 1) 0)
 unfoldable pub allMarked : List ℕ → Reach → ℕ → Bool
 allMarked words k y = every (k .deep) (λ j. marked words (k .before + k .x + (y / 4 * k .layer + k .z + j) * k .row) (k .across))
 
+-- how far above the origin a layer of the range lies, and the window's height where it lies outside
+abbrev pub heightOf : Window → Range → ℕ → ℕ
+heightOf w r y = placeIn w (placeAt r 0 y 0) .y
+
 unfoldable pub passesBy : List ℕ → Window → Range → Reach → ℕ → Bool
-passesBy words w r k y =
-    k .on && ltb (placeIn w (placeAt r 0 y 0) .y) (w .sizes .y) && allMarked words k (placeIn w (placeAt r 0 y 0) .y)
+passesBy words w r k y = k .on && ltb (heightOf w r y) (w .sizes .y) && allMarked words k (heightOf w r y)
 
 abbrev pub passes : List ℕ → Window → Range → ℕ → Bool
 passes words w r y = passesBy words w r (reachIn words w r) y
@@ -73,6 +76,18 @@ passes words w r y = passesBy words w r (reachIn words w r) y
 -- the lines of a layer that a collection comes to
 abbrev pub linesBy : List ℕ → Window → Range → Reach → ℕ → ℕ
 linesBy words w r k y = choose (passesBy words w r k y) 0 (r .x .count)
+
+-- the first layer after y whose groups may be others: after those of the same four, or of the window; 0, which is none after y, where y lies outside
+-- the window's heights; and 2^32, beyond every layer, where no layer is passed over
+abbrev pub endOf : Window → Range → Reach → ℕ → ℕ
+endOf w r k y =
+    choose (k .on)
+    (choose (ltb (heightOf w r y) (w .sizes .y)) (y + min (4 - heightOf w r y % 4) (w .sizes .y - heightOf w r y)) 0)
+    4294967296
+
+-- what is known of layer y and those after it: what was known before, where that goes so far, and else what the groups of layer y say
+unfoldable pub stretchAt : List ℕ → Window → Range → Reach → ℕ → Stretch → Stretch
+stretchAt words w r k y last = choose (ltb y (last .until)) last record { until = endOf w r k y; lines = linesBy words w r k y }
 
 -- a stretch tells the lines of each layer from y on up to its end
 pub record Tells (words : List ℕ) (w : Window) (r : Range) (k : Reach) (s : Stretch) (y : ℕ) : Type 0 where

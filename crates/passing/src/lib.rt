@@ -7,10 +7,10 @@ use window::Sizes;
 use window::Window;
 ghost use mathlib.Core.Path.{_≡_};
 ghost use mathlib.Core.Bool.{_&&_};
-ghost use Prim.Native.Nat.{_+_, _*_, _-_, _/_, _%_, _≤_, _<_};
+ghost use Prim.Native.Nat.{_+_, _*_, _-_, _/_, _%_, _≤_, min};
 ghost use lib.Dec.{eqb};
 ghost use lib.ListN.{getD};
-ghost use Rattle.passing.specs.Passing.{spans, reachOf, reachIn, marked, allMarked, linesBy, Tells};
+ghost use Rattle.passing.specs.Passing.{spans, reachOf, reachIn, marked, allMarked, stretchAt};
 
 // The groups of a range's columns: the first on x and z, and how many from there on; where the words of groups stand, and how many groups a row and
 // a layer of them has. `on` is no where a column of the range lies outside the window.
@@ -160,20 +160,21 @@ fn is_all_marked(words: &[u32], k: Reach, y: u32) -> bool
 
 // For how many layers from this height on the groups are the same: to the end of these, or of the window.
 fn alike(height: u32, y: u32) -> u32
-    requires { ⌜ y < height ⌝ }
-    ensures { λ n. ⌜ (n ≤ height - y) × (n ≤ 4 - y % 4) ⌝ }
+    ensures { λ n. ⌜ n ≡ min (4 - y % 4) (height - y) ⌝ }
 {
     let left = 4 - y % 4;
-    let room = height - y;
-    if room < left { room } else { left }
+    if y < height {
+        let room = height - y;
+        if room < left { room } else { left }
+    } else {
+        0
+    }
 }
 
-// How many lines of layer y a collection comes to: none where it passes over it. Four layers have the same groups, which are asked for once: what is
-// known of the layers up to one is taken in, and handed on.
+// What is known of layer y and those after it: how many lines of each a collection comes to, none where it passes over it, and up to which layer.
+// Four layers have the same groups, which are asked for once: what is known of the layers up to one is taken in, and handed on.
 pub fn lines_at(words: &[u32], w: Window, r: Range, k: Reach, y: u32, last: Stretch) -> Stretch
-    requires { ⌜ Tells (now words) w r k last y ⌝ }
-    ensures { λ s. ⌜ s .lines ≡ linesBy (now (words .entry)) w r k y ⌝ }
-    ensures { λ s. ⌜ Tells (now (words .entry)) w r k s y ⌝ }
+    ensures { λ s. ⌜ s ≡ stretchAt (now (words .entry)) w r k y last ⌝ }
 {
     if (y as u64) < last.until {
         return last;

@@ -16,6 +16,8 @@ use Rattle.sweeps.specs.Move.{moveOver}
 use Rattle.sweeps.specs.Passes.{sweepOf, endOfMove}
 use Rattle.sweeps.proofs.Shape.{moves}
 use Rattle.sweeps.specs.Lists.{Held, noBox}
+use Rattle.lent_boxes.specs.Boxes.{boxesIn, lentCount, firstBoxes}
+use Rattle.lent_boxes.proofs.Lent.{all-there}
 use Rattle.window.specs.declared.Window.{Window}
 use Rattle.window.specs.Look.{lookAt}
 use Rattle.ranges.specs.declared.Range.{Range}
@@ -48,11 +50,12 @@ module _ (cap : ℕ) (over : ℕ → Bool) (cells : List ℕ) (w : Window) (reco
 
   -- from the answer of a collection under a cap that may be lower
   module _ (least : ℕ) (within : least ≤ cap) (h : Held) (e : h ≡ heldAsked (collectInPast over least (lookAt cells w) records shapes area r)) where
-    pub moved-over : h .refusal ≡ 0 → (m : MoveResult) → m ≡ moveOver (h .boxes) (q .aabb) (q .delta) (q .step) (q .ground) → found m ≡ whole-move
+    pub moved-over : h .refusal ≡ 0 → (n : ℕ) (room : List Float) → h .boxes ≡ boxesIn room n → (m : MoveResult) → m ≡ moveOver (firstBoxes n room) (q .aabb) (q .delta) (q .step) (q .ground)
+        → n ≤ lentCount room → found m ≡ whole-move
     unfolding moveFrom
-    moved-over z m em =
+    moved-over z n room eb m em there =
         let low = list-told h (collectInPast over least (lookAt cells w) records shapes area r) (past-refuses over least cells w records shapes area r) e z in
-        rw (found-under cells w records shapes area over r least cap within (h .boxes) low, em)
+        rw (found-under cells w records shapes area over r least cap within (h .boxes) low, em, all-there n room there, eb)
 
     pub told-refused : (h .refusal ≡ 0 → ⊥) → (h .refusal ≡ 6 → ⊥) → refused (h .refusal) ≡ whole-move
     unfolding moveFrom

@@ -1,5 +1,6 @@
 -- `block_writer::fill_block` meets its contract. Assumes nothing.
-use Rattle.block_writer.proofs.Blocks.{filled}
+use Rattle.block_writer.proofs.Blocks.{filled, filled-is, other-kept}
+use mathlib.Core.Path.{sym, _∙_}
 use borrow.Author.Needs.{needs}
 use Rattle.block_writer.proofs.fill_block.Statement.{statement}
 use Rattle.block_writer.proofs.fill_block.Tie as tie
@@ -33,9 +34,13 @@ returns c =
     let at-second-of = at-put-word .before .before in
     let at-put-payload = at-second-of .before .before .before .before in
     let at-put-head = at-put-payload .before .before .before .before in
-    let at-start = at-put-head .before .before .before .before in
-    filled _ _ _ _ _ _ _ _ _ _ _ (at-start .pre) (at-put-head .put-head .ensures) (at-put-payload .put-payload .ensures) (at-second-of .second-of .ensures)
+    let at-if1 = at-put-head .before .before in
+    filled _ _ _ _ _ _ _ _ _ _ _ (at-if1 .if1 .taken) (at-put-head .put-head .ensures) (at-put-payload .put-payload .ensures) (at-second-of .second-of .ensures)
     (at-put-word .put-word .ensures) (at-check-of .check-of .ensures) (at-put-word2 .put-word2 .ensures)
+    ∙ sym (filled-is _ _ _ _ _ (at-if1 .if1 .taken))
+
+returns-2 : tie.Need-returns-2
+returns-2 c = sym (other-kept _ _ _ _ _ (c .if1 .left))
 
 pub fill-block-spec : {M : Type 1} → statement M
 fill-block-spec =
@@ -48,4 +53,5 @@ fill-block-spec =
     check-of-requires
     put-word-requires-2
     same-length
-    returns)
+    returns
+    returns-2)

@@ -1,6 +1,8 @@
 -- `collection::collect` meets its contract. Assumes nothing.
-use mathlib.Core.Path.{ap, _∙_}
-use Rattle.sweeps.specs.Lists.{capOf}
+use mathlib.Core.Path.{_≡_, ap, _∙_}
+use Prim.Native.Nat.{min}
+use native.Mathlib.Omega.{arith}
+use Rattle.sweeps.specs.Lists.{room, capOf}
 use Rattle.sweeps.proofs.Caps.{cap-in-room}
 use Rattle.collection.specs.Answers.{heldAsked}
 use Rattle.collection.proofs.Past.{all-come-to}
@@ -15,10 +17,14 @@ range-of-requires : tie.Need-range-of-requires
 range-of-requires c κs = search needs
 
 collect-up-to-requires : tie.Need-collect-up-to-requires
-collect-up-to-requires c κs = rw (c .before .cap-of .ensures) (cap-in-room _)
+collect-up-to-requires c κs = search needs
 
 returns : tie.Need-returns
-returns c = rw (c .before .before .cap-of .ensures) at (c .collect-up-to .ensures) ∙ ap heldAsked (all-come-to (capOf _) _ _ _ _ _ (c .before .range-of .ensures))
+returns c =
+    let cap = c .before .before .before .before .before .before .args .cap in
+    let m = cap-in-room cap in
+    let all : min (capOf cap) room ≡ capOf cap = omega arith in
+    rw (c .before .before .cap-of .ensures, all) at (c .collect-up-to .ensures) ∙ ap heldAsked (all-come-to (capOf cap) _ _ _ _ _ (c .before .range-of .ensures))
 
 pub collect-spec : {M : Type 1} → statement M
 collect-spec = tie.close (tie.spec cap-of-requires range-of-requires collect-up-to-requires returns)

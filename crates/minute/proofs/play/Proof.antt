@@ -20,13 +20,15 @@ abbrev μ-loop : tie.MeasureT-loop
 μ-loop records shapes words₀ w rules body file log n feet₀ m₀ i₀ words feet m i = n - i
 
 loop-holds : tie.Need-loop-holds Inv-loop μ-loop
-loop-holds c = going-first _ _ _ _ _ _ (c .before .before .before .before .before .pre .0) (c .before .before .before .before .before .pre .1)
+loop-holds c =
+    let at-start = c .before .before .before .before .before in
+    going-first _ _ _ _ _ _ (at-start .fits .n .fits) (at-start .pre .0) (at-start .pre .1)
 
 event-at-requires : tie.Need-event-at-requires Inv-loop μ-loop
 event-at-requires c κs = search needs
 
 turn-requires : tie.Need-turn-requires Inv-loop μ-loop
-turn-requires c κs = let few = c .before .before .before .before .loop .inv .held .few in search needs
+turn-requires c κs = search needs
 
 same-length : tie.Need-same-length Inv-loop μ-loop
 same-length c = turn-words _ _ _ _ _ _ _ _ _ _ (c .before .before .before .before .before .before .before .before .before .before .before .loop .inv) (c .before .before .before .before .before .before .before .before .before .before .loop-test .taken) _ (c .before .before .before .before .before .before .before .before .before .event-at .ensures) _ _ _ (c .before .before .before .before .before .before .turn .ensures .0) (c .before .before .before .before .before .before .turn .ensures .1 .0) (c .before .before .before .before .before .before .turn .ensures .1 .1)

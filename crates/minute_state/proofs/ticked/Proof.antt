@@ -20,8 +20,8 @@ put-feet-requires c κs = search needs
 older-than-requires : tie.Need-older-than-requires
 older-than-requires c κs = search needs
 
-add-minute-of : tie.Need-add-minute-of
-add-minute-of c = search needs
+later-than-requires : tie.Need-later-than-requires
+later-than-requires c κs = search needs
 
 minute-of-requires : tie.Need-minute-of-requires
 minute-of-requires c κs = search needs
@@ -32,10 +32,12 @@ same-length c = search needs
 returns-2 : tie.Need-returns-2
 unfolding tickedBy feetBy choose
 returns-2 c =
-    let at-older-than = c .before .before in
+    let at-later-than = c .before in
+    let at-older-than = at-later-than .before in
     let at-put-feet = at-older-than .before .before .before .before .before in
     let at-if1 = at-put-feet .before .before in
-    rw (eq-eqb _ _ (at-if1 .if1 .left), ← at-older-than .older-than .ensures) (c .minute-of .ensures, at-put-feet .put-feet .ensures)
+    rw (eq-eqb _ _ (at-if1 .if1 .left), ← at-older-than .older-than .ensures, ← at-later-than .later-than .ensures)
+    (c .minute-of .ensures, at-put-feet .put-feet .ensures)
 
 pub ticked-spec : {M : Type 1} → statement M
 ticked-spec =
@@ -45,7 +47,7 @@ ticked-spec =
     returns
     put-feet-requires
     older-than-requires
-    add-minute-of
+    later-than-requires
     minute-of-requires
     same-length
     returns-2)

@@ -4,7 +4,7 @@ use Prim.Native.Nat.{_+_, _*_}
 use native.Mathlib.Omega.{arith}
 use lib.ListN.{length}
 use Rattle.base.proofs.Stored.{stored-mid}
-use Rattle.block_writer.proofs.Blocks.{block-length}
+use Rattle.block_writer.proofs.Blocks.{block-length, filled-is}
 use borrow.Author.Needs.{needs}
 use Rattle.part_writer.proofs.put_block.Statement.{statement}
 use Rattle.part_writer.proofs.put_block.Tie as tie
@@ -48,7 +48,7 @@ returns c =
     let at-used-in = at-fill-block .before .before .before in
     let at-start = at-used-in .before .before .before in
     let number = at-start .args .p .first + at-start .args .j in
-    let block = rw (at-used-in .used-in .ensures) at (at-fill-block .fill-block .ensures) in
+    let block = (rw (at-used-in .used-in .ensures) at (at-fill-block .fill-block .ensures)) ∙ filled-is _ _ _ _ _ (search needs) in
     let n = ap length block ∙ block-length _ _ _ _ in
     rw (← block) (stored-mid (at-start .args .out .now) (number * 512) (number * 512 + 512) _ (omega arith) (at-start .pre .1) (omega arith))
 

@@ -1,4 +1,5 @@
 -- `through::many` meets its contract. Assumes nothing.
+use mathlib.Core.Path.{refl}
 use native.Mathlib.Omega.{arith}
 use Rattle.through.proofs.Moved.{moved-over, told-refused}
 use borrow.Author.Needs.{needs}
@@ -27,7 +28,7 @@ moved-over-requires : tie.Need-moved-over-requires
 moved-over-requires c κs = search needs
 
 returns-2 : tie.Need-returns-2
-returns-2 c = let n = c .before .before .before .before .before .before .within .ensures in moved-over _ _ _ _ _ _ _ _ _ _ (omega arith) _ (c .before .before .before .before .before .collect-into .ensures .0) (c .before .before .if2 .taken) _ (c .moved-over .ensures)
+returns-2 c = let k = c .before .before .before .before .before .collect-into .ensures .1 in let n = c .before .before .before .before .before .before .within .ensures in moved-over _ _ _ _ _ _ _ _ _ _ (omega arith) _ (c .before .before .before .before .before .collect-into .ensures .0) (c .before .before .if2 .taken) _ (c .before .before .before .before .before .collect-into .last .0) refl _ (c .moved-over .ensures) (omega arith)
 
 crowded-requires-2 : tie.Need-crowded-requires-2
 crowded-requires-2 c κs = search needs

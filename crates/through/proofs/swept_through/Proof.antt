@@ -15,7 +15,7 @@ use Rattle.sweeps.specs.Passes.{clipAlong, passesFrom, sweepOf}
 use Rattle.sweeps.proofs.Turns.{clip-turn, made, pass-on, pass-over, passes-end}
 use Rattle.window.specs.Look.{lookAt}
 use Rattle.passing.specs.Passing.{passes, Tells}
-use Rattle.passing.proofs.Four.{not-asked, later}
+use Rattle.passing.proofs.Four.{not-asked, later, handed-on, its-lines}
 use Rattle.collection.specs.Collect.{push}
 use Rattle.solids.specs.Parts.{nthAabb, shapeAsked}
 use Rattle.collection.proofs.Collects.{Room, allPast, layersFrom, linesFrom, cellsFrom, boxesFrom, walk-begins, layer-begins, line-begins, cells-turn, cell-begins, cell-refused, box-next, boxes-end, cells-end, lines-end, layers-end, kept, passed, fully}
@@ -84,13 +84,13 @@ loop-holds c =
 
 lines-at-requires :
     tie.Need-lines-at-requires Inv-loop4 μ-loop4 Inv-loop3 μ-loop3 Inv-loop2 μ-loop2 Inv-loop μ-loop Inv-loop6 μ-loop6 Inv-loop5 μ-loop5
-lines-at-requires c κs = c .before .loop .inv .1
+lines-at-requires c κs = search needs
 
 loop2-holds : tie.Need-loop2-holds Inv-loop4 μ-loop4 Inv-loop3 μ-loop3 Inv-loop2 μ-loop2 Inv-loop μ-loop Inv-loop6 μ-loop6 Inv-loop5 μ-loop5
 loop2-holds c = let i = c .before .before .loop .inv in (i .0, sym (layer-begins (push _) _ _ _ _ _ _ _ _ (c .before .loop-test .taken)) ∙ i .2)
 
 loop3-holds : tie.Need-loop3-holds Inv-loop4 μ-loop4 Inv-loop3 μ-loop3 Inv-loop2 μ-loop2 Inv-loop μ-loop Inv-loop6 μ-loop6 Inv-loop5 μ-loop5
-loop3-holds c = let i = c .before .loop2 .inv in (i .0, sym (line-begins (push _) _ _ _ _ _ _ _ _ _ (on-the-way _ _ _ _ _ _ _ (c .before .before .before .before .before .before .reach-in .ensures) (c .before .before .lines-at .ensures .0) (c .loop2-test .taken))) ∙ i .1)
+loop3-holds c = let i = c .before .loop2 .inv in (i .0, sym (line-begins (push _) _ _ _ _ _ _ _ _ _ (on-the-way _ _ _ _ _ _ _ (c .before .before .before .before .before .before .reach-in .ensures) (its-lines _ _ _ _ _ _ _ (c .before .before .lines-at .ensures) (c .before .before .before .before .loop .inv .1)) (c .loop2-test .taken))) ∙ i .1)
 
 place-requires : tie.Need-place-requires Inv-loop4 μ-loop4 Inv-loop3 μ-loop3 Inv-loop2 μ-loop2 Inv-loop μ-loop Inv-loop6 μ-loop6 Inv-loop5 μ-loop5
 place-requires c κs = search needs
@@ -196,7 +196,7 @@ loop-less : tie.Need-loop-less Inv-loop4 μ-loop4 Inv-loop3 μ-loop3 Inv-loop2 �
 loop-less c = omega arith
 
 loop-again : tie.Need-loop-again Inv-loop4 μ-loop4 Inv-loop3 μ-loop3 Inv-loop2 μ-loop2 Inv-loop μ-loop Inv-loop6 μ-loop6 Inv-loop5 μ-loop5
-loop-again c = let i = c .before .loop2 .inv in (i .0, later _ _ _ _ _ _ (c .before .before .lines-at .ensures .1), sym (lines-end (push _) _ _ _ _ _ _ _ _ _ (at-the-end _ _ _ _ _ _ _ (c .before .before .before .before .before .before .reach-in .ensures) (c .before .before .lines-at .ensures .0) (c .loop2-test .left))) ∙ i .1)
+loop-again c = let i = c .before .loop2 .inv in (i .0, later _ _ _ _ _ _ (handed-on _ _ _ _ _ _ _ (c .before .before .lines-at .ensures) (c .before .before .before .before .loop .inv .1)), sym (lines-end (push _) _ _ _ _ _ _ _ _ _ (at-the-end _ _ _ _ _ _ _ (c .before .before .before .before .before .before .reach-in .ensures) (its-lines _ _ _ _ _ _ _ (c .before .before .lines-at .ensures) (c .before .before .before .before .loop .inv .1)) (c .loop2-test .left))) ∙ i .1)
 
 begun-requires : tie.Need-begun-requires Inv-loop4 μ-loop4 Inv-loop3 μ-loop3 Inv-loop2 μ-loop2 Inv-loop μ-loop Inv-loop6 μ-loop6 Inv-loop5 μ-loop5
 begun-requires c κs = search needs
