@@ -113,7 +113,7 @@ fn longer_of(moved: Swept, stepped: Swept) -> Swept
 }
 
 // Where the move stands after a pass whose attempt came to `got`.
-pub fn next(pass: u32, q: Request, first: Swept, got: Swept) -> Sweep
+pub fn next_sweep(pass: u32, q: Request, first: Swept, got: Swept) -> Sweep
     ensures { λ r. ⌜ r ≡ nextSweep pass q first got ⌝ }
 {
     if pass == 2 {

@@ -1,10 +1,12 @@
 -- the laws that every crate shares
 pub mod Cases
 pub mod Asks
+pub mod Answers
 pub mod Values
 pub mod Bounds
 pub mod Every
 pub mod Fill
+pub mod Appended
 pub mod Listed
 pub mod Stored
 pub mod Tests

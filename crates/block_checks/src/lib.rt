@@ -18,7 +18,7 @@ fn four(a: u8, b: u8, c: u8, d: u8) -> u32
 }
 
 // Word k of a block. Where all of its bytes are there one test is made, and not four.
-pub fn word(block: &[u8], k: u32) -> u32
+pub fn file_word(block: &[u8], k: u32) -> u32
     ensures { λ r. ⌜ r ≡ fileWord (now (block .entry)) k ⌝ }
 {
     let i = k as usize * 4;
@@ -45,7 +45,7 @@ pub fn is_marked(second: bool, block: &[u8]) -> bool
 pub fn mark_word() -> u32
     ensures { λ r. ⌜ r ≡ fileWord newMark 0 ⌝ }
 {
-    word(b"SCN2", 0)
+    file_word(b"SCN2", 0)
 }
 
 // The sum of words 0 to 126, wrapping at 2^32.
@@ -55,7 +55,7 @@ pub fn check_of(block: &[u8]) -> u32
     let mut sum = 0u32;
     let mut k = 0u32;
     while k < 127 {
-        sum = std::num::wrapping_add_u32(sum, word(block, k));
+        sum = std::num::wrapping_add_u32(sum, file_word(block, k));
         k += 1;
     }
     sum
@@ -75,7 +75,7 @@ pub fn second_of(block: &[u8]) -> u32
     let mut sum = 0u32;
     let mut k = 0u8;
     while k < 126 {
-        sum = std::num::wrapping_add_u32(sum, weighted(k, word(block, k as u32)));
+        sum = std::num::wrapping_add_u32(sum, weighted(k, file_word(block, k as u32)));
         k += 1;
     }
     sum

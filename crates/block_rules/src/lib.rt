@@ -1,7 +1,7 @@
 // What binds in every block of a scene file: mark, kind, number, unused words and checks. A look-up past the end of a file answers nothing.
 use block_checks::check_of;
 use block_checks::is_marked;
-use block_checks::word;
+use block_checks::file_word;
 use block_checks::word_126;
 ghost use mathlib.Core.Path.{_≡_};
 ghost use mathlib.Core.Bool.{true, _||_};
@@ -27,7 +27,7 @@ fn used_or_zero(block: &[u8], used: u32, i: u8) -> bool
     if (i as u32) < used {
         return true;
     }
-    word(block, 3 + i as u32) == 0
+    file_word(block, 3 + i as u32) == 0
 }
 
 // Each word from 3 to 125 is one of those in use, or zero.
@@ -49,11 +49,11 @@ pub fn block_fits(second: bool, block: &[u8], number: usize, kind: u32, used: u3
     ensures { λ r. ⌜ r ≡ blockFits second (now (block .entry)) number kind used ⌝ }
 {
     if is_marked(second, block) {
-        if word(block, 1) == kind {
-            if word(block, 2) as usize == number {
+        if file_word(block, 1) == kind {
+            if file_word(block, 2) as usize == number {
                 if rest_zero(block, used) {
-                    if word(block, 126) == word_126(second, block) {
-                        return word(block, 127) == check_of(block);
+                    if file_word(block, 126) == word_126(second, block) {
+                        return file_word(block, 127) == check_of(block);
                     }
                 }
             }

@@ -7,11 +7,12 @@ use native.Mathlib.Omega.{arith}
 use lib.ListN.{length, drop, length-append}
 use borrow.Author.Tests.{lt-ltb, le-ltb, eq-eqb, ne-eqb}
 use Rattle.base.specs.Choose.{choose}
-use Rattle.base.specs.Loop.{stored}
+use Rattle.base.specs.Loop.{appended, stored}
+use Rattle.base.proofs.Appended.{appended-last}
 use Rattle.base.proofs.Fill.{stored-then}
 use Rattle.base.proofs.Stored.{stored-front, stored-all}
 use Rattle.block_checks.specs.Checks.{fileWord, newMark, checkOf, secondOf}
-use Rattle.block_writer.specs.Bytes.{joined, wordBytes, bytesOf, headBytes, payloadWord, withSecond, withCheck, blockBytes, filledBlock}
+use Rattle.block_writer.specs.Bytes.{wordBytes, bytesOf, headBytes, payloadWord, withSecond, withCheck, blockBytes, filledBlock}
 use Rattle.block_writer.proofs.Words.{word-length, bytes-length, bytes-same, check-before, second-before}
 
 -- ---- the payload
@@ -113,9 +114,10 @@ head-put l₀ l₁ l₂ l₃ number kind m e e₁ e₂ e₃ = rw (e₃, e₂, e�
 -- a word more of its payload
 pub payload-turn : (l₀ l l′ : List ℕ) (word : ℕ → ℕ) (i w : ℕ) → w ≡ word i → l ≡ stored l₀ 12 (bytesOf word i) → l′ ≡ stored l ((3 + i) * 4) (wordBytes w)
     → l′ ≡ stored l₀ 12 (bytesOf word (i + 1))
-unfolding bytesOf joined
+unfolding bytesOf
 payload-turn l₀ l l′ word i w e inv put =
     let n : i + 1 ≡ suc i = omega arith in
+    let last : appended (λ k. wordBytes (word k)) (suc i) 0 ≡ bytesOf word i ++ wordBytes (word i) = appended-last (λ (k : ℕ). wordBytes (word k)) i in
     let a = bytes-length word i in
     let q : (3 + i) * 4 ≡ 12 + length (bytesOf word i) = omega arith in
-    rw (put, inv, q, e, n) (stored-then l₀ 12 (bytesOf word i) (wordBytes (word i)))
+    rw (put, inv, q, e, n, last) (stored-then l₀ 12 (bytesOf word i) (wordBytes (word i)))

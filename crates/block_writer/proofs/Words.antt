@@ -4,11 +4,11 @@ use mathlib.Core.Path.{_≡_, refl, ap}
 use Prim.Native.Nat.{ℕ, _+_, _*_, _/_, _%_, _<_, _≤_}
 use native.Mathlib.Omega.{arith}
 use lib.ListN.{length, take, drop, set, List·getD-append}
+use Rattle.base.proofs.Appended.{appended-same, appended-length, appended-at}
 use Rattle.base.specs.Loop.{stored}
 use Rattle.block_checks.specs.Checks.{fileWord, checkOf, secondOf}
 use Rattle.block_checks.proofs.Words.{sum-same}
 use Rattle.block_writer.specs.Bytes.{wordBytes, bytesOf}
-use Rattle.block_writer.proofs.Joined.{joined-same, joined-length, joined-at}
 
 -- four bytes stored one by one
 pub word-put : (l : List ℕ) (i w : ℕ)
@@ -28,15 +28,15 @@ word-length w = refl
 
 pub bytes-length : (word : ℕ → ℕ) (n : ℕ) → length (bytesOf word n) ≡ n * 4
 unfolding bytesOf
-bytes-length word n = joined-length 4 (λ (k : ℕ). wordBytes (word k)) n (λ k h. word-length (word k))
+bytes-length word n = appended-length 4 (λ (k : ℕ). wordBytes (word k)) n (λ k h. word-length (word k))
 
 pub bytes-at : (word : ℕ → ℕ) (n k : ℕ) → k < n → take 4 (drop (k * 4) (bytesOf word n)) ≡ wordBytes (word k)
 unfolding bytesOf
-bytes-at word n k h = joined-at 4 (λ (k : ℕ). wordBytes (word k)) n k (λ k h. word-length (word k)) h
+bytes-at word n k h = appended-at 4 (λ (k : ℕ). wordBytes (word k)) n k (λ k h. word-length (word k)) h
 
 pub bytes-same : (f g : ℕ → ℕ) (n : ℕ) → ((k : ℕ) → k < n → f k ≡ g k) → bytesOf f n ≡ bytesOf g n
 unfolding bytesOf
-bytes-same f g n e = joined-same (λ (k : ℕ). wordBytes (f k)) (λ (k : ℕ). wordBytes (g k)) n (λ k h. ap wordBytes (e k h))
+bytes-same f g n e = appended-same (λ (k : ℕ). wordBytes (f k)) (λ (k : ℕ). wordBytes (g k)) n (λ k h. ap wordBytes (e k h))
 
 -- ---- the two checks
 

@@ -1,15 +1,11 @@
 -- What the writer makes of a block, byte for byte. Document 01's and 02's words stand in quotes. A block's words are a function f of their places.
 use mathlib.Core.List.{List, [], _∷_, _++_}
-use Prim.Native.Nat.{ℕ, zero, suc, _*_, _/_, _%_, _^_}
+use Prim.Native.Nat.{ℕ, _*_, _/_, _%_, _^_}
 use lib.Dec.{eqb, ltb}
 use lib.ListN.{length, getD}
 use Rattle.base.specs.Choose.{choose}
+use Rattle.base.specs.Loop.{appended}
 use Rattle.block_checks.specs.Checks.{newMark, checkOf, secondOf}
-
--- lists one behind the other: g 0, g 1 and so on, as many as the number says
-unfoldable pub joined : (ℕ → List ℕ) → ℕ → List ℕ
-joined g zero = []
-joined g (suc n) = joined g n ++ g n
 
 -- ---- words as bytes: "little-endian words"
 
@@ -21,7 +17,7 @@ wordBytes w = byteOf w 0 ∷ byteOf w 1 ∷ byteOf w 2 ∷ byteOf w 3 ∷ []
 
 -- the bytes of so many words
 unfoldable pub bytesOf : (ℕ → ℕ) → ℕ → List ℕ
-bytesOf word n = joined (λ k. wordBytes (word k)) n
+bytesOf word n = appended (λ k. wordBytes (word k)) n 0
 
 -- ---- a block
 

@@ -1,5 +1,5 @@
 // How a scene file is laid out: the parts that its blocks are of. A look-up past the end of a file answers 0.
-use block_checks::word;
+use block_checks::file_word;
 use block_rules::block_fits;
 use block_rules::block_of;
 use block_rules::has_new_mark;
@@ -87,7 +87,7 @@ pub fn part_word(file: &[u8], p: Part, i: u32) -> u32
     if i < p.words {
         let per = per_block(p.kind);
         let b = p.first as usize + (i / per) as usize;
-        return word(block_of(file, b), 3 + i % per);
+        return file_word(block_of(file, b), 3 + i % per);
     }
     0
 }

@@ -21,14 +21,14 @@ unfoldable pub writtenNumber : List Float → List ℕ → ℕ → Float
 writtenNumber numbers words k = choose (isAbsent words k) zero64 (numberAt numbers k)
 
 -- "f64 low word first", "age (low, high)": the low word of a number, and at 1 the high one
-unfoldable pub halfOf : ℕ → ℕ → ℕ
-halfOf n j = choose (eqb j 0) (lowOf n) (highOf n)
+unfoldable pub wordOfWide : ℕ → ℕ → ℕ
+wordOfWide n j = choose (eqb j 0) (lowOf n) (highOf n)
 
 -- payload word i of the body: numbers, age, words, "state count, box count", and the cap as it was given: 0 "is written back as 0"
 unfoldable pub bodyWordOf : List Float → List ℕ → ℕ → Counts → ℕ → ℕ
 bodyWordOf numbers words age n i =
-    choose (ltb i agePlace) (halfOf (toBits binary64 (writtenNumber numbers words (i / 2))) (i % 2))
-    (choose (ltb i (wordPlace 0)) (halfOf age (i - agePlace))
+    choose (ltb i agePlace) (wordOfWide (toBits binary64 (writtenNumber numbers words (i / 2))) (i % 2))
+    (choose (ltb i (wordPlace 0)) (wordOfWide age (i - agePlace))
     (choose (ltb i statesPlace) (wordIn words (i - wordPlace 0))
     (choose (eqb i statesPlace) (n .states)
     (choose (eqb i boxesPlace) (n .boxes) (wordIn words capWord)))))

@@ -3,7 +3,7 @@ use files::Counts;
 use files::places;
 ghost use mathlib.Core.Path.{_≡_};
 ghost use Rattle.base.specs.Loop.{listed};
-ghost use Rattle.body_words.specs.Words.{isAbsent, writtenNumber, halfOf, bodyWordOf};
+ghost use Rattle.body_words.specs.Words.{isAbsent, writtenNumber, wordOfWide, bodyWordOf};
 
 // Whether number k is that of a flap that is not present.
 fn is_absent(words: &[u32], k: u32) -> bool
@@ -23,8 +23,8 @@ fn written_number(numbers: &[f64], words: &[u32], k: u32) -> f64
 }
 
 // The low word of a number, and at 1 the high one.
-fn half_of(n: u64, j: u32) -> u32
-    ensures { λ r. ⌜ r ≡ halfOf n j ⌝ }
+fn word_of_wide(n: u64, j: u32) -> u32
+    ensures { λ r. ⌜ r ≡ wordOfWide n j ⌝ }
 {
     if j == 0 {
         return lent_words::low_of(n);
@@ -38,10 +38,10 @@ fn body_word_of(numbers: &[f64], words: &[u32], age: u64, n: Counts, i: u32) -> 
 {
     if i < places::AGE {
         let x = written_number(numbers, words, i / places::WIDE);
-        return half_of(floats::bits_of_float(x), i % places::WIDE);
+        return word_of_wide(floats::bits_of_float(x), i % places::WIDE);
     }
     if i < places::WORDS {
-        return half_of(age, i - places::AGE);
+        return word_of_wide(age, i - places::AGE);
     }
     if i < places::STATES {
         return block_writer::word_in(words, (i - places::WORDS) as usize);

@@ -3,6 +3,5 @@ pub mod Collects
 pub mod Refuses
 pub mod Order
 pub mod Caps
-pub mod Unique
 pub mod Past
 pub mod Lent

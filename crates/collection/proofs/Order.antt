@@ -11,6 +11,7 @@ use lib.Dec.{ltb}
 use lib.ListN.{length}
 use lib.Ieee.{Float}
 use Rattle.base.specs.Choose.{choose}
+use Rattle.base.specs.Loop.{appended}
 use Rattle.base.specs.Ask.{Ask, refused, found, _>>=_, Turn, next, done, onward, turning}
 use Rattle.boxes.specs.declared.Aabb.{Aabb}
 use Rattle.boxes.specs.Boxes.{overlap}
@@ -23,7 +24,7 @@ use Rattle.ranges.specs.declared.Range.{Range}
 use Rattle.ranges.specs.Ranges.{placeAt}
 use Rattle.ranges.specs.Walk.{line, layer, walk}
 use Rattle.collection.specs.Collect.{CellShape, aabbsOf, cellShape, offer, offerAll, visit, push, pushed, rangeOf, collectBlockBoxes}
-use Rattle.collection.specs.Settled.{settled, settledBoxes, overlapping, appended, inOrder}
+use Rattle.collection.specs.Settled.{settled, settledBoxes, overlapping, inOrder}
 
 no : {A : Type 0} → _≡_ {A = ℕ} 0 1 → A
 no e = absurd (omega arith)

@@ -1,10 +1,11 @@
 -- What a collection comes to, said without its loops: the boxes of every cell of the range, in the order of the cells, of which those are kept
 -- that strictly overlap the area. `proofs/Order.antt` shows it of `collectBlockBoxes`.
-use mathlib.Core.List.{List, [], _∷_, _++_}
-use Prim.Native.Nat.{ℕ, zero, suc, _+_}
+use mathlib.Core.List.{List, [], _∷_}
+use Prim.Native.Nat.{ℕ}
 use lib.Ieee.{Float}
 use Rattle.base.specs.Choose.{choose}
 use Rattle.base.specs.Ask.{Ask, refused, found}
+use Rattle.base.specs.Loop.{appended}
 use Rattle.boxes.specs.declared.Aabb.{Aabb}
 use Rattle.boxes.specs.Boxes.{overlap}
 use Rattle.window.specs.declared.Pos.{Pos}
@@ -25,11 +26,6 @@ settledBoxes look records shapes p = settled shapes p (cellShape look records p)
 unfoldable pub overlapping : Aabb → List Aabb → List Aabb
 overlapping area [] = []
 overlapping area (b ∷ bs) = choose (overlap b area) (b ∷ overlapping area bs) (overlapping area bs)
-
--- the lists g i, g (i + 1) and so on, one after the other, as many as the first number says
-unfoldable pub appended : {A : Type 0} → (ℕ → List A) → ℕ → ℕ → List A
-appended g zero i = []
-appended g (suc k) i = g i ++ appended g k (i + 1)
 
 -- over the cells of a range: y, then x, then z
 unfoldable pub inOrder : {A : Type 0} → (Pos → List A) → Range → List A

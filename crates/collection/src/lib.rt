@@ -1,4 +1,5 @@
 // Module 6: collection of block boxes from a window.
+use base::AskedBool;
 use boxes::Aabb;
 use boxes::Vec3;
 use passing::Stretch;
@@ -12,6 +13,7 @@ use window::Pos;
 use window::Window;
 ghost use mathlib.Core.Path.{_≡_};
 ghost use Prim.Native.Nat.{_≤_, min};
+ghost use Rattle.base.specs.Answers.{boolAsked};
 ghost use Rattle.sweeps.specs.Lists.{room, capOf, heldIn};
 ghost use Rattle.tables.specs.Tables.{boxesAt};
 ghost use Rattle.lent_boxes.specs.Boxes.{atMost};
@@ -21,15 +23,10 @@ ghost use Rattle.solids.specs.Parts.{countOf, nthAabb};
 ghost use Rattle.window.specs.Look.{lookAt};
 ghost use Rattle.collection.specs.Collect.{rangeOf, sweptArea, collectBlockBoxes, collidesWithBlocks};
 ghost use Rattle.collection.specs.Past.{none, collectInPast};
-ghost use Rattle.collection.specs.Answers.{heldAsked, heldLent, hitAsked};
-
-pub enum AskedHit {
-    Is(bool),
-    Refused(u32),
-}
+ghost use Rattle.collection.specs.Answers.{heldAsked, heldLent};
 
 // How many boxes were collected into lent numbers, or the number of a refusal and none.
-pub struct Counted {
+pub struct CountedBoxes {
     pub count: usize,
     pub refusal: u32,
 }
@@ -103,7 +100,7 @@ fn collect_up_to(cap: usize, records: &[u32], shapes: &[f32], cells: &[u32], w: 
 // The same into lent numbers, six to a box, for the move: as many as the cap says and as there is room for, and with one more it refuses 6; from the
 // cells of a range that is known already, by the summary behind the window's words where there is one. It refuses 5 and 6 alone. What it calls for
 // each cell and box, it calls alone, so that the compiler puts it in place.
-pub fn collect_into(room: &mut [f64], cap: usize, records: &[u32], shapes: &[f32], cells: &[u32], w: Window, area: Aabb, r: Range) -> Counted
+pub fn collect_into(room: &mut [f64], cap: usize, records: &[u32], shapes: &[f32], cells: &[u32], w: Window, area: Aabb, r: Range) -> CountedBoxes
     ensures { λ c. ⌜ heldLent c (now (room .exit)) ≡ heldAsked (collectInPast (passes (now (cells .entry)) w r) (atMost cap (now (room .entry))) (lookAt (now (cells .entry)) w) (now (records .entry)) (now (shapes .entry)) area r) ⌝ }
     ensures { λ c. ⌜ c .count ≤ atMost cap (now (room .entry)) ⌝ }
 {
@@ -118,7 +115,7 @@ pub fn collect_into(room: &mut [f64], cap: usize, records: &[u32], shapes: &[f32
             for z in 0..r.z.count {
                 let p = ranges::place(r, At { x, y, z });
                 let part = match solids::part_at(records, cells, w, p) {
-                    AskedShape::Refused(n) => return Counted { count: 0, refusal: n },
+                    AskedShape::Refused(n) => return CountedBoxes { count: 0, refusal: n },
                     AskedShape::Is(s) => s,
                 };
                 let shape = tables::boxes_at(shapes, part.first, part.count);
@@ -127,7 +124,7 @@ pub fn collect_into(room: &mut [f64], cap: usize, records: &[u32], shapes: &[f32
                     let b = solids::nth_aabb(part.cube, shape, p, k);
                     if b.intersects(area) {
                         if count >= most {
-                            return Counted { count: 0, refusal: 6 };
+                            return CountedBoxes { count: 0, refusal: 6 };
                         }
                         lent_boxes::put_box(room, count, b);
                         count += 1;
@@ -136,7 +133,7 @@ pub fn collect_into(room: &mut [f64], cap: usize, records: &[u32], shapes: &[f32
             }
         }
     }
-    Counted { count, refusal: 0 }
+    CountedBoxes { count, refusal: 0 }
 }
 
 // The same from the cells that the area reaches, each of them.
@@ -148,16 +145,16 @@ pub fn collect(cap: u32, records: &[u32], shapes: &[f32], cells: &[u32], w: Wind
 
 // Whether a block box strictly overlaps the area. It stops at its first hit: no cell after that is asked for. It refuses 5 alone.
 // A collection with room for no box does the same, and its 6 is the hit.
-pub fn collides(records: &[u32], shapes: &[f32], cells: &[u32], w: Window, area: Aabb) -> AskedHit
-    ensures { λ r. ⌜ hitAsked r ≡ collidesWithBlocks (lookAt (now (cells .entry)) w) (now (records .entry)) (now (shapes .entry)) area ⌝ }
+pub fn collides(records: &[u32], shapes: &[f32], cells: &[u32], w: Window, area: Aabb) -> AskedBool
+    ensures { λ r. ⌜ boolAsked r ≡ collidesWithBlocks (lookAt (now (cells .entry)) w) (now (records .entry)) (now (shapes .entry)) area ⌝ }
 {
     let none = collect_up_to(0, records, shapes, cells, w, area, range_of(area));
     let refusal = none.refusal;
     if refusal == 0 {
-        return AskedHit::Is(false);
+        return AskedBool::Is(false);
     }
     if refusal == 6 {
-        return AskedHit::Is(true);
+        return AskedBool::Is(true);
     }
-    AskedHit::Refused(refusal)
+    AskedBool::Refused(refusal)
 }

@@ -1,5 +1,4 @@
 -- What the program's answers say, and what a host is handed.
-use mathlib.Core.Bool.{Bool}
 use mathlib.Core.List.{List}
 use Prim.Native.Nat.{ℕ}
 use lib.Ieee.{Float}
@@ -8,16 +7,10 @@ use Rattle.window.specs.declared.Pos.{Pos}
 use Rattle.window.specs.declared.Window.{Window}
 use Rattle.window.specs.Look.{lookAt}
 use Rattle.lent.specs.Lent.{direct}
-use Rattle.connect.specs.declared.AskedBool.{AskedBool}
-use Rattle.connect.specs.declared.AskedBool.the-variants.{Is, Refused as BoolRefused}
 use Rattle.connect.specs.declared.AskedState.{AskedState}
 use Rattle.connect.specs.declared.AskedState.the-variants.{State, Refused}
 use Rattle.connect.specs.declared.StateAnswer.{StateAnswer}
 use Rattle.connect.specs.Connect.{connectedState}
-
-abbrev pub boolAsked : AskedBool → Ask Bool
-boolAsked (Is b) = found b
-boolAsked (BoolRefused n) = refused n
 
 abbrev pub stateAsked : AskedState → Ask ℕ
 stateAsked (State s) = found s

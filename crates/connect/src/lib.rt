@@ -1,4 +1,5 @@
 // Module 5, connections: the state that a fence, pane, bars or wall has beside its neighbours.
+use base::AskedBool;
 use cover::Side;
 use joining::Joined;
 use window::Cell;
@@ -6,15 +7,10 @@ use window::Pos;
 use window::CellStep;
 use window::Window;
 ghost use mathlib.Core.Path.{_≡_};
+ghost use Rattle.base.specs.Answers.{boolAsked};
 ghost use Rattle.window.specs.Look.{lookAt};
 ghost use Rattle.connect.specs.Connect.{wayTo, joins, post, besideNeighbours, connectedState};
-ghost use Rattle.connect.specs.Answers.{boolAsked, stateAsked, connectedEntry};
-
-// What a cell tells, or the number of a refusal.
-enum AskedBool {
-    Is(bool),
-    Refused(u32),
-}
+ghost use Rattle.connect.specs.Answers.{stateAsked, connectedEntry};
 
 // A state, or the number of a refusal.
 pub enum AskedState {
@@ -114,7 +110,7 @@ fn beside_neighbours(records: &[u32], cells: &[u32], w: Window, p: Pos, kind: u3
 pub fn connected_state(records: &[u32], cells: &[u32], w: Window, p: Pos, state: u32) -> AskedState
     ensures { λ r. ⌜ stateAsked r ≡ connectedState (lookAt (now (cells .entry)) w) (now (records .entry)) p state ⌝ }
 {
-    let kind = joining::connects_as(records, state);
+    let kind = joining::connect_kind(records, state);
     if kind == 0 {
         return AskedState::State(state);
     }

@@ -14,7 +14,7 @@ use Rattle.base.specs.Every.{every, any}
 use Rattle.base.proofs.Every.{both, with-last, every-from, every-not, some-none, some-at, none-at, Found, find}
 use Rattle.cover.specs.declared.Side.{Side}
 use Rattle.cover.specs.Cover.{unitCells, boxCount, cellsBefore, zero32, onFace, u0, u1, v0, v1, hasCell, hasNan, allCells, coversFace}
-use Rattle.cover.specs.Gaps.{spans, hasPoint, isInner, gapAt, gapPast, anyGap, gapOnLine, gapOnFace, coversBySearch}
+use Rattle.cover.specs.Gaps.{spansLine, hasPoint, isInner, gapAt, gapPast, anyGap, gapOnLine, gapOnFace, coversBySearch}
 use Rattle.cover.proofs.Cells.{Point, at-zero, unit-pos, lt-cells, inner-point, point-inner}
 
 -- ---- a cell of a rectangle, part by part
@@ -59,13 +59,13 @@ not-ltb a b = go (ltb a b) refl
 -- a face, and a list of f32s
 module _ (l : List Float) (f : Side) (held : (i : ℕ) → T (fits binary32 (getD l i nan))) where
   point-cell : (u v : Float) (i j k : ℕ) → Point u i → Point v j → hasPoint l f u v k ≡ hasCell l f i j k
-  unfolding hasPoint spans
+  unfolding hasPoint spansLine
   point-cell u v i j k p q =
       rw (lt-cells u (u0 l f k) i p (held _), not-ltb, lt-cells u (u1 l f k) i p (held _), lt-cells v (v0 l k) j q (held _), not-ltb, lt-cells v (v1 l k) j q (held _))
 
-  point-spans : (u v : Float) (k : ℕ) → hasPoint l f u v k ≡ true → spans l f u k ≡ true
+  point-spans : (u v : Float) (k : ℕ) → hasPoint l f u v k ≡ true → spansLine l f u k ≡ true
   unfolding hasPoint
-  point-spans u v k h = both (spans l f u k) (not (lt v (v0 l k))) (both (spans l f u k && not (lt v (v0 l k))) (lt v (v1 l k)) h .one) .one
+  point-spans u v k h = both (spansLine l f u k) (not (lt v (v0 l k))) (both (spansLine l f u k && not (lt v (v0 l k))) (lt v (v1 l k)) h .one) .one
 
 -- ---- what a test of gaps over edges says
 or-false : (a b : Bool) → a || b ≡ false → (a ≡ false) × (b ≡ false)
@@ -171,7 +171,7 @@ module _ (l : List Float) (f : Side) (held : (i : ℕ) → T (fits binary32 (get
   clear-cell h i j p q =
       let n : ℕ = boxCount l in
       let a = best (onFace l f) (u1 l f) (gapOnLine l f) (λ k. held _) n i p h in
-      let b = best (spans l f (a .pt)) (v1 l) (gapAt l f (a .pt)) (λ k. held _) n j q (a .clear) in
+      let b = best (spansLine l f (a .pt)) (v1 l) (gapAt l f (a .pt)) (λ k. held _) n j q (a .clear) in
       let r = point-clear (a .pt) (b .pt) (b .clear) in
       let k : ℕ = r .at in
       let g = cell-holds l f (a .at) (b .at) k (sym (point-cell l f held (a .pt) (b .pt) (a .at) (b .at) k (a .point) (b .point)) ∙ r .there) in
@@ -191,7 +191,7 @@ module _ (l : List Float) (f : Side) (held : (i : ℕ) → T (fits binary32 (get
   gap-cell h =
       let n : ℕ = boxCount l in
       let a = open-at (onFace l f) (u1 l f) (gapOnLine l f) (λ k. held _) n h in
-      let b = open-at (spans l f (a .pt)) (v1 l) (gapAt l f (a .pt)) (λ k. held _) n (a .gapped) in
+      let b = open-at (spansLine l f (a .pt)) (v1 l) (gapAt l f (a .pt)) (λ k. held _) n (a .gapped) in
       every-not unitCells _ (a .at) (a .point .small)
       (every-not unitCells _ (b .at) (b .point .small) (point-gap (a .pt) (b .pt) (a .at) (b .at) (a .point) (b .point) (b .gapped)))
 

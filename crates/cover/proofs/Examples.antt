@@ -12,7 +12,7 @@ use Rattle.base.specs.Choose.{choose}
 use Rattle.base.specs.Every.{any}
 use Rattle.cover.specs.declared.Side.the-variants.{North, East, South, West}
 use Rattle.cover.specs.Cover.{zero32, one32, onFace, uPlace, fullFaces}
-use Rattle.cover.specs.Gaps.{spans, hasPoint, isInner, gapAt, gapPast, anyGap, gapOnLine, gapOnFace, coversBySearch}
+use Rattle.cover.specs.Gaps.{spansLine, hasPoint, isInner, gapAt, gapPast, anyGap, gapOnLine, gapOnFace, coversBySearch}
 use Rattle.cover.proofs.Covered.{covers-search}
 
 -- ---- a list of f32s, tested
@@ -50,7 +50,7 @@ pub record Small : Type 0 where
   pub no-box : fullFaces [] ≡ 0
 
 pub small : Small
-unfolding allFit fits gapOnFace gapOnLine anyGap gapAt gapPast any hasPoint spans isInner onFace uPlace coversBySearch choose lt eq le isNan ofBits
+unfolding allFit fits gapOnFace gapOnLine anyGap gapAt gapPast any hasPoint spansLine isInner onFace uPlace coversBySearch choose lt eq le isNan ofBits
 small = record {
   cube = full-search (upTo zero32 one32 one32 []) tt;
   slab = full-search (upTo zero32 one32 half []) tt;

@@ -11,12 +11,12 @@ use Rattle.cover.specs.declared.Side.{Side}
 use Rattle.cover.specs.Cover.{boxCount, zero32, one32, onFace, u0, u1, v0, v1, hasNan}
 
 -- u is within the width of the rectangle of box k: its left edge counted in, its right edge not
-unfoldable pub spans : List Float → Side → Float → ℕ → Bool
-spans l f u k = onFace l f k && not (lt u (u0 l f k)) && lt u (u1 l f k)
+unfoldable pub spansLine : List Float → Side → Float → ℕ → Bool
+spansLine l f u k = onFace l f k && not (lt u (u0 l f k)) && lt u (u1 l f k)
 
 -- the same, and v is within its height
 unfoldable pub hasPoint : List Float → Side → Float → Float → ℕ → Bool
-hasPoint l f u v k = spans l f u k && not (lt v (v0 l k)) && lt v (v1 l k)
+hasPoint l f u v k = spansLine l f u k && not (lt v (v0 l k)) && lt v (v1 l k)
 
 -- an edge strictly inside the unit square
 unfoldable pub isInner : Float → Bool
@@ -36,7 +36,7 @@ anyGap counts edge gap n = gap zero32 || any n (gapPast counts edge gap)
 
 -- on the upright line at u
 unfoldable pub gapOnLine : List Float → Side → Float → Bool
-gapOnLine l f u = anyGap (spans l f u) (v1 l) (gapAt l f u) (boxCount l)
+gapOnLine l f u = anyGap (spansLine l f u) (v1 l) (gapAt l f u) (boxCount l)
 
 unfoldable pub gapOnFace : List Float → Side → Bool
 gapOnFace l f = anyGap (onFace l f) (u1 l f) (gapOnLine l f) (boxCount l)

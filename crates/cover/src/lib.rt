@@ -5,7 +5,7 @@ ghost use lib.Ieee.{isNan};
 ghost use Rattle.base.specs.Choose.{choose};
 ghost use Rattle.base.specs.Every.{any};
 ghost use Rattle.cover.specs.Cover.{boxCount, boxNumber, onFace, uPlace, u1, v1, hasNan, coversFace, fullFaces};
-ghost use Rattle.cover.specs.Gaps.{spans, hasPoint, isInner, gapAt, gapPast, gapOnLine, gapOnFace};
+ghost use Rattle.cover.specs.Gaps.{spansLine, hasPoint, isInner, gapAt, gapPast, gapOnLine, gapOnFace};
 
 // A horizontal side of a block, in the order of word 19's bits.
 pub enum Side {
@@ -93,7 +93,7 @@ fn nan_on_face(shape: &[f32], face: Side) -> bool
 // Box k is on the face, and u is within its width: its left edge counted in, its right edge not.
 fn spans_line(shape: &[f32], face: Side, u: f32, k: usize) -> bool
     requires { ⌜ k < boxCount (now shape) ⌝ }
-    ensures { λ r. ⌜ r ≡ spans (now (shape .entry)) face u k ⌝ }
+    ensures { λ r. ⌜ r ≡ spansLine (now (shape .entry)) face u k ⌝ }
 {
     if on_face(shape, face, k) {
         let a = u_place(face);
@@ -147,7 +147,7 @@ fn gap_at(shape: &[f32], face: Side, u: f32, v: f32) -> bool
 // A gap at u, just above box k.
 fn gap_above(shape: &[f32], face: Side, u: f32, k: usize) -> bool
     requires { ⌜ k < boxCount (now shape) ⌝ }
-    ensures { λ r. ⌜ r ≡ gapPast (spans (now (shape .entry)) face u) (v1 (now (shape .entry))) (gapAt (now (shape .entry)) face u) k ⌝ }
+    ensures { λ r. ⌜ r ≡ gapPast (spansLine (now (shape .entry)) face u) (v1 (now (shape .entry))) (gapAt (now (shape .entry)) face u) k ⌝ }
 {
     let v = number(shape, k, 4);
     if is_inner(v) {

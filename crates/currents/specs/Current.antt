@@ -39,8 +39,8 @@ beyondReach aabb = not (areWithin (aabb .min) (twoTo 26) && areWithin (aabb .max
 abbrev pub cellsUpTo : Float → Float → Axis
 cellsUpTo lo hi = record { first = cellOf lo; count = orZero (ceilingOf hi -ℤ cellOf lo) }
 
-unfoldable pub reachOf : Aabb → Range
-reachOf aabb =
+unfoldable pub currentRange : Aabb → Range
+currentRange aabb =
     record {
       x = cellsUpTo (aabb .min .x) (aabb .max .x);
       y = cellsUpTo (aabb .min .y) (aabb .max .y);
@@ -120,5 +120,5 @@ unfoldable pub itemCurrent : (Pos → Ask Block) → List ℕ → Aabb → Pos �
 itemCurrent look records aabb foot footState =
     unless (beyondReach aabb) 5
     (do
-      end ← walk (currentTurn look records foot footState) (reachOf aabb) noStreams
+      end ← walk (currentTurn look records foot footState) (currentRange aabb) noStreams
       resume (λ s. found (currentOf s)) end)

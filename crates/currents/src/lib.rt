@@ -18,7 +18,7 @@ use window::Pos;
 use window::Window;
 ghost use mathlib.Core.Path.{_≡_};
 ghost use Rattle.window.specs.Look.{lookAt};
-ghost use Rattle.currents.specs.Current.{beyondReach, cellsUpTo, reachOf, sameNumber, samePos, liquidKnown, noStreams, oneMore, streamWith, gathered, currentTurn, directionOf, carriedBy, currentOf, itemCurrent};
+ghost use Rattle.currents.specs.Current.{beyondReach, cellsUpTo, currentRange, sameNumber, samePos, liquidKnown, noStreams, oneMore, streamWith, gathered, currentTurn, directionOf, carriedBy, currentOf, itemCurrent};
 ghost use Rattle.flow.specs.Answers.{liquidAsked};
 ghost use Rattle.currents.specs.Answers.{gatheredAsked, currentAsked};
 
@@ -76,8 +76,8 @@ fn cells_up_to(lo: f64, hi: f64) -> Axis
     }
 }
 
-fn reach_of(aabb: Aabb) -> Range
-    ensures { λ r. ⌜ r ≡ reachOf aabb ⌝ }
+fn current_range(aabb: Aabb) -> Range
+    ensures { λ r. ⌜ r ≡ currentRange aabb ⌝ }
 {
     let x = cells_up_to(aabb.min.x, aabb.max.x);
     let y = cells_up_to(aabb.min.y, aabb.max.y);
@@ -254,7 +254,7 @@ pub fn item_current(
     if is_beyond(aabb) {
         return AskedCurrent::Refused(5);
     }
-    let r = reach_of(aabb);
+    let r = current_range(aabb);
     let mut s = no_streams();
     let mut t = ranges::start(r);
     while t.y < r.y.count {

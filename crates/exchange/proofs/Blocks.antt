@@ -13,7 +13,7 @@ use Rattle.base.proofs.Every.{both}
 use Rattle.suffixes.proofs.Texts.{equal-same}
 use Rattle.blocks.specs.Blocks.{oldMark, newMark, fileWord, marked, secondOf, word126, checkOf, restZero, blockFits}
 use Rattle.block_checks.proofs.Words.{first-word}
-use Rattle.exchange.specs.Exchange.{apart, Among, Exchanged}
+use Rattle.exchange.specs.Exchange.{distance, Among, Exchanged}
 use Rattle.exchange.proofs.Checks.{agree}
 
 -- what a block that fits has in words 0 and 126
@@ -57,12 +57,12 @@ module _ (block other : List ℕ) (i j : ℕ) (among : Among i j) (exchanged : E
       let b = among .two-most in
       exchanged .others 126 (omega arith) (λ e. omega arith) (λ e. omega arith)
 
-  by-rule : (second : Bool) → Sound second other → apart i j * apart (fileWord block i) (fileWord block j) % 4294967296 ≡ 0
+  by-rule : (second : Bool) → Sound second other → distance i j * distance (fileWord block i) (fileWord block j) % 4294967296 ≡ 0
   unfolding word126 secondOf choose
   by-rule true s =
       agree (fileWord block) (fileWord other) i j among exchanged (sym (s .check) ∙ kept-last ∙ sound true block number kind used fits .check)
   by-rule false s = absurd (two-marks (sym (sound true block number kind used fits .mark) ∙ sym (kept 0 (omega arith) (omega arith)) ∙ s .mark))
 
   pub only-multiples : (second : Bool) (number′ kind′ used′ : ℕ) → blockFits second other number′ kind′ used′ ≡ true
-      → apart i j * apart (fileWord block i) (fileWord block j) % 4294967296 ≡ 0
+      → distance i j * distance (fileWord block i) (fileWord block j) % 4294967296 ≡ 0
   only-multiples second number′ kind′ used′ h = by-rule second (sound second other number′ kind′ used′ h)

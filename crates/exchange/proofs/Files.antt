@@ -14,7 +14,7 @@ use Rattle.block_rules.proofs.Blocks.{block-small, block-word}
 use Rattle.files.specs.Files.{isScene}
 use Rattle.files.proofs.Told.{each-block}
 use Rattle.base.proofs.Listed.{listed-length, listed-from}
-use Rattle.exchange.specs.Exchange.{apart, Among, Exchanged, from, exchange, wordOf, OddRefused, OnlyMultiples, LastBits, SmallRefused, BlockRefused}
+use Rattle.exchange.specs.Exchange.{distance, Among, Exchanged, from, exchange, wordOf, OddRefused, OnlyMultiples, LastBits, SmallRefused, BlockRefused}
 use Rattle.exchange.proofs.Powers.{even-cancels, small-cancels, remainder, none}
 use Rattle.exchange.proofs.Blocks.{only-multiples}
 
@@ -85,27 +85,27 @@ not-true false h = refl
 times : (p : ℕ) → p % 4294967296 ≡ 0 → p ≡ 4294967296 * (p / 4294967296)
 times p h = omega arith
 
-equal-apart : (a b : ℕ) → apart a b ≡ 0 → a ≡ b
+equal-apart : (a b : ℕ) → distance a b ≡ 0 → a ≡ b
 equal-apart a b h = omega arith
 
-below : (a b n : ℕ) → a < n → b < n → apart a b < n
+below : (a b n : ℕ) → a < n → b < n → distance a b < n
 below a b n h g = omega arith
 
 -- an odd distance
-odd-words : (d a b : ℕ) → d % 2 ≡ 1 → a < 4294967296 → b < 4294967296 → d * apart a b % 4294967296 ≡ 0 → a ≡ b
+odd-words : (d a b : ℕ) → d % 2 ≡ 1 → a < 4294967296 → b < 4294967296 → d * distance a b % 4294967296 ≡ 0 → a ≡ b
 odd-words d a b odd ha hb h =
     let e : d ≡ 1 * (2 * (d / 2) + 1) = omega arith in
-    equal-apart a b (none 4294967296 (apart a b) (omega arith) (even-cancels 0 (d / 2) d (apart a b) (d * apart a b / 4294967296) (omega arith) e (times (d * apart a b) h)) (below a b 4294967296 ha hb))
+    equal-apart a b (none 4294967296 (distance a b) (omega arith) (even-cancels 0 (d / 2) d (distance a b) (d * distance a b / 4294967296) (omega arith) e (times (d * distance a b) h)) (below a b 4294967296 ha hb))
 
 -- two places at most 124 apart, and words below 2^26
-small-words : (d a b : ℕ) → 0 < d → d < 128 → a < 67108864 → b < 67108864 → d * apart a b % 4294967296 ≡ 0 → a ≡ b
+small-words : (d a b : ℕ) → 0 < d → d < 128 → a < 67108864 → b < 67108864 → d * distance a b % 4294967296 ≡ 0 → a ≡ b
 small-words d a b pos less ha hb h =
-    equal-apart a b (none 67108864 (apart a b) (omega arith) (small-cancels 6 26 d (apart a b) (d * apart a b / 4294967296) pos less (times (d * apart a b) h)) (below a b 67108864 ha hb))
+    equal-apart a b (none 67108864 (distance a b) (omega arith) (small-cancels 6 26 d (distance a b) (d * distance a b / 4294967296) pos less (times (d * distance a b) h)) (below a b 67108864 ha hb))
 
 -- the same place twice
-no-distance : (i j n : ℕ) → (i < j → ⊥) → (j < i → ⊥) → apart i j * n % 4294967296 ≡ 0
+no-distance : (i j n : ℕ) → (i < j → ⊥) → (j < i → ⊥) → distance i j * n % 4294967296 ≡ 0
 no-distance i j n h g =
-    let z : apart i j ≡ 0 = omega arith in
+    let z : distance i j ≡ 0 = omega arith in
     rw z (nothing n)
   where
     nothing : (n : ℕ) → 0 * n % 4294967296 ≡ 0
@@ -114,7 +114,7 @@ no-distance i j n h g =
 pub multiples : OnlyMultiples
 multiples file b i j x s = go (decLt i j) (decLt j i)
   where
-    at-two : (j ≡ i → ⊥) → apart i j * apart (wordOf file b i) (wordOf file b j) % 4294967296 ≡ 0
+    at-two : (j ≡ i → ⊥) → distance i j * distance (wordOf file b i) (wordOf file b j) % 4294967296 ≡ 0
     at-two n =
         let new = x .new in
         let size = exchange-length b i j file in
@@ -123,33 +123,33 @@ multiples file b i j x s = go (decLt i j) (decLt j i)
         only-multiples (blockOf file b) (blockOf (exchange b i j file) b) i j (x .among) (exchanged-block b i j file (x .there) (x .among) n) b (f .kind) (f .used) (rw new at (f .fits))
         (isSecond (exchange b i j file)) b (g .kind) (g .used) (g .fits)
 
-    go : Dec (i < j) → Dec (j < i) → apart i j * apart (wordOf file b i) (wordOf file b j) % 4294967296 ≡ 0
+    go : Dec (i < j) → Dec (j < i) → distance i j * distance (wordOf file b i) (wordOf file b j) % 4294967296 ≡ 0
     go (yes h) l = at-two (λ e. omega arith)
     go (no h) (yes l) = at-two (λ e. omega arith)
-    go (no h) (no l) = no-distance i j (apart (wordOf file b i) (wordOf file b j)) h l
+    go (no h) (no l) = no-distance i j (distance (wordOf file b i) (wordOf file b j)) h l
 
 pub odd-refused : OddRefused
 odd-refused file b i j x odd unequal =
     let small = block-small file (x .bytes) b in
     not-true (isScene (exchange b i j file))
-    (λ s. unequal (odd-words (apart i j) _ _ odd (word-fits (blockOf file b) small i) (word-fits (blockOf file b) small j) (multiples file b i j x s)))
+    (λ s. unequal (odd-words (distance i j) _ _ odd (word-fits (blockOf file b) small i) (word-fits (blockOf file b) small j) (multiples file b i j x s)))
 
 pub last-bits : LastBits
 last-bits file b i j k e x h d s =
-    let p : ℕ = apart i j * apart (wordOf file b i) (wordOf file b j) in
-    remainder (2 ^ (32 - k)) (apart (wordOf file b i) (wordOf file b j))
-    (even-cancels k e (apart i j) (apart (wordOf file b i) (wordOf file b j)) (p / 4294967296) h d (times p (multiples file b i j x s)))
+    let p : ℕ = distance i j * distance (wordOf file b i) (wordOf file b j) in
+    remainder (2 ^ (32 - k)) (distance (wordOf file b i) (wordOf file b j))
+    (even-cancels k e (distance i j) (distance (wordOf file b i) (wordOf file b j)) (p / 4294967296) h d (times p (multiples file b i j x s)))
 
 pub small-refused : SmallRefused
-small-refused file b i j x hi hj unequal = not-true (isScene (exchange b i j file)) (λ s. go s (decLt 0 (apart i j)))
+small-refused file b i j x hi hj unequal = not-true (isScene (exchange b i j file)) (λ s. go s (decLt 0 (distance i j)))
   where
-    go : isScene (exchange b i j file) ≡ true → Dec (0 < apart i j) → ⊥
+    go : isScene (exchange b i j file) ≡ true → Dec (0 < distance i j) → ⊥
     go s (yes h) =
         let p = x .among .one in
         let p′ = x .among .one-most in
         let q = x .among .two in
         let q′ = x .among .two-most in
-        unequal (small-words (apart i j) _ _ h (omega arith) hi hj (multiples file b i j x s))
+        unequal (small-words (distance i j) _ _ h (omega arith) hi hj (multiples file b i j x s))
     go s (no h) = let e : i ≡ j = omega arith in unequal (ap (wordOf file b) e)
 
 pub block-refused : BlockRefused
@@ -158,5 +158,5 @@ block-refused block number kind used i j small fits among odd unequal file b the
     (λ s.
     let g = each-block file s b there in
     unequal
-    (odd-words (apart i j) _ _ odd (word-fits block small i) (word-fits block small j)
+    (odd-words (distance i j) _ _ odd (word-fits block small i) (word-fits block small j)
     (only-multiples block (blockOf file b) i j among exchanged number kind used fits (isSecond file) b (g .kind) (g .used) (g .fits))))

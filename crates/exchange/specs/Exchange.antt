@@ -11,8 +11,8 @@ use Rattle.blocks.specs.Blocks.{blockOf, fileWord, isSecond, blockFits}
 use Rattle.files.specs.Files.{isScene}
 
 -- how far two numbers are apart
-abbrev pub apart : ℕ → ℕ → ℕ
-apart a b = (a - b) + (b - a)
+abbrev pub distance : ℕ → ℕ → ℕ
+distance a b = (a - b) + (b - a)
 
 -- "two words among 1 to 125"
 pub record Among (i j : ℕ) : Type 0 where
@@ -44,18 +44,18 @@ wordOf file b k = fileWord (blockOf file b) k
 
 -- "exchanging two unequal words among 1 to 125 of a sound new-mark block, an odd number of places apart, is always refused"
 abbrev pub OddRefused : Type 0
-OddRefused = (file : List ℕ) (b i j : ℕ) → Exchange file b i j → apart i j % 2 ≡ 1 → (wordOf file b i ≡ wordOf file b j → ⊥) → isScene (exchange b i j file) ≡ false
+OddRefused = (file : List ℕ) (b i j : ℕ) → Exchange file b i j → distance i j % 2 ≡ 1 → (wordOf file b i ≡ wordOf file b j → ⊥) → isScene (exchange b i j file) ≡ false
 
 -- ---- beyond the document
 
 -- At any distance: where the exchange is not refused, 2^32 divides the places apart times the difference of the words.
 abbrev pub OnlyMultiples : Type 0
-OnlyMultiples = (file : List ℕ) (b i j : ℕ) → Exchange file b i j → isScene (exchange b i j file) ≡ true → apart i j * apart (wordOf file b i) (wordOf file b j) % 4294967296 ≡ 0
+OnlyMultiples = (file : List ℕ) (b i j : ℕ) → Exchange file b i j → isScene (exchange b i j file) ≡ true → distance i j * distance (wordOf file b i) (wordOf file b j) % 4294967296 ≡ 0
 
 -- So at a distance of 2^k times an odd number the words agree in their last 32 - k bits, or the exchange is refused.
 abbrev pub LastBits : Type 0
-LastBits = (file : List ℕ) (b i j k e : ℕ) → Exchange file b i j → k ≤ 32 → apart i j ≡ 2 ^ k * (2 * e + 1) → isScene (exchange b i j file) ≡ true
-    → apart (wordOf file b i) (wordOf file b j) % 2 ^ (32 - k) ≡ 0
+LastBits = (file : List ℕ) (b i j k e : ℕ) → Exchange file b i j → k ≤ 32 → distance i j ≡ 2 ^ k * (2 * e + 1) → isScene (exchange b i j file) ≡ true
+    → distance (wordOf file b i) (wordOf file b j) % 2 ^ (32 - k) ≡ 0
 
 -- And unequal words below 2^26, as all but floats, ages and negative numbers are, are refused at every distance.
 abbrev pub SmallRefused : Type 0
@@ -73,5 +73,5 @@ pub record Exchanged (f g : ℕ → ℕ) (i j : ℕ) : Type 0 where
 -- whatever else a file holds, it is no scene if one of its blocks is a sound one with two such words exchanged
 abbrev pub BlockRefused : Type 0
 BlockRefused = (block : List ℕ) (number kind used i j : ℕ) → ((k : ℕ) → getD block k 0 < 256) → blockFits true block number kind used ≡ true
-    → Among i j → apart i j % 2 ≡ 1 → (fileWord block i ≡ fileWord block j → ⊥)
+    → Among i j → distance i j % 2 ≡ 1 → (fileWord block i ≡ fileWord block j → ⊥)
     → (file : List ℕ) (b : ℕ) → b < length file / 512 → Exchanged (fileWord block) (fileWord (blockOf file b)) i j → isScene file ≡ false

@@ -5,18 +5,15 @@ use lib.Dec.{eqb}
 use lib.ListN.{getD}
 use Rattle.base.specs.Choose.{choose}
 use Rattle.base.specs.Loop.{listed}
-
--- byte m of a word
-unfoldable pub byteOf : ℕ → ℕ → ℕ
-byteOf w m = choose (eqb m 0) (w % 256) (choose (eqb m 1) (w / 256 % 256) (choose (eqb m 2) (w / 65536 % 256) (w / 16777216)))
+use Rattle.part_writer.specs.Bytes.{byteOf}
 
 -- a block: its first words, words 126 and 127, and zeros
 unfoldable pub blockWith : List ℕ → ℕ → ℕ → List ℕ
 blockWith first second check = listed (λ n. byteOf (choose (eqb (n / 4) 126) second (choose (eqb (n / 4) 127) check (getD first (n / 4) 0))) (n % 4)) 512 0
 
 -- a window's eight words, with the mark, kind 4 and number 0
-unfoldable pub plain : List ℕ
-plain = blockWith (843989843 ∷ 4 ∷ 0 ∷ 10 ∷ 20 ∷ 30 ∷ 40 ∷ 50 ∷ 60 ∷ 70 ∷ 80 ∷ []) 843992971 1687983178
+unfoldable pub plainBlock : List ℕ
+plainBlock = blockWith (843989843 ∷ 4 ∷ 0 ∷ 10 ∷ 20 ∷ 30 ∷ 40 ∷ 50 ∷ 60 ∷ 70 ∷ 80 ∷ []) 843992971 1687983178
 
 -- the same with words 3 and 5, two places apart, that differ by 2^31: no less than 2^31 is hidden there
 unfoldable pub halfway : List ℕ

@@ -48,12 +48,12 @@ use Rattle.small_scenes.specs.Palette.{records, shapes}
 use Rattle.small_scenes.proofs.Tables.{tables-pass}
 use Rattle.fall_rule.specs.declared.Fall.{Fall}
 use Rattle.fall_rule.specs.Rule.{fallOf, fresh}
-use Rattle.falls.specs.Moves.{Move, Fallen, Call, played, stepOf, movesOf}
+use Rattle.falls.specs.Moves.{Move, Fallen, StepCall, played, stepOf, movesOf}
 use Rattle.falls.specs.Samples.{hundredths, move, sample, sinceSwim, toLanding}
 use Rattle.falls.proofs.Moves.{fallen-one}
 use Rattle.falls.proofs.Steps.{steps-fallen}
 use Rattle.falls.proofs.Samples.{sample-fallen}
-use Rattle.fall_scenes.specs.Run.{cubeColumn, waterColumn, bareColumn, body, rules, world, cells, at, between, callOf, calls, run}
+use Rattle.fall_scenes.specs.Run.{cubeColumn, waterColumn, bareColumn, body, rules, world, cells, at, onTheWay, callOf, calls, run}
 
 -- tables and window pass their checks
 passes : lentRefusal records shapes cells world ≡ 0
@@ -93,16 +93,16 @@ low = fin false 6136154492292301 (negsuc 49)
 
 -- each step
 record Computed : Type 0 where
-  first : Goes (between cubeColumn 1000 800) (move 1000 800 false None)
-  second : Goes (between cubeColumn 800 650) (move 800 650 false None)
-  lands : Goes (between cubeColumn 650 100) (move 650 600 true None)
+  first : Goes (onTheWay cubeColumn 1000 800) (move 1000 800 false None)
+  second : Goes (onTheWay cubeColumn 800 650) (move 800 650 false None)
+  lands : Goes (onTheWay cubeColumn 650 100) (move 650 600 true None)
   away : answer (at cubeColumn (twoTo 26) (whole 0)) .refusal ≡ 4
-  swims : Goes (between waterColumn 600 575) (move 600 575 false Water)
-  third : Goes (between bareColumn 575 565) record { old = hundredths 575; new = high; ground = false; liquid = None }
-  fourth : Goes (between bareColumn 565 545) record { old = hundredths 565; new = low; ground = false; liquid = None }
+  swims : Goes (onTheWay waterColumn 600 575) (move 600 575 false Water)
+  third : Goes (onTheWay bareColumn 575 565) record { old = hundredths 575; new = high; ground = false; liquid = None }
+  fourth : Goes (onTheWay bareColumn 565 545) record { old = hundredths 565; new = low; ground = false; liquid = None }
 
 computed : Computed
-unfolding C.choose LS.isCap LS.capOf LO.listed A.asking A.turning N.sizeOf H.floorSize H.floorInt H.cellOf M.clipAll M.clipSequence M.steppedUp M.moveOver G.spanOf G.onFrom GC.cellHolding D.line D.layer D.walk B.isRegistered B.blocksMotion B.frictionAt B.kindOf B.liquidOf B.liquidAt B.boxesAt W.isVoid W.indexOf W.columnIndexOf K.lookAt J.connectKind J.connectedState SH.connectedShape SH.shapeOf SH.cellShape CO.offerAll CO.visit CO.collectBlockBoxes MA.moveAabb Q.liquidHeld U.surfaceAt Y.shrunk Y.cellsOf Y.surfaceOf Y.wetIn Y.livingTurn Y.livingLiquid BB.modelOf BB.stageOf BB.frictionOf BB.isYes BB.yesNumber BB.flapOf BB.bodyOf BB.motionOf BL.isExtent BL.isSmall BL.measuresFit BL.casesFit BL.rulesFit BL.numbersFit BL.isPosition BL.isVelocity BL.motionFits BL.numberRefusal DR.sunk DR.flapped DR.damped DR.floated DR.restsNow DR.pulled DR.unlessStopped SA.sampleOfState SA.told SA.sampled SA.livingSample SA.livingSupport SA.supportAfter TS.tickAfter TS.afterMove TS.moveOnBy TS.tickBegins TS.senses TS.stepBodyBy TS.stepBodySensed P.off P.on P.fence P.wall P.rows P.records P.shapes I.toBits I.ofBits I.ofInt I.round I.add I.sub I.mul I.div I.neg I.lt I.le I.eq I.ne
+unfolding C.choose LS.isCap LS.capOf LO.listed A.asking A.turning N.sizeOf H.floorSize H.floorInt H.cellOf M.clipAll M.clipSequence M.steppedUp M.moveOver G.spanOf G.onFrom GC.cellHolding D.line D.layer D.walk B.isRegistered B.blocksMotion B.frictionAt B.kindOf B.liquidOf B.liquidAt B.boxesAt W.isVoid W.indexOf W.columnIndexOf K.lookAt J.connectKind J.connectedState SH.connectedShape SH.shapeOf SH.cellShape CO.offerAll CO.visit CO.collectBlockBoxes MA.moveAabb Q.liquidHeld U.surfaceAt Y.shrunk Y.cellsOf Y.surfaceOf Y.wetIn Y.livingTurn Y.livingLiquid BB.modelOf BB.stageOf BB.frictionOf BB.isYes BB.yesNumber BB.flapOf BB.bodyOf BB.motionOf BL.isExtent BL.isSmall BL.measuresFit BL.casesFit BL.rulesFit BL.numbersFit BL.isPosition BL.isVelocity BL.motionFits BL.numberRefusal DR.sunk DR.flapped DR.damped DR.floated DR.restsNow DR.pulled DR.unlessStopped SA.sampleOfState SA.told SA.sampled SA.livingSample SA.livingSupport SA.supportAfter TS.tickAfter TS.afterMove TS.moveOnBy TS.tickBegins TS.senses TS.stepBodyBy TS.stepBodySensed P.off P.on P.fence P.wall LO.appended P.records P.shapes I.toBits I.ofBits I.ofInt I.round I.add I.sub I.mul I.div I.neg I.lt I.le I.eq I.ne
 computed =
     record {
       first = record { accepted = refl; moved = refl };

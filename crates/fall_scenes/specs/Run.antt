@@ -13,7 +13,7 @@ use Rattle.bodies.specs.declared.Rules.{Rules}
 use Rattle.bodies.specs.declared.MotionNumbers.{MotionNumbers}
 use Rattle.small_scenes.specs.Moves.{ratio, whole}
 use Rattle.small_scenes.specs.Palette.{records, shapes, air, fullCube, water0}
-use Rattle.falls.specs.Moves.{Call}
+use Rattle.falls.specs.Moves.{StepCall}
 use Rattle.falls.specs.Samples.{hundredths}
 
 -- half a cell wide and one high
@@ -61,27 +61,27 @@ abbrev pub at : Float → Float → Float → MotionNumbers
 at x y v = record { feet = vec x y (ratio 1 2); velocity = vec (whole 0) v (whole 0); ground = 0 }
 
 -- on its way from one height to another, in hundredths
-abbrev pub between : Float → ℕ → ℕ → MotionNumbers
-between x old new = at x (hundredths old) (sub binary64 (hundredths new) (hundredths old))
+abbrev pub onTheWay : Float → ℕ → ℕ → MotionNumbers
+onTheWay x old new = at x (hundredths old) (sub binary64 (hundredths new) (hundredths old))
 
 -- the fall; the landing, with a velocity that would lead on; a step that is a 4; the swim; the second fall
 abbrev pub given : List MotionNumbers
 given =
-    between cubeColumn 1000 800
-    ∷ between cubeColumn 800 650
-    ∷ between cubeColumn 650 100
+    onTheWay cubeColumn 1000 800
+    ∷ onTheWay cubeColumn 800 650
+    ∷ onTheWay cubeColumn 650 100
     ∷ at cubeColumn (twoTo 26) (whole 0)
-    ∷ between waterColumn 600 575
-    ∷ between bareColumn 575 565
-    ∷ between bareColumn 565 545
+    ∷ onTheWay waterColumn 600 575
+    ∷ onTheWay bareColumn 575 565
+    ∷ onTheWay bareColumn 565 545
     ∷ []
 
-abbrev pub callOf : MotionNumbers → Call
+abbrev pub callOf : MotionNumbers → StepCall
 callOf m = record { records = records; shapes = shapes; cells = cells; window = world; rules = rules; body = body; given = m; age = 0 }
 
-unfoldable pub calls : List MotionNumbers → List Call
+unfoldable pub calls : List MotionNumbers → List StepCall
 calls [] = []
 calls (m ∷ ms) = callOf m ∷ calls ms
 
-abbrev pub run : List Call
+abbrev pub run : List StepCall
 run = calls given

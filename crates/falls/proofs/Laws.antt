@@ -12,7 +12,7 @@ use Rattle.base.specs.Ask.{Ask, refused, found}
 use Rattle.window.specs.declared.Window.{Window}
 use Rattle.window.specs.Numbers.{withAir}
 use Rattle.groups.specs.Summary.{summaryRefusal}
-use Rattle.summary.specs.Calls.{plain}
+use Rattle.summary.specs.Calls.{plainWords}
 use Rattle.lent.specs.Lent.{unless, sound, lentRefusal}
 use Rattle.bodies.specs.declared.BodyNumbers.{BodyNumbers}
 use Rattle.bodies.specs.declared.Rules.{Rules}
@@ -65,7 +65,7 @@ module _ (records : List ℕ) (shapes : List Float) (cells : List ℕ) (w : Wind
 
   -- with a summary that passes its check the step over it is the plain step over cells and columns
   pub summed-alike : summaryRefusal records cells (withAir w (rules .air)) ≡ 0
-      → fallingSummed records shapes cells w rules body given age fall ≡ fallingEntry records shapes (plain cells w) w rules body given age fall
+      → fallingSummed records shapes cells w rules body given age fall ≡ fallingEntry records shapes (plainWords cells w) w rules body given age fall
   unfolding fallingSummed fallingEntry
   summed-alike h = rw (asked-summed records shapes cells w rules body given age h)
 

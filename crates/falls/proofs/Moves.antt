@@ -12,7 +12,7 @@ use Rattle.floats.specs.Numbers.{zero64}
 use Rattle.fall_rule.specs.declared.Fall.{Fall}
 use Rattle.flow.specs.Liquid.{isWater}
 use Rattle.fall_rule.specs.Rule.{wentDown, dropOf, deeper, landing, fallOf, fallBy, fresh}
-use Rattle.falls.specs.Moves.{Move, moveOf, lands, resets, deepened, dropsOf, noneOf, Last, Since, past, all, Landed, last, never, Fallen, after, through}
+use Rattle.falls.specs.Moves.{Move, moveOf, lands, resets, deepened, dropsOf, noneOf, Last, Since, past, all, Landed, last, never, Fallen, fallAfterMove, through}
 
 -- ---- a last move of a kind is there, or there is none: so every list has its moves since the last reset, and one list of them alone
 
@@ -108,7 +108,7 @@ abbrev arms : Bool → Bool → Bool → Float → Float → Float → Fall
 arms w g d deep land kept = choose w (fallOf zero64 kept) (choose g (fallOf zero64 land) (choose d (fallOf deep kept) (fallOf zero64 kept)))
 
 module _ (fall : Fall) (m : Move) where
-  reset-sum : T (resets m) → after fall m .sum ≡ zero64
+  reset-sum : T (resets m) → fallAfterMove fall m .sum ≡ zero64
   unfolding fallBy choose
   reset-sum = go (isWater (m .liquid)) (m .ground) (wentDown (moveOf m))
     where
@@ -119,7 +119,7 @@ module _ (fall : Fall) (m : Move) where
       go false false true t = absurd t
       go false false false t = refl
 
-  other-sum : T (not (resets m)) → after fall m .sum ≡ deeper (fall .sum) (dropOf (moveOf m))
+  other-sum : T (not (resets m)) → fallAfterMove fall m .sum ≡ deeper (fall .sum) (dropOf (moveOf m))
   unfolding fallBy choose
   other-sum = go (isWater (m .liquid)) (m .ground) (wentDown (moveOf m))
     where
@@ -131,7 +131,7 @@ module _ (fall : Fall) (m : Move) where
       go false false true t = refl
       go false false false t = absurd t
 
-  land-landed : T (lands m) → after fall m .landed ≡ landing (fall .sum) (moveOf m)
+  land-landed : T (lands m) → fallAfterMove fall m .landed ≡ landing (fall .sum) (moveOf m)
   unfolding fallBy choose
   land-landed = go (isWater (m .liquid)) (m .ground) (wentDown (moveOf m))
     where
@@ -142,7 +142,7 @@ module _ (fall : Fall) (m : Move) where
       go false true d t = refl
       go false false d t = absurd t
 
-  other-landed : T (not (lands m)) → after fall m .landed ≡ fall .landed
+  other-landed : T (not (lands m)) → fallAfterMove fall m .landed ≡ fall .landed
   unfolding fallBy choose
   other-landed = go (isWater (m .liquid)) (m .ground) (wentDown (moveOf m))
     where
@@ -158,11 +158,11 @@ module _ (fall : Fall) (m : Move) where
 through-then : (fall : Fall) (xs ys : List Move) → through fall (xs ++ ys) ≡ through (through fall xs) ys
 unfolding through
 through-then fall [] ys = refl
-through-then fall (x ∷ xs) ys = through-then (after fall x) xs ys
+through-then fall (x ∷ xs) ys = through-then (fallAfterMove fall x) xs ys
 
 -- through the earlier moves, then the last one of a kind, then the later ones
 split : (p : Move → Bool) (fall : Fall) (moves : List Move) (l : Last p moves)
-    → through fall moves ≡ through (after (through fall (l .earlier)) (l .move)) (l .later)
+    → through fall moves ≡ through (fallAfterMove (through fall (l .earlier)) (l .move)) (l .later)
 unfolding through
 split p fall moves l = ap (through fall) (l .whole) ∙ through-then fall (l .earlier) (l .move ∷ l .later)
 
@@ -170,14 +170,14 @@ none-sum : (fall : Fall) (ms : List Move) → T (noneOf resets ms) → through f
 unfolding through deepened noneOf
 none-sum fall [] t = refl
 none-sum fall (m ∷ ms) t =
-    none-sum (after fall m) ms (and-r (not (resets m)) (noneOf resets ms) t)
+    none-sum (fallAfterMove fall m) ms (and-r (not (resets m)) (noneOf resets ms) t)
     ∙ ap (λ (s : Float). deepened s ms) (other-sum fall m (and-l (not (resets m)) (noneOf resets ms) t))
 
 none-landed : (fall : Fall) (ms : List Move) → T (noneOf lands ms) → through fall ms .landed ≡ fall .landed
 unfolding through noneOf
 none-landed fall [] t = refl
 none-landed fall (m ∷ ms) t =
-    none-landed (after fall m) ms (and-r (not (lands m)) (noneOf lands ms) t)
+    none-landed (fallAfterMove fall m) ms (and-r (not (lands m)) (noneOf lands ms) t)
     ∙ other-landed fall m (and-l (not (lands m)) (noneOf lands ms) t)
 
 -- ---- the theorem, of moves
@@ -187,7 +187,7 @@ fallen-sum moves since (all t) = none-sum fresh moves t
 fallen-sum moves since (past l) =
     let before : Fall = through fresh (l .earlier) in
     ap (λ (f : Fall). f .sum) (split resets fresh moves l)
-    ∙ none-sum (after before (l .move)) (l .later) (l .none)
+    ∙ none-sum (fallAfterMove before (l .move)) (l .later) (l .none)
     ∙ ap (λ (s : Float). deepened s (l .later)) (reset-sum before (l .move) (l .is))
 
 landing-is : (moves : List Move) (l : Last lands moves) (since : List Move) → Since (l .earlier) since
@@ -195,7 +195,7 @@ landing-is : (moves : List Move) (l : Last lands moves) (since : List Move) → 
 landing-is moves l since s =
     let before : Fall = through fresh (l .earlier) in
     ap (λ (f : Fall). f .landed) (split lands fresh moves l)
-    ∙ none-landed (after before (l .move)) (l .later) (l .none)
+    ∙ none-landed (fallAfterMove before (l .move)) (l .later) (l .none)
     ∙ land-landed before (l .move) (l .is)
     ∙ ap (λ (x : Float). landing x (moveOf (l .move))) (fallen-sum (l .earlier) since s)
 

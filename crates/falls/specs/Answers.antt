@@ -9,7 +9,7 @@ use Rattle.tables.specs.declared.LiquidKind.the-variants.{None}
 use Rattle.drags.specs.declared.Support.the-variants.{NotAsked}
 use Rattle.window.specs.declared.Window.{Window}
 use Rattle.lent.specs.Lent.{unless, sound}
-use Rattle.summary.specs.Calls.{plain}
+use Rattle.summary.specs.Calls.{plainWords}
 use Rattle.bodies.specs.declared.BodyNumbers.{BodyNumbers}
 use Rattle.bodies.specs.declared.Rules.{Rules}
 use Rattle.bodies.specs.declared.MotionNumbers.{MotionNumbers}
@@ -42,7 +42,7 @@ unfoldable pub fallingSummed : List ℕ → List Float → List ℕ → Window �
 fallingSummed records shapes words w rules body given age fall =
     withFall fall given
     (stepAnswer given
-    (sound records shapes (plain words w) w
+    (sound records shapes (plainWords words w) w
     (unless (not (fallFits fall)) 3 (summedAsked records shapes words w rules body given age))))
 
 -- what a refusal hands back: "position, velocity and ground flag as given and liquid none", no sample asked for, and the record unchanged

@@ -83,16 +83,16 @@ pub record Fallen (moves : List Move) (fall : Fall) : Type 0 where
 
 -- ---- the record after a move, by the rule, and after each of a list in turn
 
-abbrev pub after : Fall → Move → Fall
-after fall m = fallAfter fall (m .old) (m .new) (m .ground) (m .liquid)
+abbrev pub fallAfterMove : Fall → Move → Fall
+fallAfterMove fall m = fallAfter fall (m .old) (m .new) (m .ground) (m .liquid)
 
 unfoldable pub through : Fall → List Move → Fall
 through fall [] = fall
-through fall (m ∷ ms) = through (after fall m) ms
+through fall (m ∷ ms) = through (fallAfterMove fall m) ms
 
 -- ---- steps: calls of step_falling, the record handed from each to the next
 
-pub record Call : Type 0 where
+pub record StepCall : Type 0 where
   pub records : List ℕ
   pub shapes : List Float
   pub cells : List ℕ
@@ -102,18 +102,18 @@ pub record Call : Type 0 where
   pub given : MotionNumbers
   pub age : ℕ
 
-abbrev pub fallingOf : Call → Fall → FallingAnswer
+abbrev pub fallingOf : StepCall → Fall → FallingAnswer
 fallingOf c fall = fallingEntry (c .records) (c .shapes) (c .cells) (c .window) (c .rules) (c .body) (c .given) (c .age) fall
 
-unfoldable pub played : Fall → List Call → Fall
+unfoldable pub played : Fall → List StepCall → Fall
 played fall [] = fall
 played fall (c ∷ cs) = played (fallingOf c fall .fall) cs
 
 -- what the step itself answers, with no record beside it
-abbrev pub stepOf : Call → StepAnswer
+abbrev pub stepOf : StepCall → StepAnswer
 stepOf c = stepEntry (c .records) (c .shapes) (c .cells) (c .window) (c .rules) (c .body) (c .given) (c .age)
 
-abbrev pub stepMove : Call → Move
+abbrev pub stepMove : StepCall → Move
 stepMove c =
     record {
       old = c .given .feet .y;
@@ -123,6 +123,6 @@ stepMove c =
     }
 
 -- the moves of the steps that are not refused
-unfoldable pub movesOf : List Call → List Move
+unfoldable pub movesOf : List StepCall → List Move
 movesOf [] = []
 movesOf (c ∷ cs) = choose (eqb (stepOf c .refusal) 0) (stepMove c ∷ movesOf cs) (movesOf cs)

@@ -42,8 +42,8 @@ abbrev pub lateWords : List ℕ → List ℕ
 lateWords file = listed (lateWord file) 7 0
 
 -- "age (low, high)"
-unfoldable pub ageIn : List ℕ → ℕ
-ageIn file = wideOf (bodyWord file agePlace) (bodyWord file (agePlace + 1))
+unfoldable pub bodyAge : List ℕ → ℕ
+bodyAge file = wideOf (bodyWord file agePlace) (bodyWord file (agePlace + 1))
 
 -- ---- a scene's tables and cells
 
@@ -66,7 +66,7 @@ contentsBehind file n =
     (windowIn file (windowPart (n .states) (n .boxes)))
     (numbersIn file)
     (lateWords file)
-    (ageIn file)
+    (bodyAge file)
 
 abbrev pub contentsIn : List ℕ → Contents
 contentsIn file = contentsBehind file (countsOf file)

@@ -222,7 +222,7 @@ module _ (look : Pos → Ask Block) (records : List ℕ) where
   unfolding current.itemCurrent
   current-finds aabb foot footState =
       either (current.beyondReach aabb) _ _ (nothing 5)
-      (by _ _ (walks Both (current.currentTurn look records foot footState) (current.reachOf aabb) (turn-finds foot footState) current.noStreams record { water = no-stream; lava = no-stream }) end)
+      (by _ _ (walks Both (current.currentTurn look records foot footState) (current.currentRange aabb) (turn-finds foot footState) current.noStreams record { water = no-stream; lava = no-stream }) end)
     where
       end : (t : Turn Streams Current) → Goes Both t → Finds Flows (resume (λ s. found (current.currentOf s)) t)
       end (next s) h = one _ (current-within s h)

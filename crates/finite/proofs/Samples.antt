@@ -52,14 +52,14 @@ unfolding L.lentRefusal C.choose EV.every W.sizesFit W.coordinateFits W.originFi
 passes = rw tables-pass
 
 abbrev dived : StepAnswer
-dived = checkedEntry P.records P.shapes S.lowCells S.low S.rules S.diver S.diving 0
+dived = checkedEntry P.records P.shapes S.lowCells S.low S.plainRules S.diver S.diving 0
 
 is-fastest : S.isFastest dived ≡ true
-unfolding S.isFastest C.choose LO.listed A.asking A.turning N.sizeOf H.floorSize H.floorInt H.cellOf M.clipAll M.clipSequence M.steppedUp M.moveOver G.spanOf G.onFrom GC.cellHolding D.line D.layer D.walk B.isRegistered B.blocksMotion B.frictionAt B.kindOf B.liquidOf B.liquidAt B.boxesAt W.isVoid W.indexOf W.columnIndexOf K.lookAt J.connectKind J.connectedState SH.connectedShape SH.shapeOf SH.cellShape CO.offerAll CO.visit PA.layerPast PA.walkPast PA.collectPast PS.reachIn PS.passesBy GR.layoutOf MA.moveAabbPast LS.isCap LS.capOf W.sizesFit Q.liquidHeld U.surfaceAt Y.shrunk Y.cellsOf Y.surfaceOf Y.wetIn Y.livingTurn Y.livingLiquid BB.modelOf BB.stageOf BB.frictionOf BB.isYes BB.yesNumber BB.flapOf BB.bodyOf BB.motionOf BL.isExtent BL.isSmall BL.measuresFit BL.casesFit BL.rulesFit BL.numbersFit BL.isPosition BL.isVelocity BL.motionFits BL.numberRefusal DR.sunk DR.flapped DR.damped DR.floated DR.restsNow DR.pulled DR.unlessStopped SA.sampleOfState SA.told SA.sampled SA.livingSample SA.livingSupport SA.supportAfter TS.tickAfter TS.afterMove TS.moveOnBy TS.tickBegins TS.senses TS.stepBodyBy SE.checkedEntry P.off P.on P.fence P.wall P.rows P.records P.shapes I.toBits I.ofBits I.ofInt I.round I.add I.sub I.mul I.div I.neg I.lt I.le I.eq I.ne
+unfolding S.isFastest C.choose LO.listed A.asking A.turning N.sizeOf H.floorSize H.floorInt H.cellOf M.clipAll M.clipSequence M.steppedUp M.moveOver G.spanOf G.onFrom GC.cellHolding D.line D.layer D.walk B.isRegistered B.blocksMotion B.frictionAt B.kindOf B.liquidOf B.liquidAt B.boxesAt W.isVoid W.indexOf W.columnIndexOf K.lookAt J.connectKind J.connectedState SH.connectedShape SH.shapeOf SH.cellShape CO.offerAll CO.visit PA.layerPast PA.walkPast PA.collectPast PS.reachIn PS.passesBy GR.layoutOf MA.moveAabbPast LS.isCap LS.capOf W.sizesFit Q.liquidHeld U.surfaceAt Y.shrunk Y.cellsOf Y.surfaceOf Y.wetIn Y.livingTurn Y.livingLiquid BB.modelOf BB.stageOf BB.frictionOf BB.isYes BB.yesNumber BB.flapOf BB.bodyOf BB.motionOf BL.isExtent BL.isSmall BL.measuresFit BL.casesFit BL.rulesFit BL.numbersFit BL.isPosition BL.isVelocity BL.motionFits BL.numberRefusal DR.sunk DR.flapped DR.damped DR.floated DR.restsNow DR.pulled DR.unlessStopped SA.sampleOfState SA.told SA.sampled SA.livingSample SA.livingSupport SA.supportAfter TS.tickAfter TS.afterMove TS.moveOnBy TS.tickBegins TS.senses TS.stepBodyBy SE.checkedEntry P.off P.on P.fence P.wall LO.appended P.records P.shapes I.toBits I.ofBits I.ofInt I.round I.add I.sub I.mul I.div I.neg I.lt I.le I.eq I.ne
 is-fastest = refl
 
 pub dives-fastest : S.isFastest S.dive ≡ true
-dives-fastest = subst (λ (a : StepAnswer). S.isFastest a ≡ true) (checked-alike P.records P.shapes S.lowCells S.low S.rules S.diver S.diving 0 passes) is-fastest
+dives-fastest = subst (λ (a : StepAnswer). S.isFastest a ≡ true) (checked-alike P.records P.shapes S.lowCells S.low S.plainRules S.diver S.diving 0 passes) is-fastest
 
 -- ---- and tables must be checked
 pub without-the-check : S.Slid

@@ -31,20 +31,20 @@ half = fin false 1 (negsuc 0)
 abbrev pub last : Aabb
 last = box (vec (limit 33554416) (limit 33554416) (limit 33554416)) (vec (twoTo 25) (twoTo 25) (twoTo 25))
 
-abbrev pub onward : Vec3
-onward = vec (twoTo 7) zero64 zero64
+abbrev pub farOnward : Vec3
+farOnward = vec (twoTo 7) zero64 zero64
 
 -- box and delta are accepted, and coordinate and way are as large as they may be
 unfoldable pub isFarthest : MoveResult → Bool
-isFarthest r = isBox last && isDelta onward && eq (r .aabb .max .x) (limit farthestMove) && eq (r .moved .x) (limit longestWay)
+isFarthest r = isBox last && isDelta farOnward && eq (r .aabb .max .x) (limit farthestMove) && eq (r .moved .x) (limit longestWay)
 
 abbrev pub gone : MoveResult
-gone = moveOver [] last onward zero64 false
+gone = moveOver [] last farOnward zero64 false
 
 -- ---- a living body that dives: gravity twice, then drag 16 and flap -16
 
-abbrev pub rules : Rules
-rules = record { friction = twoTo 0; depth = half; gravity = zero64; water = zero64; lava = zero64; air = air; cap = 0 }
+abbrev pub plainRules : Rules
+plainRules = record { friction = twoTo 0; depth = half; gravity = zero64; water = zero64; lava = zero64; air = air; cap = 0 }
 
 abbrev pub diver : BodyNumbers
 diver =
@@ -78,7 +78,7 @@ unfoldable pub isFastest : StepAnswer → Bool
 isFastest a = eqb (a .refusal) 0 && eq (a .motion .velocity .y) (neg (limit fastestStep))
 
 abbrev pub dive : StepAnswer
-dive = stepEntry records shapes lowCells low rules diver diving 0
+dive = stepEntry records shapes lowCells low plainRules diver diving 0
 
 -- ---- a body that falls by a half onto a cube of this friction, by its f32 bits, and slides on it
 
@@ -103,8 +103,8 @@ slider =
       friction = 1;
     }
 
-abbrev pub sliding : MotionNumbers
-sliding = record { feet = vec half (twoTo 0) half; velocity = vec (fin false 1 (negsuc 2)) zero64 zero64; ground = 0 }
+abbrev pub slidingMotion : MotionNumbers
+slidingMotion = record { feet = vec half (twoTo 0) half; velocity = vec (fin false 1 (negsuc 2)) zero64 zero64; ground = 0 }
 
 -- a cube, and two cells above it
 abbrev pub column : Window
@@ -114,7 +114,7 @@ abbrev pub columnCells : List ℕ
 columnCells = fullCube ∷ air ∷ air ∷ 1 ∷ []
 
 abbrev pub slide : ℕ → StepAnswer
-slide friction = checkedEntry (floor friction) shapes columnCells column rules slider sliding 0
+slide friction = checkedEntry (floor friction) shapes columnCells column plainRules slider slidingMotion 0
 
 pub record Slides (friction : ℕ) (speed : Float) : Type 0 where
   pub accepted : slide friction .refusal ≡ 0

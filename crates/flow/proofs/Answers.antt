@@ -2,25 +2,17 @@
 use mathlib.Core.Path.{_≡_}
 use Rattle.flow.specs.declared.AskedLiquid.{AskedLiquid}
 use Rattle.flow.specs.declared.AskedLiquid.the-variants as liquids
-use Rattle.flow.specs.declared.AskedBool.{AskedBool}
-use Rattle.flow.specs.declared.AskedBool.the-variants as bools
 use Rattle.flow.specs.declared.AskedGap.{AskedGap}
 use Rattle.flow.specs.declared.AskedGap.the-variants as gaps
 use Rattle.flow.specs.declared.AskedVec.{AskedVec}
 use Rattle.flow.specs.declared.AskedVec.the-variants as vecs
-use Rattle.flow.specs.Answers.{liquidAsked, boolAsked, gapAsked, vecAsked}
+use Rattle.flow.specs.Answers.{liquidAsked, gapAsked, vecAsked}
 
 pub one-liquid : (a b : AskedLiquid) → liquidAsked a ≡ liquidAsked b → a ≡ b
 one-liquid (liquids.Is s) (liquids.Is t) e = cc
 one-liquid (liquids.Is s) (liquids.Refused n) e = cc
 one-liquid (liquids.Refused m) (liquids.Is t) e = cc
 one-liquid (liquids.Refused m) (liquids.Refused n) e = cc
-
-pub one-bool : (a b : AskedBool) → boolAsked a ≡ boolAsked b → a ≡ b
-one-bool (bools.Is s) (bools.Is t) e = cc
-one-bool (bools.Is s) (bools.Refused n) e = cc
-one-bool (bools.Refused m) (bools.Is t) e = cc
-one-bool (bools.Refused m) (bools.Refused n) e = cc
 
 pub one-gap : (a b : AskedGap) → gapAsked a ≡ gapAsked b → a ≡ b
 one-gap (gaps.Is s) (gaps.Is t) e = cc

@@ -1,13 +1,10 @@
 -- What the program's answers say.
-use mathlib.Core.Bool.{Bool}
 use Rattle.base.specs.Ask.{Ask, refused, found}
 use Rattle.boxes.specs.declared.Vec3.{Vec3}
 use Rattle.tables.specs.declared.LiquidState.{LiquidState}
 use Rattle.flow_sides.specs.declared.Gap.{Gap}
 use Rattle.flow.specs.declared.AskedLiquid.{AskedLiquid}
 use Rattle.flow.specs.declared.AskedLiquid.the-variants as liquids
-use Rattle.flow.specs.declared.AskedBool.{AskedBool}
-use Rattle.flow.specs.declared.AskedBool.the-variants as bools
 use Rattle.flow.specs.declared.AskedGap.{AskedGap}
 use Rattle.flow.specs.declared.AskedGap.the-variants as gaps
 use Rattle.flow.specs.declared.AskedVec.{AskedVec}
@@ -16,10 +13,6 @@ use Rattle.flow.specs.declared.AskedVec.the-variants as vecs
 abbrev pub liquidAsked : AskedLiquid → Ask LiquidState
 liquidAsked (liquids.Is state) = found state
 liquidAsked (liquids.Refused n) = refused n
-
-abbrev pub boolAsked : AskedBool → Ask Bool
-boolAsked (bools.Is b) = found b
-boolAsked (bools.Refused n) = refused n
 
 abbrev pub gapAsked : AskedGap → Ask Gap
 gapAsked (gaps.Is gap) = found gap

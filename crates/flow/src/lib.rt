@@ -1,6 +1,7 @@
 // Module 7, below: what liquid a cell holds, whether it stops a flow, and how a liquid flows by what is around it (sides.rt).
 mod sides;
 
+use base::AskedBool;
 use flow_sides::Gap;
 pub use sides::liquid_flow;
 use tables::LiquidKind;
@@ -10,19 +11,14 @@ use window::Pos;
 use window::CellStep;
 use window::Window;
 ghost use mathlib.Core.Path.{_≡_};
+ghost use Rattle.base.specs.Answers.{boolAsked};
 ghost use Rattle.window.specs.Look.{lookAt, asked, stepped};
 ghost use Rattle.flow.specs.Liquid.{isWater, isLava, isLiquid, alike, noLiquid, liquidTold, liquidHeld, blocksLiquidFlow};
-ghost use Rattle.flow.specs.Answers.{liquidAsked, boolAsked};
+ghost use Rattle.flow.specs.Answers.{liquidAsked};
 
 // The liquid of a cell, or the number of a refusal. Its kind is None where there is none.
 pub enum AskedLiquid {
     Is(LiquidState),
-    Refused(u32),
-}
-
-// What a cell tells, or the number of a refusal.
-pub enum AskedBool {
-    Is(bool),
     Refused(u32),
 }
 

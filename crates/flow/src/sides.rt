@@ -1,5 +1,5 @@
 // How a liquid flows, by what is around it.
-use crate::AskedBool;
+use base::AskedBool;
 use crate::AskedGap;
 use crate::AskedLiquid;
 use crate::AskedVec;
@@ -23,9 +23,10 @@ use tables::LiquidState;
 use window::Pos;
 use window::Window;
 ghost use mathlib.Core.Path.{_≡_};
+ghost use Rattle.base.specs.Answers.{boolAsked};
 ghost use Rattle.window.specs.Look.{lookAt};
 ghost use Rattle.flow.specs.Flow.{difference, walledBy, liquidFlow};
-ghost use Rattle.flow.specs.Answers.{gapAsked, boolAsked, vecAsked};
+ghost use Rattle.flow.specs.Answers.{gapAsked, vecAsked};
 
 // By how much the liquid on a side is deeper.
 fn difference_at(

@@ -10,6 +10,7 @@ use lib.Dec.{T, eqb, eqb→eq, T-not, not-T}
 use lib.Ieee.{Float, lt}
 use lib.Ieee.Fits.{and-i, and-l, and-r, eq→eqb}
 use Rattle.base.specs.Choose.{choose}
+use Rattle.base.specs.Loop.{appended}
 use Rattle.base.specs.Ask.{Ask, refused, found, _>>=_}
 use Rattle.base.specs.Every.{every}
 use Rattle.base.proofs.Every.{every-at, every-from}
@@ -33,7 +34,7 @@ use Rattle.ranges.specs.declared.Range.{Range}
 use Rattle.ranges.specs.Ranges.{placeAt}
 use Rattle.sweeps.specs.Lists.{isCap, capOf}
 use Rattle.collection.specs.Collect.{rangeOf, collectBlockBoxes, sweptArea}
-use Rattle.collection.specs.Settled.{settledBoxes, overlapping, appended, inOrder}
+use Rattle.collection.specs.Settled.{settledBoxes, overlapping, inOrder}
 use Rattle.moves.specs.Answers.{moveAabb, moveAnswer, moveEntry}
 use Rattle.collection.proofs.Order.{keptOf, collected-is, is-collected}
 use Rattle.collection.proofs.Refuses.{FiveOrSix, collect-refuses}

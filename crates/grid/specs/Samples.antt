@@ -16,16 +16,16 @@ abbrev pub rowThenAir : ℕ → ℕ → ℕ → ℕ → List ℕ → List ℕ
 rowThenAir a b c d rest = a ∷ b ∷ c ∷ d ∷ air ∷ air ∷ air ∷ air ∷ rest
 
 -- the words of the columns: all loaded, but perhaps that at x = 2, z = 0
-abbrev pub columnsBut : ℕ → List ℕ
-columnsBut third = 1 ∷ 1 ∷ third ∷ 1 ∷ 1 ∷ 1 ∷ 1 ∷ 1 ∷ []
+abbrev pub columnsButThird : ℕ → List ℕ
+columnsButThird third = 1 ∷ 1 ∷ third ∷ 1 ∷ 1 ∷ 1 ∷ 1 ∷ 1 ∷ []
 
 unfoldable pub slidingCells : List ℕ
 slidingCells =
-    rowThenAir air air air air (rowThenAir air air air air (rowThenAir air air fullCube air (rowThenAir air air air air (columnsBut 1))))
+    rowThenAir air air air air (rowThenAir air air air air (rowThenAir air air fullCube air (rowThenAir air air air air (columnsButThird 1))))
 
 unfoldable pub climbingCells : List ℕ
 climbingCells =
-    rowThenAir air air air air (rowThenAir fullCube fullCube fullCube fullCube (rowThenAir air air slab slab (rowThenAir air air air air (columnsBut 1))))
+    rowThenAir air air air air (rowThenAir fullCube fullCube fullCube fullCube (rowThenAir air air slab slab (rowThenAir air air air air (columnsButThird 1))))
 
 -- P1 above the world, whose one layer of cubes is y = -8: the box in its way is of a column that is not loaded
 unfoldable pub skyWindow : Window
@@ -33,4 +33,4 @@ skyWindow =
     record { origin = record { x = pos 0; y = negsuc 7; z = pos 0 }; sizes = record { x = 4; y = 1; z = 2 }; lowest = negsuc 7; highest = negsuc 7; air = air }
 
 unfoldable pub skyCells : List ℕ
-skyCells = rowThenAir fullCube fullCube fullCube fullCube (columnsBut 0)
+skyCells = rowThenAir fullCube fullCube fullCube fullCube (columnsButThird 0)

@@ -24,7 +24,7 @@ use Rattle.window.specs.Look.{lookAt}
 use Rattle.window.proofs.Cells.{Inside, is-inside, Near, is-near, index-below, index-unique}
 use Rattle.group_words.specs.declared.Group.{Group}
 use Rattle.groups.specs.Groups.{groupsOn, groupCount, groupIndex, groupAt, groupOf, cut, cellAt, isEmpty, isEmptyLine, isEmptyLayer, isEmptyGroup, groupWord}
-use Rattle.groups.specs.Summary.{summaryOf, wordsBefore, hasSummary, built, isInside, mended, setIn, afterSet, CellSet, afterSets}
+use Rattle.groups.specs.Summary.{summaryOf, wordsBefore, hasSummary, built, isInside, mended, setIn, afterSet, PlacedSet, afterSets}
 use Rattle.groups.proofs.Same.{Alike, itself, behind, look-same, word-alike}
 
 -- ---- words of what was stored
@@ -249,11 +249,11 @@ one-set records words w p state k = go (isInside w p) refl
         }
     go false e = rw (k .there, e) k
 
-pub many-sets : (records words : List ℕ) (w : Window) (sets : List CellSet) → Kept records words w → Kept records (afterSets records words w sets) w
+pub many-sets : (records words : List ℕ) (w : Window) (sets : List PlacedSet) → Kept records words w → Kept records (afterSets records words w sets) w
 unfolding afterSets
 many-sets records words w [] k = k
 many-sets records words w (q ∷ qs) k = many-sets records (afterSet records words w (q .at) (q .state)) w qs (one-set records words w (q .at) (q .state) k)
 
 -- from a built summary on
-pub after-sets : (records words : List ℕ) (w : Window) (sets : List CellSet) → hasSummary words w ≡ true → Fresh records (afterSets records (built records words w) w sets) w
+pub after-sets : (records words : List ℕ) (w : Window) (sets : List PlacedSet) → hasSummary words w ≡ true → Fresh records (afterSets records (built records words w) w sets) w
 after-sets records words w sets t = many-sets records (built records words w) w sets record { there = built-there records words w t; fresh = built-fresh records words w t } .fresh

@@ -67,10 +67,10 @@ unfoldable pub afterSet : List ℕ → List ℕ → Window → Pos → ℕ → L
 afterSet records words w p state = choose (hasSummary words w) (choose (isInside w p) (setIn records words w p state) words) words
 
 -- any run of sets, one after the other
-pub record CellSet : Type 0 where
+pub record PlacedSet : Type 0 where
   pub at : Pos
   pub state : ℕ
 
-unfoldable pub afterSets : List ℕ → List ℕ → Window → List CellSet → List ℕ
+unfoldable pub afterSets : List ℕ → List ℕ → Window → List PlacedSet → List ℕ
 afterSets records words w [] = words
 afterSets records words w (q ∷ qs) = afterSets records (afterSet records words w (q .at) (q .state)) w qs

@@ -6,20 +6,20 @@ use native.Mathlib.Omega.{arith}
 use lib.ListN.{length, take, drop, length-append, length-drop}
 use lib.Ieee.{Float}
 use lib.Seq.{length-take-le, take-at, drop-at, drop-drop}
-use Rattle.halves.specs.Halves.{Who, first, second, halfLength, placeOf, halfOf, nobodys}
+use Rattle.halves.specs.Halves.{Who, first, second, halfLength, halfPlace, halfOf, nobodys}
 
 pub two-halves : (out : List Float) → halfLength out + halfLength out ≤ length out
 two-halves out = omega arith
 
-place-fits : (who : Who) (out : List Float) → placeOf who out + halfLength out ≤ length out
+place-fits : (who : Who) (out : List Float) → halfPlace who out + halfLength out ≤ length out
 place-fits first out = let fits = two-halves out in omega (arith, fits)
 place-fits second out = let fits = two-halves out in omega (arith, fits)
 
 pub half-length : (who : Who) (out : List Float) → length (halfOf who out) ≡ halfLength out
 half-length who out =
-    let n = length-drop (placeOf who out) out in
+    let n = length-drop (halfPlace who out) out in
     let fits = place-fits who out in
-    length-take-le (halfLength out) (drop (placeOf who out) out) (omega (arith, n, fits))
+    length-take-le (halfLength out) (drop (halfPlace who out) out) (omega (arith, n, fits))
 
 -- two halves and what is nobody's, put together, are a buffer of that length, whose halves they are
 module _ (out x y : List Float) (nx : length x ≡ halfLength out) (ny : length y ≡ halfLength out) where

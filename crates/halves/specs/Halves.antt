@@ -14,12 +14,12 @@ pub data Who : Type 0 where
 abbrev pub halfLength : List Float → ℕ
 halfLength out = length out / 2
 
-abbrev pub placeOf : Who → List Float → ℕ
-placeOf first out = 0
-placeOf second out = halfLength out
+abbrev pub halfPlace : Who → List Float → ℕ
+halfPlace first out = 0
+halfPlace second out = halfLength out
 
 abbrev pub halfOf : Who → List Float → List Float
-halfOf who out = take (halfLength out) (drop (placeOf who out) out)
+halfOf who out = take (halfLength out) (drop (halfPlace who out) out)
 
 -- a last odd place is nobody's
 abbrev pub nobodys : List Float → List Float

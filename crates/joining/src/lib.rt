@@ -24,7 +24,7 @@ fn along_x(side: Side) -> bool
     }
 }
 
-pub fn connects_as(records: &[u32], state: u32) -> u32
+pub fn connect_kind(records: &[u32], state: u32) -> u32
     ensures { λ r. ⌜ r ≡ connectKind (now (records .entry)) state ⌝ }
 {
     if tables::is_registered(records, state) {

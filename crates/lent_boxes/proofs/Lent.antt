@@ -4,7 +4,7 @@ use mathlib.Core.Bool.{Bool, true, false}
 use mathlib.Core.List.{List, [], _∷_}
 use Prim.Native.Nat.{ℕ, suc, _+_, _-_, _≤_, _<_}
 use native.Mathlib.Omega.{arith}
-use lib.ListN.{length, getD, List·getD-eq-default}
+use lib.ListN.{length, getD}
 use lib.Ieee.{Float}
 use Rattle.base.specs.Loop.{listed}
 use Rattle.floats.specs.Numbers.{zero64}
@@ -13,7 +13,6 @@ use Rattle.boxes.specs.Boxes.{vec, box}
 use Rattle.boxes.specs.Limits.{isBox, areBoxes}
 use Rattle.sweeps.specs.Move.{clipAll}
 use Rattle.tables.proofs.Lists.{getD-any}
-use Rattle.bodies.specs.Numbers.{numberAt}
 use Rattle.movers.specs.Movers.{aabbAt}
 use Rattle.lent_boxes.specs.Boxes.{boxesIn, lentCount, atMost, firstBoxes}
 
@@ -34,25 +33,6 @@ whole-box l i d h =
     let k4 : i + 3 + 1 ≡ i + 4 = omega arith in
     let k5 : i + 3 + 2 ≡ i + 5 = omega arith in
     rw (k4, k5, n0, n1, n2, n3, n4, n5)
-
--- one that is read number by number
-pub six-read : (l : List Float) (i : ℕ) (a b c d e f : Float) → a ≡ numberAt l i → b ≡ numberAt l (i + 1) → c ≡ numberAt l (i + 2) → d ≡ numberAt l (i + 3) → e ≡ numberAt l (i + 4) → f ≡ numberAt l (i + 5)
-    → box (vec a b c) (vec d e f) ≡ aabbAt l i
-six-read l i a b c d e f ea eb ec ed ee ef =
-    let k4 : i + 3 + 1 ≡ i + 4 = omega arith in
-    let k5 : i + 3 + 2 ≡ i + 5 = omega arith in
-    rw (k4, k5, ea, eb, ec, ed, ee, ef)
-
--- and one of which no number is there
-pub no-number : (l : List Float) (i : ℕ) → length l ≤ i → box (vec zero64 zero64 zero64) (vec zero64 zero64 zero64) ≡ aabbAt l i
-no-number l i h =
-    let n0 = List·getD-eq-default l zero64 {n = i} (omega arith) in
-    let n1 = List·getD-eq-default l zero64 {n = i + 1} (omega arith) in
-    let n2 = List·getD-eq-default l zero64 {n = i + 2} (omega arith) in
-    let n3 = List·getD-eq-default l zero64 {n = i + 3} (omega arith) in
-    let n4 = List·getD-eq-default l zero64 {n = i + 3 + 1} (omega arith) in
-    let n5 = List·getD-eq-default l zero64 {n = i + 3 + 2} (omega arith) in
-    rw (n0, n1, n2, n3, n4, n5)
 
 module _ (g : ℕ → Aabb) (n i : ℕ) where
   one-more : i < n → listed g (n - i) i ≡ g i ∷ listed g (n - (i + 1)) (i + 1)

@@ -1,13 +1,15 @@
 // Boxes in lent numbers, six to a box: they are read where they lie; and what is refused of a move over them.
-use bodies::number_at;
 use boxes::Aabb;
 use boxes::Vec3;
 use movers::mover_refusal;
 ghost use mathlib.Core.Path.{_≡_};
-ghost use Prim.Native.Nat.{_-_, _/_, min};
+ghost use Prim.Native.Nat.{_+_, _/_, _<_, min};
+ghost use lib.ListN.{length};
 ghost use Rattle.boxes.specs.Limits.{areBoxes};
+ghost use Rattle.sweeps.specs.Move.{clipAll};
+ghost use Rattle.sweeps.specs.Passes.{clipAlong};
 ghost use Rattle.movers.specs.Movers.{aabbAt};
-ghost use Rattle.lent_boxes.specs.Boxes.{boxesOf, putIn, lentFit};
+ghost use Rattle.lent_boxes.specs.Boxes.{boxesOf, firstBoxes, putIn, lentFit};
 ghost use Rattle.lent_boxes.specs.Refusals.{listRefusal};
 
 // How many boxes of n so many numbers hold.
@@ -18,54 +20,39 @@ pub fn at_most(n: usize, places: usize) -> usize
     if n < whole { n } else { whole }
 }
 
-// At how many places a box may begin among so many numbers, with all six of its own there.
-fn starts(places: usize) -> usize
-    ensures { λ r. ⌜ r ≡ places - 5 ⌝ }
-{
-    if places < 5 {
-        return 0;
-    }
-    places - 5
-}
-
-// The box whose six numbers begin at a place and are not all there: each that is not is +0.
-fn cut_box(numbers: &[f64], at: usize) -> Aabb
+// The box whose six numbers begin at a place; they are there, so that reading them takes no test.
+fn aabb_at(numbers: &[f64], at: usize) -> Aabb
+    requires { ⌜ at + 5 < length (now numbers) ⌝ }
     ensures { λ r. ⌜ r ≡ aabbAt (now (numbers .entry)) at ⌝ }
 {
-    if at < numbers.len() {
-        let x0 = number_at(numbers, at);
-        let y0 = number_at(numbers, at + 1);
-        let z0 = number_at(numbers, at + 2);
-        let x1 = number_at(numbers, at + 3);
-        let y1 = number_at(numbers, at + 4);
-        let z1 = number_at(numbers, at + 5);
-        let min = Vec3 { x: x0, y: y0, z: z0 };
-        let max = Vec3 { x: x1, y: y1, z: z1 };
-        return Aabb { min, max };
+    Aabb {
+        min: Vec3 {
+            x: numbers[at],
+            y: numbers[at + 1],
+            z: numbers[at + 2],
+        },
+        max: Vec3 {
+            x: numbers[at + 3],
+            y: numbers[at + 4],
+            z: numbers[at + 5],
+        },
     }
-    let zero = Vec3 { x: 0.0, y: 0.0, z: 0.0 };
-    Aabb { min: zero, max: zero }
 }
 
-// The box whose six numbers begin at a place. One test says that all of them are there.
-pub fn box_at(numbers: &[f64], at: usize) -> Aabb
-    ensures { λ r. ⌜ r ≡ aabbAt (now (numbers .entry)) at ⌝ }
+// How far one pass of a move gets along an axis, before the first n boxes or before as many as there are. They are read where they lie: a list of
+// them would be made at each call, and copied where it is handed on.
+pub fn clip_all(numbers: &[f64], n: usize, axis: u32, mover: Aabb, way: f64) -> f64
+    ensures { λ r. ⌜ r ≡ clipAll (clipAlong axis) (firstBoxes n (now (numbers .entry))) mover way ⌝ }
 {
-    if at < starts(numbers.len()) {
-        return Aabb {
-            min: Vec3 {
-                x: numbers[at],
-                y: numbers[at + 1],
-                z: numbers[at + 2],
-            },
-            max: Vec3 {
-                x: numbers[at + 3],
-                y: numbers[at + 4],
-                z: numbers[at + 5],
-            },
-        };
+    let count = at_most(n, numbers.len());
+    let mut d = way;
+    let mut k = 0usize;
+    while k < count {
+        let b = aabb_at(numbers, k * 6);
+        d = sweeps::clip_along(axis, b, mover, d);
+        k += 1;
     }
-    cut_box(numbers, at)
+    d
 }
 
 // A box among the numbers, as the box with this number; one for which there is no room is not put.
@@ -90,7 +77,7 @@ fn are_boxes(numbers: &[f64]) -> bool
     let n = numbers.len() / 6;
     let mut i = 0usize;
     while i < n {
-        let b = box_at(numbers, i * 6);
+        let b = aabb_at(numbers, i * 6);
         if boxes::is_box(b) {
             i += 1;
         } else {

@@ -12,7 +12,7 @@ use Rattle.base.proofs.Every.{both}
 use Rattle.bodies.specs.Limits.{numberRefusal}
 use Rattle.bodies.specs.Numbers.{lengthsFit}
 use Rattle.lent.specs.Lent.{sound}
-use Rattle.summary.specs.Calls.{plain, summed}
+use Rattle.summary.specs.Calls.{plainWords, summed}
 use Rattle.window.specs.Numbers.{withAir}
 use Rattle.step_answers.specs.declared.Tick.{Tick}
 use Rattle.window.specs.declared.Window.{Window}
@@ -38,7 +38,7 @@ module _ (records : List ℕ) (shapes : List Float) (cells : List ℕ) (w : Wind
     summed-whole =
         let b = both (lengthsFit numbers words) (leb stepPlaces places) whole in
         let n = numberRefusal records (rulesAt numbers words) (bodyAt numbers words) (motionAt numbers words) in
-        rw (b .one, b .two) (ap (λ (ask : Ask Tick). stepAnswer (motionAt numbers words) (sound records shapes (plain cells w) w ask)) (again (not (eqb n 0)) n (summed records cells (withAir w (rulesAt numbers words .air))) (tickAt records shapes (plain cells w) w numbers words age)))
+        rw (b .one, b .two) (ap (λ (ask : Ask Tick). stepAnswer (motionAt numbers words) (sound records shapes (plainWords cells w) w ask)) (again (not (eqb n 0)) n (summed records cells (withAir w (rulesAt numbers words .air))) (tickAt records shapes (plainWords cells w) w numbers words age)))
 
   module _ (lent : ℕ) (asked : Ask Tick) where
     abbrev short : StepAnswer

@@ -14,7 +14,7 @@ use Rattle.bodies.specs.Limits.{numberRefusal}
 use Rattle.bodies.specs.Numbers.{lengthsFit}
 use Rattle.window.specs.declared.Window.{Window}
 use Rattle.lent.specs.Lent.{unless, sound}
-use Rattle.summary.specs.Calls.{plain, summed}
+use Rattle.summary.specs.Calls.{plainWords, summed}
 use Rattle.window.specs.Numbers.{withAir}
 use Rattle.step_answers.specs.declared.Tick.{Tick}
 use Rattle.step.specs.Answers.{stepAnswer}
@@ -60,10 +60,10 @@ module _ (records : List ℕ) (numbers : List Float) (words : List ℕ) (fall : 
     unfolding fallingSummedAt fallingSummed fallingBy fallingRefusal bodyRefusal choose
     summed-whole =
         let b = both (lengthsFit numbers words) (leb fallingPlaces places) whole in
-        let tick = tickAt records shapes (plain cells w) w numbers words age in
+        let tick = tickAt records shapes (plainWords cells w) w numbers words age in
         let once = again (not (eqb unfit 0)) unfit (summed records cells (withAir w (rulesAt numbers words .air))) tick in
         rw (b .one, b .two)
-        (ap (λ (ask : Ask Tick). told (sound records shapes (plain cells w) w ask))
+        (ap (λ (ask : Ask Tick). told (sound records shapes (plainWords cells w) w ask))
         (ap (λ (ask : Ask Tick). unless (not (fallFits fall)) 3 ask) once ∙ threes (fallFits fall) unfit (summedTick records shapes cells w numbers words age)))
 
   lengths : lengthsFit numbers words ≡ false → eqb early 0 ≡ false

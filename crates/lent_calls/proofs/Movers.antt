@@ -17,7 +17,7 @@ use Rattle.lent.specs.Lent.{directRefusal, direct, unless}
 use Rattle.movers.specs.Movers.{vecAt, aabbAt, moverFits, moverRefusal, wholeMove}
 use Rattle.lent_numbers.specs.Written.{writtenBy}
 use Rattle.window.specs.declared.Window.{Window}
-use Rattle.summary.specs.Calls.{plain, summed}
+use Rattle.summary.specs.Calls.{plainWords, summed}
 use Rattle.moves.specs.Answers.{moveAnswer, moveEntry, moveSummed}
 use Rattle.lent_room.specs.Room.{shortOf}
 use Rattle.lent_calls.specs.Moves.{movedBy, movingAt, moveAt, moveSummedAt}
@@ -56,7 +56,7 @@ module _ (cap : ℕ) (mover : List Float) (step : Float) (ground : ℕ) where
 
     pub summed-whole : moveSummed cap records shapes cells w (aabbAt mover 0) (vecAt mover 6) step (eqb ground 1) ≡ moveSummedAt cap records shapes cells w mover step ground places
     unfolding moveSummedAt moveSummed entry
-    summed-whole = entry-whole records shapes (plain cells w) w (summed records cells w (movingAt cap records shapes (plain cells w) w mover step ground)) places whole
+    summed-whole = entry-whole records shapes (plainWords cells w) w (summed records cells w (movingAt cap records shapes (plainWords cells w) w mover step ground)) places whole
 
   three : ltb ground 2 ≡ false → eqb early 0 ≡ false
   unfolding moverRefusal choose

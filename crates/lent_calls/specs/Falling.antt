@@ -7,7 +7,7 @@ use Rattle.base.specs.Choose.{choose}
 use Rattle.window.specs.declared.Window.{Window}
 use Rattle.lent.specs.Lent.{lentRefusal}
 use Rattle.base.specs.Ask.{Ask}
-use Rattle.summary.specs.Calls.{plain}
+use Rattle.summary.specs.Calls.{plainWords}
 use Rattle.step_answers.specs.declared.Tick.{Tick}
 use Rattle.step.specs.Answers.{stepAnswer}
 use Rattle.fall_rule.specs.declared.Fall.{Fall}
@@ -35,4 +35,4 @@ fallingAt records shapes cells w numbers words age fall places =
 -- over a summary behind the window's words
 unfoldable pub fallingSummedAt : List ℕ → List Float → List ℕ → Window → List Float → List ℕ → ℕ → Fall → ℕ → FallingAnswer
 fallingSummedAt records shapes cells w numbers words age fall places =
-    fallingBy (lentRefusal records shapes (plain cells w) w) (summedTick records shapes cells w numbers words age) records numbers words fall places
+    fallingBy (lentRefusal records shapes (plainWords cells w) w) (summedTick records shapes cells w numbers words age) records numbers words fall places

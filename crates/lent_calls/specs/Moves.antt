@@ -10,7 +10,7 @@ use Rattle.base.specs.Ask.{Ask}
 use Rattle.sweeps.specs.declared.MoveResult.{MoveResult}
 use Rattle.sweeps.specs.Lists.{capOf}
 use Rattle.lent.specs.Lent.{directRefusal}
-use Rattle.summary.specs.Calls.{plain, summed}
+use Rattle.summary.specs.Calls.{plainWords, summed}
 use Rattle.movers.specs.Movers.{vecAt, aabbAt, moverRefusal}
 use Rattle.window.specs.declared.Window.{Window}
 use Rattle.window.specs.Look.{lookAt}
@@ -33,4 +33,4 @@ moveAt cap records shapes cells w mover step ground places =
 -- over a summary behind the window's words: its 11 and 13 come behind the 11 of the room, and then the move over cells and columns
 unfoldable pub moveSummedAt : ℕ → List ℕ → List Float → List ℕ → Window → List Float → Float → ℕ → ℕ → MoveAnswer
 moveSummedAt cap records shapes cells w mover step ground places =
-    movedBy cap (directRefusal records shapes (plain cells w) w) (summed records cells w (movingAt cap records shapes (plain cells w) w mover step ground)) mover step ground places
+    movedBy cap (directRefusal records shapes (plainWords cells w) w) (summed records cells w (movingAt cap records shapes (plainWords cells w) w mover step ground)) mover step ground places

@@ -9,7 +9,7 @@ use Rattle.bodies.specs.Body.{bodyOf, motionOf}
 pub use Rattle.bodies.specs.Lent.{motionAt, bodyAt, rulesAt}
 unfoldable pub use Rattle.bodies.specs.Lent.{bodyRefusal}
 use Rattle.lent.specs.Lent.{lentRefusal}
-use Rattle.summary.specs.Calls.{plain, summed}
+use Rattle.summary.specs.Calls.{plainWords, summed}
 use Rattle.window.specs.declared.Window.{Window}
 use Rattle.window.specs.Look.{lookAt}
 use Rattle.window.specs.Numbers.{withAir}
@@ -46,8 +46,8 @@ checkedAt records shapes cells w numbers words age places = steppedBy 0 (pastAt 
 -- over a summary behind the window's words: its 11 and 13 come behind the 11 of the room, and then the step over cells and columns
 abbrev pub summedTick : List ℕ → List Float → List ℕ → Window → List Float → List ℕ → ℕ → Ask Tick
 summedTick records shapes cells w numbers words age =
-    summed records cells (withAir w (rulesAt numbers words .air)) (tickAt records shapes (plain cells w) w numbers words age)
+    summed records cells (withAir w (rulesAt numbers words .air)) (tickAt records shapes (plainWords cells w) w numbers words age)
 
 unfoldable pub summedAt : List ℕ → List Float → List ℕ → Window → List Float → List ℕ → ℕ → ℕ → StepAnswer
 summedAt records shapes cells w numbers words age places =
-    steppedBy (lentRefusal records shapes (plain cells w) w) (summedTick records shapes cells w numbers words age) records numbers words places
+    steppedBy (lentRefusal records shapes (plainWords cells w) w) (summedTick records shapes cells w numbers words age) records numbers words places

@@ -1,7 +1,5 @@
 // The move over boxes in lent numbers.
-use boxes::Aabb;
-use boxes::Vec3;
-use lent_boxes::at_most;
+use lent_boxes::clip_all;
 use lent_boxes::list_refusal;
 use lent_numbers::put_result;
 use movers::request_of;
@@ -14,39 +12,20 @@ ghost use Rattle.lent_numbers.specs.Written.{writtenBy};
 ghost use Rattle.lent_boxes.specs.Boxes.{firstBoxes};
 ghost use Rattle.lent_moves.specs.Moves.{moveListOf, moveAnyOf};
 
-// The move over the first n boxes, or over as many as there are. They are read where they lie: a list of them would be made at each call, and copied
-// where it is handed on; and behind the test of `box_at` all six numbers of a box would be read, where a clip often needs two.
+// The move over the first n boxes, or over as many as there are.
 pub fn moved_over(numbers: &[f64], n: usize, q: Request) -> MoveResult
     ensures { λ r. ⌜ r ≡ moveOver (firstBoxes n (now (numbers .entry))) (q .aabb) (q .delta) (q .step) (q .ground) ⌝ }
 {
-    let count = at_most(n, numbers.len());
     let mut s = attempts::begun(q);
     let mut pass = 0u32;
     while pass < 7 {
         let axis = sweeps::axis_of(pass);
         let now = s.now;
         let mover = now.aabb;
-        let mut d = attempts::wanted(pass, axis, q, now);
-        let mut i = 0usize;
-        while i < count {
-            let at = i * 6;
-            let b = Aabb {
-                min: Vec3 {
-                    x: numbers[at],
-                    y: numbers[at + 1],
-                    z: numbers[at + 2],
-                },
-                max: Vec3 {
-                    x: numbers[at + 3],
-                    y: numbers[at + 4],
-                    z: numbers[at + 5],
-                },
-            };
-            d = sweeps::clip_along(axis, b, mover, d);
-            i += 1;
-        }
+        let way = attempts::wanted(pass, axis, q, now);
+        let d = clip_all(numbers, n, axis, mover, way);
         let first = s.first;
-        s = attempts::next(pass, q, first, attempts::gone(pass, axis, now, d));
+        s = attempts::next_sweep(pass, q, first, attempts::gone(pass, axis, now, d));
         if s.over {
             return sweeps::ended(q, s);
         }

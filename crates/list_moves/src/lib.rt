@@ -38,7 +38,7 @@ pub fn swept_over(list: BoxList, q: Request) -> Sweep
             i += 1;
         }
         let first = s.first;
-        s = attempts::next(pass, q, first, attempts::gone(pass, axis, now, d));
+        s = attempts::next_sweep(pass, q, first, attempts::gone(pass, axis, now, d));
         if s.over {
             return s;
         }

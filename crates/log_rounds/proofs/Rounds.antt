@@ -24,10 +24,10 @@ use Rattle.part_writer.proofs.Parts.{Holds, part-length, holds-last, holds-fits
 use Rattle.writer.specs.Written.{writtenScene, sceneAnswer}
 use Rattle.rounds.specs.Rounds.{fileOf}
 use Rattle.rounds.proofs.Written.{written-then-read}
-use Rattle.logs.specs.Logs.{isTick, isSet, eventFits, eventAt, endFrom, endFits, restZero, eventsFit, sceneIn, blocksIn, logWord, logOf, logFits, wholeLog, isLog, eventsBy, eventsOf}
-use Rattle.log_writer.specs.Written.{lentCount, lentFit, lentEvents, sceneThere, sceneBlocks, logBlocks, allBlocks, partOf, logBytes, logRefusal, writtenLog, logAnswer}
+use Rattle.logs.specs.Logs.{isTick, isSet, eventFits, eventAt, endFrom, endFits, restOfLogZero, eventsFit, sceneIn, blocksIn, logWord, logOf, logFits, wholeLog, isLog, eventsBy, eventsOf}
+use Rattle.log_writer.specs.Written.{lentEventCount, lentEventsFit, lentEvents, sceneThere, sceneBlocksIn, logBlocks, allBlocks, partOf, logBytes, logRefusal, writtenLog, logAnswer}
 use Rattle.log_writer.proofs.Puts.{log-blocks, Passes, passes}
-use Rattle.log_rounds.specs.Rounds.{logFile, ReadsBack, Words, LoggedThenRead, MinuteThenRead}
+use Rattle.log_rounds.specs.Rounds.{logFile, LogReadsBack, Words, LoggedThenRead, MinuteThenRead}
 use Rattle.log_rounds.proofs.Scenes.{scene-first, scene-start}
 
 -- ---- the events, as they are lent
@@ -37,49 +37,49 @@ number : (word : ℕ → ℕ) (i : ℕ) → eventFits word i ≡ true → word (
 unfolding eventFits isTick isSet
 number word i h z = true≢false (sym (rw z at h))
 
-module _ (events : List ℕ) (fit : lentFit events ≡ true) where
+module _ (events : List ℕ) (fit : lentEventsFit events ≡ true) where
   record Whole : Type 0 where
-    four : length events ≡ lentCount events * 4
-    each : (i : ℕ) → i < lentCount events → eventFits (wordIn events) i ≡ true
+    four : length events ≡ lentEventCount events * 4
+    each : (i : ℕ) → i < lentEventCount events → eventFits (wordIn events) i ≡ true
 
   whole : Whole
-  unfolding lentFit
+  unfolding lentEventsFit
   whole =
-      let t = both (eqb (length events % 4) 0) (every (lentCount events) (eventFits (wordIn events))) fit in
+      let t = both (eqb (length events % 4) 0) (every (lentEventCount events) (eventFits (wordIn events))) fit in
       let r = eqb-true (length events % 4) 0 (t .one) in
-      record { four = omega arith; each = every-at (lentCount events) (eventFits (wordIn events)) (t .two) }
+      record { four = omega arith; each = every-at (lentEventCount events) (eventFits (wordIn events)) (t .two) }
 
   -- behind them, zeros
-  behind : (k : ℕ) → wordIn events (lentCount events * 4 + k) ≡ 0
+  behind : (k : ℕ) → wordIn events (lentEventCount events * 4 + k) ≡ 0
   behind k = let f = whole .four in List·getD-eq-default events 0 (omega arith)
 
-  end-from : (k i : ℕ) → i ≤ lentCount events → lentCount events < i + k → endFrom (wordIn events) k i ≡ lentCount events
+  end-from : (k i : ℕ) → i ≤ lentEventCount events → lentEventCount events < i + k → endFrom (wordIn events) k i ≡ lentEventCount events
   unfolding endFrom choose
   end-from zero i h l = absurd (none i h l)
     where
-      none : (i : ℕ) → i ≤ lentCount events → lentCount events < i + 0 → ⊥
+      none : (i : ℕ) → i ≤ lentEventCount events → lentEventCount events < i + 0 → ⊥
       none i h l = omega arith
-  end-from (suc k) i h l = go (decLt i (lentCount events)) (λ g. end-from k (i + 1) g (omega arith))
+  end-from (suc k) i h l = go (decLt i (lentEventCount events)) (λ g. end-from k (i + 1) g (omega arith))
     where
-      go : Dec (i < lentCount events) → (i + 1 ≤ lentCount events → endFrom (wordIn events) k (i + 1) ≡ lentCount events)
-          → choose (eqb (wordIn events (i * 4)) 0) i (endFrom (wordIn events) k (i + 1)) ≡ lentCount events
+      go : Dec (i < lentEventCount events) → (i + 1 ≤ lentEventCount events → endFrom (wordIn events) k (i + 1) ≡ lentEventCount events)
+          → choose (eqb (wordIn events (i * 4)) 0) i (endFrom (wordIn events) k (i + 1)) ≡ lentEventCount events
       go (yes g) again = rw (ne-eqb (wordIn events (i * 4)) 0 (number (wordIn events) i (whole .each i g))) (again (omega arith))
       go (no g) again =
-          let q : i ≡ lentCount events = omega arith in
-          let p : lentCount events * 4 + 0 ≡ lentCount events * 4 = omega arith in
-          let z : wordIn events (lentCount events * 4) ≡ 0 = rw p at (behind 0) in
-          rw (q, eq-eqb (wordIn events (lentCount events * 4)) 0 z)
+          let q : i ≡ lentEventCount events = omega arith in
+          let p : lentEventCount events * 4 + 0 ≡ lentEventCount events * 4 = omega arith in
+          let z : wordIn events (lentEventCount events * 4) ≡ 0 = rw p at (behind 0) in
+          rw (q, eq-eqb (wordIn events (lentEventCount events * 4)) 0 z)
 
-  end-is : endFrom (wordIn events) (logBlocks events * 30) 0 ≡ lentCount events
+  end-is : endFrom (wordIn events) (logBlocks events * 30) 0 ≡ lentEventCount events
   end-is = let f = whole .four in end-from (logBlocks events * 30) 0 (omega arith) (omega arith)
 
-  all-fit : eventsFit (wordIn events) (logBlocks events) (lentCount events) ≡ true
-  unfolding eventsFit endFits restZero
+  all-fit : eventsFit (wordIn events) (logBlocks events) (lentEventCount events) ≡ true
+  unfolding eventsFit endFits restOfLogZero
   all-fit =
       let f = whole .four in
-      rw (le-leb (logBlocks events * 30) (lentCount events + 30) (omega arith), lt-ltb (lentCount events) (logBlocks events * 30) (omega arith),
-      every-from (lentCount events) (eventFits (wordIn events)) (whole .each))
-      (every-from (logBlocks events * 120 - lentCount events * 4) _ (λ k h. eq-eqb _ 0 (behind k)))
+      rw (le-leb (logBlocks events * 30) (lentEventCount events + 30) (omega arith), lt-ltb (lentEventCount events) (logBlocks events * 30) (omega arith),
+      every-from (lentEventCount events) (eventFits (wordIn events)) (whole .each))
+      (every-from (logBlocks events * 120 - lentEventCount events * 4) _ (λ k h. eq-eqb _ 0 (behind k)))
 
 -- ---- the file
 
@@ -95,7 +95,7 @@ module _ (out events : List ℕ) (words : Words events) (z : logRefusal out even
   scene = sceneIn out
 
   abbrev s : ℕ
-  s = sceneBlocks out
+  s = sceneBlocksIn out
 
   abbrev b : ℕ
   b = logBlocks events
@@ -183,12 +183,12 @@ module _ (out events : List ℕ) (words : Words events) (z : logRefusal out even
   word-is : logWord file s b ≡ wordIn events
   word-is j i = word-at i j
 
-  log-is : logOf file ≡ record { scene = s; blocks = b; events = lentCount events }
+  log-is : logOf file ≡ record { scene = s; blocks = b; events = lentEventCount events }
   log-is =
       let n : allBlocks out events - s ≡ b = omega arith in
       rw (scene-is, blocks-is, n, word-is, end-is events (p .fit))
 
-  whole-log : wholeLog file record { scene = s; blocks = b; events = lentCount events } ≡ true
+  whole-log : wholeLog file record { scene = s; blocks = b; events = lentEventCount events } ≡ true
   unfolding wholeLog logFits
   whole-log =
       let l = file-long in
@@ -201,9 +201,9 @@ module _ (out events : List ℕ) (words : Words events) (z : logRefusal out even
 
   events-is : eventsOf file ≡ lentEvents events
   unfolding eventsBy
-  events-is = ap (eventsBy file) log-is ∙ ap (λ (word : ℕ → ℕ). listed (eventAt word) (lentCount events) 0) word-is
+  events-is = ap (eventsBy file) log-is ∙ ap (λ (word : ℕ → ℕ). listed (eventAt word) (lentEventCount events) 0) word-is
 
-  reads-back : ReadsBack out events
+  reads-back : LogReadsBack out events
   reads-back = record { log = rw file-is is-log; scene = rw file-is scene-is; same = rw file-is events-is; past = past-is }
 
 pub logged-then-read : LoggedThenRead

@@ -16,7 +16,7 @@ abbrev pub logFile : List ℕ → List ℕ → List ℕ
 logFile out events = take (logAnswer out events .bytes) (writtenLog out events)
 
 -- the file is a log: it holds the scene that the buffer began with, and the events that were lent; bytes past it keep their values
-pub record ReadsBack (out events : List ℕ) : Type 0 where
+pub record LogReadsBack (out events : List ℕ) : Type 0 where
   pub log : isLog (logFile out events) ≡ true
   pub scene : sceneIn (logFile out events) ≡ sceneIn out
   pub same : eventsOf (logFile out events) ≡ lentEvents events
@@ -28,7 +28,7 @@ Words events = (i : ℕ) → getD events i 0 < 4294967296
 
 -- whatever the buffer begins with
 abbrev pub LoggedThenRead : Type 0
-LoggedThenRead = (out events : List ℕ) → Words events → logRefusal out events ≡ 0 → ReadsBack out events
+LoggedThenRead = (out events : List ℕ) → Words events → logRefusal out events ≡ 0 → LogReadsBack out events
 
 -- "a scene, then blocks of kind 6": a scene that was written, and the log behind it, hold what was handed over
 abbrev pub MinuteThenRead : Type 0

@@ -14,7 +14,7 @@ use Rattle.part_writer.proofs.Parts.{room-there}
 use Rattle.writer.specs.Written.{roomFor}
 use Rattle.scene_room.proofs.Rooms.{room-fits}
 use Rattle.writer.proofs.Refusals.{held}
-use Rattle.log_writer.specs.Written.{lentFit, sceneThere, sceneBlocks, logBlocks, allBlocks, partOf, logRefusal, writtenLog, logAnswer}
+use Rattle.log_writer.specs.Written.{lentEventsFit, sceneThere, sceneBlocksIn, logBlocks, allBlocks, partOf, logRefusal, writtenLog, logAnswer}
 
 -- a log's part has the blocks that it is said to have
 pub log-blocks : (first blocks : ℕ) → blocksOf (logPart first blocks) ≡ blocks
@@ -29,7 +29,7 @@ module _ (out events : List ℕ) where
   -- ---- nothing is refused
   pub record Passes : Type 0 where
     pub there : sceneThere out ≡ true
-    pub fit : lentFit events ≡ true
+    pub fit : lentEventsFit events ≡ true
     pub few : allBlocks out events ≤ 128
     pub long : allBlocks out events * 512 ≤ length out
 
@@ -37,12 +37,12 @@ module _ (out events : List ℕ) where
   unfolding logRefusal
   passes z =
       let h = held _ (roomFor (allBlocks out events) (length out)) 7 z in
-      let t = both (sceneThere out) (lentFit events) (h .test) in
+      let t = both (sceneThere out) (lentEventsFit events) (h .test) in
       let f = room-fits (allBlocks out events) (length out) _ refl (h .rest) in
       record { there = t .one; fit = t .two; few = f .few; long = f .long }
 
   -- the same of what the program found: few enough for its numbers
-  pub few-of : (r scene behind : ℕ) → r ≡ logRefusal out events → r ≡ 0 → scene ≡ sceneBlocks out → behind ≡ logBlocks events → scene + behind ≤ 128
+  pub few-of : (r scene behind : ℕ) → r ≡ logRefusal out events → r ≡ 0 → scene ≡ sceneBlocksIn out → behind ≡ logBlocks events → scene + behind ≤ 128
   few-of r scene behind er z es eb = let p = passes (sym er ∙ z) .few in omega arith
 
   -- ---- what is handed back
@@ -52,13 +52,13 @@ module _ (out events : List ℕ) where
     unfolding writtenLog logAnswer choose
     log-refused h = rw (← er, ne-eqb r 0 h) (refl, refl)
 
-    pub log-put : (after : List ℕ) (scene behind : ℕ) → r ≡ 0 → scene ≡ sceneBlocks out → behind ≡ logBlocks events
+    pub log-put : (after : List ℕ) (scene behind : ℕ) → r ≡ 0 → scene ≡ sceneBlocksIn out → behind ≡ logBlocks events
         → after ≡ writtenPart out (logPart scene behind) (wordIn events)
         → (after ≡ writtenLog out events) × (record { refusal = 0; bytes = (scene + behind) * 512 } ≡ logAnswer out events)
     unfolding writtenLog logAnswer writtenPart choose
     log-put after scene behind z es eb e =
         let p = passes (sym er ∙ z) in
-        let n = log-blocks (sceneBlocks out) (logBlocks events) in
+        let n = log-blocks (sceneBlocksIn out) (logBlocks events) in
         let few = p .few in
         let long = p .long in
         let room = room-there (length out) (partOf out events) (omega arith) (omega arith) in

@@ -18,33 +18,33 @@ use Rattle.logs.specs.Logs.{eventFits, eventAt, sceneIn, blocksIn}
 
 -- ---- events as a recorder lends them: "four words" each, without the end
 
-abbrev pub lentCount : List ℕ → ℕ
-lentCount events = length events / 4
+abbrev pub lentEventCount : List ℕ → ℕ
+lentEventCount events = length events / 4
 
 -- whole events, each as the reader asks for it
-unfoldable pub lentFit : List ℕ → Bool
-lentFit events = eqb (length events % 4) 0 && every (lentCount events) (eventFits (wordIn events))
+unfoldable pub lentEventsFit : List ℕ → Bool
+lentEventsFit events = eqb (length events % 4) 0 && every (lentEventCount events) (eventFits (wordIn events))
 
 abbrev pub lentEvents : List ℕ → List Event
-lentEvents events = listed (eventAt (wordIn events)) (lentCount events) 0
+lentEvents events = listed (eventAt (wordIn events)) (lentEventCount events) 0
 
 -- ---- where the log stands: behind the scene at the buffer's start, which has the new mark
 
 unfoldable pub sceneThere : List ℕ → Bool
 sceneThere out = marked true out && isScene (sceneIn out)
 
-abbrev pub sceneBlocks : List ℕ → ℕ
-sceneBlocks out = blocksIn (sceneIn out)
+abbrev pub sceneBlocksIn : List ℕ → ℕ
+sceneBlocksIn out = blocksIn (sceneIn out)
 
 -- "30 events each", and one more: the end
 abbrev pub logBlocks : List ℕ → ℕ
 logBlocks events = length events / 120 + 1
 
 abbrev pub allBlocks : List ℕ → List ℕ → ℕ
-allBlocks out events = sceneBlocks out + logBlocks events
+allBlocks out events = sceneBlocksIn out + logBlocks events
 
 abbrev pub partOf : List ℕ → List ℕ → Part
-partOf out events = logPart (sceneBlocks out) (logBlocks events)
+partOf out events = logPart (sceneBlocksIn out) (logBlocks events)
 
 -- a word that is not lent is 0: "0 (end, once, the rest zero)"
 abbrev pub logBytes : List ℕ → List ℕ → List ℕ
@@ -53,12 +53,12 @@ logBytes out events = partBytes (partOf out events) (wordIn events)
 -- ---- 8 where there is no such scene or an event does not fit; then 12 for more than 128 blocks together, then 11 for a buffer too short
 
 unfoldable pub logRefusal : List ℕ → List ℕ → ℕ
-logRefusal out events = choose (sceneThere out && lentFit events) (roomFor (allBlocks out events) (length out)) 8
+logRefusal out events = choose (sceneThere out && lentEventsFit events) (roomFor (allBlocks out events) (length out)) 8
 
 -- ---- what is handed back: a refusal writes nothing, and bytes before and past the log keep their values
 
 unfoldable pub writtenLog : List ℕ → List ℕ → List ℕ
-writtenLog out events = choose (eqb (logRefusal out events) 0) (stored out (sceneBlocks out * 512) (logBytes out events)) out
+writtenLog out events = choose (eqb (logRefusal out events) 0) (stored out (sceneBlocksIn out * 512) (logBytes out events)) out
 
 -- how many bytes scene and log have together
 unfoldable pub logAnswer : List ℕ → List ℕ → Written

@@ -8,7 +8,7 @@ ghost use lib.ListN.{length};
 ghost use Rattle.base.specs.Every.{every};
 ghost use Rattle.part_writer.specs.Bytes.{wordIn};
 ghost use Rattle.logs.specs.Logs.{isTick, isSet, eventFits};
-ghost use Rattle.log_writer.specs.Written.{lentFit, sceneThere, sceneBlocks, logBlocks, logRefusal, writtenLog, logAnswer};
+ghost use Rattle.log_writer.specs.Written.{lentEventsFit, sceneThere, sceneBlocksIn, logBlocks, logRefusal, writtenLog, logAnswer};
 
 // Event i is a tick.
 fn is_tick(events: &[u32], i: usize) -> bool
@@ -64,8 +64,8 @@ fn all_fit(events: &[u32]) -> bool
 }
 
 // Whole events, each of which fits.
-fn lent_fit(events: &[u32]) -> bool
-    ensures { λ r. ⌜ r ≡ lentFit (now (events .entry)) ⌝ }
+fn lent_events_fit(events: &[u32]) -> bool
+    ensures { λ r. ⌜ r ≡ lentEventsFit (now (events .entry)) ⌝ }
 {
     if events.len() % 4 == 0 {
         return all_fit(events);
@@ -84,8 +84,8 @@ fn scene_there(out: &[u8]) -> bool
 }
 
 // How many blocks the scene has.
-fn scene_blocks(out: &[u8]) -> usize
-    ensures { λ r. ⌜ r ≡ sceneBlocks (now (out .entry)) ⌝ }
+fn scene_blocks_in(out: &[u8]) -> usize
+    ensures { λ r. ⌜ r ≡ sceneBlocksIn (now (out .entry)) ⌝ }
 {
     let scene = logs::scene_in(out);
     scene.len() / 512
@@ -103,8 +103,8 @@ fn log_refusal(events: &[u32], out: &[u8]) -> u32
     ensures { λ r. ⌜ r ≡ logRefusal (now (out .entry)) (now (events .entry)) ⌝ }
 {
     if scene_there(out) {
-        if lent_fit(events) {
-            let scene = scene_blocks(out);
+        if lent_events_fit(events) {
+            let scene = scene_blocks_in(out);
             let behind = log_blocks(events);
             return scene_room::room_for(scene + behind, out.len());
         }
@@ -126,7 +126,7 @@ pub fn write_log(events: &[u32], out: &mut [u8]) -> Written
             bytes: 0,
         };
     }
-    let scene = scene_blocks(out);
+    let scene = scene_blocks_in(out);
     let behind = log_blocks(events);
     part_writer::put_words(out, blocks::log_part(scene as u32, behind as u16), events);
     Written {

@@ -10,13 +10,13 @@ use Rattle.base.specs.Choose.{choose}
 use Rattle.bodies.specs.declared.MotionNumbers.{MotionNumbers}
 use Rattle.bodies.specs.Limits.{numberRefusal}
 use Rattle.groups.specs.Summary.{hasSummary, buildRefusal}
-use Rattle.summary.specs.Calls.{plain}
+use Rattle.summary.specs.Calls.{plainWords}
 use Rattle.logs.specs.declared.Event.{Event}
-use Rattle.minute_state.specs.Minute.{Lent, windowOf, State, startRefusal, start, minute}
+use Rattle.minute_state.specs.Minute.{MinuteLent, minuteWindow, State, startRefusal, start, minute}
 use Rattle.minute_state.specs.Turns.{minuteOf}
 use Rattle.minute.specs.Separate.{separately, Equals}
 use Rattle.minute.proofs.Separate.{minute-separate}
-use Rattle.logged.specs.Logged.{sceneRefusal, minuteAlone}
+use Rattle.logged.specs.Logged.{loggedRefusal, minuteAlone}
 
 -- what a host is handed of two states is the same
 pub record Same (s t : State) : Type 0 where
@@ -31,21 +31,21 @@ or-itself n = go (eqb n 0) (eqb→eq n 0)
     go true f = sym (f tt)
     go false f = refl
 
-module _ (l : Lent) (words : List ℕ) (given : MotionNumbers) (age : ℕ) (events : List Event) (there : hasSummary words (windowOf l) ≡ true) where
+module _ (l : MinuteLent) (words : List ℕ) (given : MotionNumbers) (age : ℕ) (events : List Event) (there : hasSummary words (minuteWindow l) ≡ true) where
   abbrev cells : List ℕ
-  cells = plain words (windowOf l)
+  cells = plainWords words (minuteWindow l)
 
-  same-refusal : startRefusal l words given ≡ sceneRefusal l cells given
-  unfolding startRefusal sceneRefusal buildRefusal choose
+  same-refusal : startRefusal l words given ≡ loggedRefusal l cells given
+  unfolding startRefusal loggedRefusal buildRefusal choose
   same-refusal = rw (there, or-itself (numberRefusal (l .records) (l .rules) (l .body) given))
 
   runs : startRefusal l words given ≡ 0 → minuteAlone l cells given age events ≡ separately l (start given age cells 0) events
   unfolding minuteAlone choose
-  runs h = rw (eq-eqb (sceneRefusal l cells given) 0 (sym same-refusal ∙ h))
+  runs h = rw (eq-eqb (loggedRefusal l cells given) 0 (sym same-refusal ∙ h))
 
-  refused-alone : (startRefusal l words given ≡ 0 → ⊥) → minuteAlone l cells given age events ≡ start given age cells (sceneRefusal l cells given)
+  refused-alone : (startRefusal l words given ≡ 0 → ⊥) → minuteAlone l cells given age events ≡ start given age cells (loggedRefusal l cells given)
   unfolding minuteAlone choose
-  refused-alone h = rw (ne-eqb (sceneRefusal l cells given) 0 (λ z. h (same-refusal ∙ z)))
+  refused-alone h = rw (ne-eqb (loggedRefusal l cells given) 0 (λ z. h (same-refusal ∙ z)))
 
   refused-minute : (startRefusal l words given ≡ 0 → ⊥) → minute l words given age events ≡ start given age words (startRefusal l words given)
   unfolding minute choose

@@ -22,9 +22,9 @@ use Rattle.logs.specs.declared.CellSet.{CellSet}
 use Rattle.logs.specs.declared.Event.{Event}
 use Rattle.logs.specs.declared.Event.the-variants as event
 use Rattle.logs.specs.Logs.{endFrom, eventAt, logWord, logOf, logFits, blocksIn, wholeLog, isLog, sceneIn, eventsBy, eventsOf}
-use Rattle.minute_state.specs.Minute.{Lent, windowOf, State, stepped, ended, ticked, setPlace, start}
-use Rattle.minute.specs.Separate.{singleStep, setAlone, eventAlone, separately}
-use Rattle.logged.specs.Logged.{sceneRefusal, minuteAlone, minuteOver, malformed, minuteIn}
+use Rattle.minute_state.specs.Minute.{MinuteLent, minuteWindow, State, afterStep, ended, ticked, setPlace, start}
+use Rattle.minute.specs.Separate.{separateStep, setAlone, eventAlone, separately}
+use Rattle.logged.specs.Logged.{loggedRefusal, minuteAlone, minuteOver, malformedLog, minuteIn}
 
 -- ---- one line at most for each event
 
@@ -32,23 +32,23 @@ ticked-one : (s : State) (a : FallingAnswer) → length (ticked s a .lines) ≤ 
 unfolding ticked choose
 ticked-one s a = go (eqb (a .step .refusal) 0)
   where
-    go : (b : Bool) → length ((choose b (stepped s a) (ended s (a .step .refusal))) .lines) ≤ length (s .lines) + 1
+    go : (b : Bool) → length ((choose b (afterStep s a) (ended s (a .step .refusal))) .lines) ≤ length (s .lines) + 1
     go true = let p = length-append (s .lines) (a .step .motion .feet ∷ []) in omega arith
     go false = omega arith
 
-set-none : (l : Lent) (s : State) (q : CellSet) → setAlone l s q .lines ≡ s .lines
+set-none : (l : MinuteLent) (s : State) (q : CellSet) → setAlone l s q .lines ≡ s .lines
 unfolding setAlone choose
-set-none l s q = go (isInside (windowOf l) (setPlace l q)) refl
+set-none l s q = go (isInside (minuteWindow l) (setPlace l q)) refl
   where
-    go : (b : Bool) → isInside (windowOf l) (setPlace l q) ≡ b → setAlone l s q .lines ≡ s .lines
+    go : (b : Bool) → isInside (minuteWindow l) (setPlace l q) ≡ b → setAlone l s q .lines ≡ s .lines
     go true e = rw e
     go false e = rw e
 
-event-one : (l : Lent) (s : State) (e : Event) → length (eventAlone l s e .lines) ≤ length (s .lines) + 1
-event-one l s event.Tick = ticked-one s (singleStep l s)
+event-one : (l : MinuteLent) (s : State) (e : Event) → length (eventAlone l s e .lines) ≤ length (s .lines) + 1
+event-one l s event.Tick = ticked-one s (separateStep l s)
 event-one l s (event.Set q) = let e = ap length (set-none l s q) in omega arith
 
-separately-few : (l : Lent) (es : List Event) (s : State) → length (separately l s es .lines) ≤ length (s .lines) + length es
+separately-few : (l : MinuteLent) (es : List Event) (s : State) → length (separately l s es .lines) ≤ length (s .lines) + length es
 unfolding separately choose
 separately-few l [] s = omega arith
 separately-few l (e ∷ es) s = go (eqb (s .refusal) 0) (separately-few l es (eventAlone l s e))
@@ -62,11 +62,11 @@ over-few : (c : Contents) (events : List Event) → length (minuteOver c events 
 unfolding minuteOver minuteAlone choose
 over-few c events = go _ _ _ _
   where
-    go : (l : Lent) (cells : List ℕ) (given : MotionNumbers) (age : ℕ) → length (minuteAlone l cells given age events .lines) ≤ length events
-    go l cells given age = by (eqb (sceneRefusal l cells given) 0) (separately-few l events (start given age cells 0))
+    go : (l : MinuteLent) (cells : List ℕ) (given : MotionNumbers) (age : ℕ) → length (minuteAlone l cells given age events .lines) ≤ length events
+    go l cells given age = by (eqb (loggedRefusal l cells given) 0) (separately-few l events (start given age cells 0))
       where
         by : (b : Bool) → length (separately l (start given age cells 0) events .lines) ≤ 0 + length events
-            → length ((choose b (separately l (start given age cells 0) events) (start given age cells (sceneRefusal l cells given))) .lines) ≤ length events
+            → length ((choose b (separately l (start given age cells 0) events) (start given age cells (loggedRefusal l cells given))) .lines) ≤ length events
         by true h = omega arith
         by false h = omega arith
 
@@ -105,7 +105,7 @@ pub minute-few : (file : List ℕ) → length (minuteIn file .lines) ≤ 3840
 unfolding minuteIn choose
 minute-few file = go (isLog file) refl
   where
-    go : (b : Bool) → isLog file ≡ b → length ((choose b (minuteOver (contentsIn (sceneIn file)) (eventsOf file)) malformed) .lines) ≤ 3840
+    go : (b : Bool) → isLog file ≡ b → length ((choose b (minuteOver (contentsIn (sceneIn file)) (eventsOf file)) malformedLog) .lines) ≤ 3840
     go true t = let h = over-few (contentsIn (sceneIn file)) (eventsOf file) in let k = events-few file t in omega arith
     go false t = omega arith
 

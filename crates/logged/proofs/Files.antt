@@ -19,16 +19,16 @@ use Rattle.logs.proofs.Files.{scene-no-log}
 use Rattle.logs.proofs.First.{first-events}
 use Rattle.scene.specs.Scene.{malformed as unread, tickOf}
 use Rattle.scene.proofs.Refusals.{tick-8}
-use Rattle.logged.specs.Logged.{malformed, minuteOver, minuteIn, minuteFirst}
+use Rattle.logged.specs.Logged.{malformedLog, minuteOver, minuteIn, minuteFirst}
 
 module _ (file : List ℕ) where
-  pub no-log : refused 8 ≡ choose (isLog file) (found (logOf file)) (refused 8) → malformed ≡ minuteIn file
+  pub no-log : refused 8 ≡ choose (isLog file) (found (logOf file)) (refused 8) → malformedLog ≡ minuteIn file
   unfolding minuteIn
-  no-log e = sym (no (isLog file) (minuteOver (contentsIn (sceneIn file)) (eventsOf file)) malformed (unfit (isLog file) (logOf file) e))
+  no-log e = sym (no (isLog file) (minuteOver (contentsIn (sceneIn file)) (eventsOf file)) malformedLog (unfit (isLog file) (logOf file) e))
 
-  pub no-first : (n : ℕ) → refused 8 ≡ choose (isLog file) (found (logOf file)) (refused 8) → malformed ≡ minuteFirst file n
+  pub no-first : (n : ℕ) → refused 8 ≡ choose (isLog file) (found (logOf file)) (refused 8) → malformedLog ≡ minuteFirst file n
   unfolding minuteFirst
-  no-first n e = sym (no (isLog file) (minuteOver (contentsIn (sceneIn file)) (take n (eventsOf file))) malformed (unfit (isLog file) (logOf file) e))
+  no-first n e = sym (no (isLog file) (minuteOver (contentsIn (sceneIn file)) (take n (eventsOf file))) malformedLog (unfit (isLog file) (logOf file) e))
 
   -- a log has a scene
   log-scene : isLog file ≡ true → isScene (sceneIn file) ≡ true
@@ -51,7 +51,7 @@ module _ (file : List ℕ) where
   whole-log log e =
       let a = are (isLog file) log (logOf file) e in
       ap (λ (l : Log). minuteOver (contentsIn (sceneIn file)) (eventsBy file l)) (sym (a .same))
-      ∙ sym (yes (isLog file) (minuteOver (contentsIn (sceneIn file)) (eventsOf file)) malformed (a .test))
+      ∙ sym (yes (isLog file) (minuteOver (contentsIn (sceneIn file)) (eventsOf file)) malformedLog (a .test))
 
   -- and of the first so many
   pub first-log : (log : Log) (n : ℕ) → found log ≡ choose (isLog file) (found (logOf file)) (refused 8)
@@ -61,7 +61,7 @@ module _ (file : List ℕ) where
       let a = are (isLog file) log (logOf file) e in
       ap (λ (l : Log). minuteOver (contentsIn (sceneIn file)) (eventsBy file (firstOf l n))) (sym (a .same))
       ∙ ap (λ (es : List Event). minuteOver (contentsIn (sceneIn file)) es) (first-events file (logOf file) n)
-      ∙ sym (yes (isLog file) (minuteOver (contentsIn (sceneIn file)) (take n (eventsOf file))) malformed (a .test))
+      ∙ sym (yes (isLog file) (minuteOver (contentsIn (sceneIn file)) (take n (eventsOf file))) malformedLog (a .test))
 
   -- ---- a log is no scene, so that its tick is refused by 8
 

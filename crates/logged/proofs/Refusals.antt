@@ -31,9 +31,9 @@ use Rattle.logs.specs.declared.CellSet.{CellSet}
 use Rattle.logs.specs.declared.Event.{Event}
 use Rattle.logs.specs.declared.Event.the-variants as event
 use Rattle.logs.specs.Logs.{isLog, sceneIn, eventsOf}
-use Rattle.minute_state.specs.Minute.{Lent, windowOf, State, stepped, ended, ticked, setPlace, start}
-use Rattle.minute.specs.Separate.{singleStep, setAlone, eventAlone, separately}
-use Rattle.logged.specs.Logged.{sceneRefusal, minuteAlone, lentOf, minuteOver, malformed, minuteIn}
+use Rattle.minute_state.specs.Minute.{MinuteLent, minuteWindow, State, afterStep, ended, ticked, setPlace, start}
+use Rattle.minute.specs.Separate.{separateStep, setAlone, eventAlone, separately}
+use Rattle.logged.specs.Logged.{loggedRefusal, minuteAlone, lentOf, minuteOver, malformedLog, minuteIn}
 
 -- ---- of a step with a fall record
 
@@ -81,23 +81,23 @@ ticked-most : (s : State) (a : FallingAnswer) → a .step .refusal ≤ 8 → tic
 unfolding ticked choose
 ticked-most s a h = go (eqb (a .step .refusal) 0)
   where
-    go : (b : Bool) → (choose b (stepped s a) (ended s (a .step .refusal))) .refusal ≤ 8
+    go : (b : Bool) → (choose b (afterStep s a) (ended s (a .step .refusal))) .refusal ≤ 8
     go true = omega arith
     go false = h
 
-set-most : (l : Lent) (s : State) (q : CellSet) → setAlone l s q .refusal ≤ 8
+set-most : (l : MinuteLent) (s : State) (q : CellSet) → setAlone l s q .refusal ≤ 8
 unfolding setAlone choose
-set-most l s q = go (isInside (windowOf l) (setPlace l q)) refl
+set-most l s q = go (isInside (minuteWindow l) (setPlace l q)) refl
   where
-    go : (b : Bool) → isInside (windowOf l) (setPlace l q) ≡ b → setAlone l s q .refusal ≤ 8
+    go : (b : Bool) → isInside (minuteWindow l) (setPlace l q) ≡ b → setAlone l s q .refusal ≤ 8
     go true e = rw e (omega arith)
     go false e = rw e (omega arith)
 
-event-most : (l : Lent) (s : State) (e : Event) → eventAlone l s e .refusal ≤ 8
-event-most l s event.Tick = ticked-most s (singleStep l s) (entry-most _ _ _ _ _ _ _ _ _)
+event-most : (l : MinuteLent) (s : State) (e : Event) → eventAlone l s e .refusal ≤ 8
+event-most l s event.Tick = ticked-most s (separateStep l s) (entry-most _ _ _ _ _ _ _ _ _)
 event-most l s (event.Set q) = set-most l s q
 
-separately-most : (l : Lent) (es : List Event) (s : State) → s .refusal ≤ 8 → separately l s es .refusal ≤ 8
+separately-most : (l : MinuteLent) (es : List Event) (s : State) → s .refusal ≤ 8 → separately l s es .refusal ≤ 8
 unfolding separately choose
 separately-most l [] s h = h
 separately-most l (e ∷ es) s h = go (eqb (s .refusal) 0) (separately-most l es (eventAlone l s e) (event-most l s e))
@@ -108,21 +108,21 @@ separately-most l (e ∷ es) s h = go (eqb (s .refusal) 0) (separately-most l es
 
 -- ---- of the scene, and of the file
 
-scene-most : (l : Lent) (cells : List ℕ) (given : MotionNumbers) → sceneRefusal l cells given ≤ 8
-unfolding sceneRefusal choose
+scene-most : (l : MinuteLent) (cells : List ℕ) (given : MotionNumbers) → loggedRefusal l cells given ≤ 8
+unfolding loggedRefusal choose
 scene-most l cells given =
-    go (eqb (lentRefusal (l .records) (l .shapes) cells (windowOf l)) 0) (lent-most (l .records) (l .shapes) cells (windowOf l)) (numbers-most (l .records) (l .rules) (l .body) given)
+    go (eqb (lentRefusal (l .records) (l .shapes) cells (minuteWindow l)) 0) (lent-most (l .records) (l .shapes) cells (minuteWindow l)) (numbers-most (l .records) (l .rules) (l .body) given)
   where
     go : {n m : ℕ} (b : Bool) → n ≤ 8 → m ≤ 8 → choose b m n ≤ 8
     go true h k = k
     go false h k = h
 
-alone-most : (l : Lent) (cells : List ℕ) (given : MotionNumbers) (age : ℕ) (events : List Event) → minuteAlone l cells given age events .refusal ≤ 8
+alone-most : (l : MinuteLent) (cells : List ℕ) (given : MotionNumbers) (age : ℕ) (events : List Event) → minuteAlone l cells given age events .refusal ≤ 8
 unfolding minuteAlone choose
-alone-most l cells given age events = go (eqb (sceneRefusal l cells given) 0) (separately-most l events (start given age cells 0) (omega arith))
+alone-most l cells given age events = go (eqb (loggedRefusal l cells given) 0) (separately-most l events (start given age cells 0) (omega arith))
   where
     go : (b : Bool) → separately l (start given age cells 0) events .refusal ≤ 8
-        → (choose b (separately l (start given age cells 0) events) (start given age cells (sceneRefusal l cells given))) .refusal ≤ 8
+        → (choose b (separately l (start given age cells 0) events) (start given age cells (loggedRefusal l cells given))) .refusal ≤ 8
     go true h = h
     go false h = scene-most l cells given
 
@@ -134,7 +134,7 @@ pub minute-within : (file : List ℕ) → minuteIn file .refusal ≤ 8
 unfolding minuteIn choose
 minute-within file = go (isLog file)
   where
-    go : (b : Bool) → (choose b (minuteOver (contentsIn (sceneIn file)) (eventsOf file)) malformed) .refusal ≤ 8
+    go : (b : Bool) → (choose b (minuteOver (contentsIn (sceneIn file)) (eventsOf file)) malformedLog) .refusal ≤ 8
     go true = over-most (contentsIn (sceneIn file)) (eventsOf file)
     go false = omega arith
 

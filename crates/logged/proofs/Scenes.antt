@@ -23,18 +23,18 @@ use Rattle.window.proofs.Check.{sizes-small}
 use Rattle.groups.specs.Groups.{groupCount}
 use Rattle.groups.specs.Summary.{wordsBefore, summedWords, hasSummary}
 use Rattle.groups.proofs.Counts.{all-groups}
-use Rattle.summary.specs.Calls.{plain}
+use Rattle.summary.specs.Calls.{plainWords}
 use Rattle.blocks.specs.Blocks.{partWord, recordPart, boxPart, windowPart, cellPart}
 use Rattle.files.specs.declared.Counts.{Counts}
 use Rattle.files.specs.Files.{bodyWord, windowIn, sizesIn, countsIn, countsFit, countsOf, flapFits, blocksFor, blocksFit, isScene}
 use Rattle.files.specs.Places.{statesPlace, boxesPlace}
-use Rattle.files.specs.Contents.{Contents, contentsOf, numbersIn, lateWords, ageIn, wordsOf, singlesOf, contentsBehind}
+use Rattle.files.specs.Contents.{Contents, contentsOf, numbersIn, lateWords, bodyAge, wordsOf, singlesOf, contentsBehind}
 use Rattle.files.proofs.Scenes.{rooms}
 use Rattle.files.proofs.Told.{tells}
 use Rattle.logs.specs.declared.Event.{Event}
 use Rattle.minute_state.specs.Minute.{lentBy, minute}
 use Rattle.logged.specs.Logged.{lentOf, minuteOver}
-use Rattle.logged.specs.Held.{heldContents, heldMinute}
+use Rattle.logged.specs.Held.{loggedContents, heldMinute}
 use Rattle.logged.proofs.Alone.{Same, alone}
 
 -- ---- what the program hands on, by how many words there is room for
@@ -42,7 +42,7 @@ use Rattle.logged.proofs.Alone.{Same, alone}
 pub handed-on : (scene : List ℕ) (n : Counts) (records : List ℕ) (singles : List Float) (words : List ℕ) (a b c d : ℕ) (w : Window)
     → a ≡ min (n .states * 20) (length records) → b ≡ min (n .boxes * 6) (length singles) → c ≡ min d (length words) → d ≡ summedWords (w .sizes)
     → w ≡ windowIn scene (windowPart (n .states) (n .boxes))
-    → contentsOf (take a records) (take b singles) (take c words) w (numbersIn scene) (lateWords scene) (ageIn scene) ≡ heldContents scene n records singles words
+    → contentsOf (take a records) (take b singles) (take c words) w (numbersIn scene) (lateWords scene) (bodyAge scene) ≡ loggedContents scene n records singles words
 handed-on scene n records singles words a b c d w ea eb ec ed ew = rw (ec, ed, ea, eb, ew)
 
 -- ---- the minute that the program runs, by the parts of a body that it reads
@@ -90,8 +90,8 @@ module _ (w : Window) (words : List ℕ) (fits : sizesFit (w .sizes) ≡ true) (
       let e = ap (λ (k : ℕ). length (take k words)) summed-is ∙ length-take-le (wordsBefore (w .sizes) + groupCount (w .sizes)) words enough in
       rw (fits, eq-eqb (length (take (min (summedWords (w .sizes)) (length words)) words)) (wordsBefore (w .sizes) + groupCount (w .sizes)) e)
 
-  first : plain (take (min (summedWords (w .sizes)) (length words)) words) w ≡ take (wordsBefore (w .sizes)) words
-  unfolding plain choose
+  first : plainWords (take (min (summedWords (w .sizes)) (length words)) words) w ≡ take (wordsBefore (w .sizes)) words
+  unfolding plainWords choose
   first =
       let b : wordsBefore (w .sizes) ≤ wordsBefore (w .sizes) + groupCount (w .sizes) = omega arith in
       rw (fits, summed-is) (take-take (wordsBefore (w .sizes)) (wordsBefore (w .sizes) + groupCount (w .sizes)) words b)
@@ -100,10 +100,10 @@ module _ (w : Window) (words : List ℕ) (fits : sizesFit (w .sizes) ≡ true) (
 
 -- the contents without the summary's words
 abbrev plainly : Contents → Contents
-plainly c = contentsOf (c .records) (c .shapes) (plain (c .cells) (c .window)) (c .window) (c .numbers) (c .words) (c .age)
+plainly c = contentsOf (c .records) (c .shapes) (plainWords (c .cells) (c .window)) (c .window) (c .numbers) (c .words) (c .age)
 
 over-plain : (c : Contents) (events : List Event) → hasSummary (c .cells) (c .window) ≡ true → Same (heldMinute c events) (minuteOver (plainly c) events)
-unfolding heldMinute minuteOver plain hasSummary
+unfolding heldMinute minuteOver plainWords hasSummary
 over-plain c events t = alone (lentOf c) (c .cells) (motionAt (c .numbers) (c .words)) (c .age) events t
 
 module _ (scene : List ℕ) (records : List ℕ) (singles : List Float) (words : List ℕ) (s : isScene scene ≡ true)
@@ -123,7 +123,7 @@ module _ (scene : List ℕ) (records : List ℕ) (singles : List Float) (words :
   all-held : take (min (n .states * 20) 15744) records ≡ listed (partWord scene (recordPart (n .states))) (min (n .states * 20) 15744) 0
       → take (min (n .boxes * 6) 15744) singles ≡ listed (λ i. ofBits binary32 (partWord scene (boxPart (n .states) (n .boxes)) i)) (min (n .boxes * 6) 15744) 0
       → take (min (n .cells) 19840) words ≡ listed (partWord scene (cellPart (n .states) (n .boxes) (n .cells))) (min (n .cells) 19840) 0
-      → plainly (heldContents scene n records singles words) ≡ contentsBehind scene n
+      → plainly (loggedContents scene n records singles words) ≡ contentsBehind scene n
   unfolding wordsOf singlesOf
   all-held er es ew =
       let z = sized scene s in
@@ -134,16 +134,16 @@ module _ (scene : List ℕ) (records : List ℕ) (singles : List Float) (words :
       let er′ = ap (λ (k : ℕ). take (min (n .states * 20) k) records) lr ∙ er ∙ ap (λ (k : ℕ). listed (partWord scene (recordPart (n .states))) k 0) p in
       let es′ = ap (λ (k : ℕ). take (min (n .boxes * 6) k) singles) ls ∙ es ∙ ap (λ (k : ℕ). listed (λ i. ofBits binary32 (partWord scene (boxPart (n .states) (n .boxes)) i)) k 0) q in
       let ew′ = first w words (z .sizes) room lw ∙ ap (λ (k : ℕ). take k words) (sym (z .cells) ∙ sym o) ∙ ew ∙ ap (λ (k : ℕ). listed (partWord scene (cellPart (n .states) (n .boxes) (n .cells))) k 0) o in
-      λ i. contentsOf (er′ i) (es′ i) (ew′ i) w (numbersIn scene) (lateWords scene) (ageIn scene)
+      λ i. contentsOf (er′ i) (es′ i) (ew′ i) w (numbersIn scene) (lateWords scene) (bodyAge scene)
 
   pub held-same : (events : List Event)
       → take (min (n .states * 20) 15744) records ≡ listed (partWord scene (recordPart (n .states))) (min (n .states * 20) 15744) 0
       → take (min (n .boxes * 6) 15744) singles ≡ listed (λ i. ofBits binary32 (partWord scene (boxPart (n .states) (n .boxes)) i)) (min (n .boxes * 6) 15744) 0
       → take (min (n .cells) 19840) words ≡ listed (partWord scene (cellPart (n .states) (n .boxes) (n .cells))) (min (n .cells) 19840) 0
-      → Same (heldMinute (heldContents scene n records singles words) events) (minuteOver (contentsBehind scene n) events)
+      → Same (heldMinute (loggedContents scene n records singles words) events) (minuteOver (contentsBehind scene n) events)
   held-same events er es ew =
-      subst (λ (c : Contents). Same (heldMinute (heldContents scene n records singles words) events) (minuteOver c events)) (all-held er es ew)
-      (over-plain (heldContents scene n records singles words) events (there w words (sized scene s .sizes) room lw))
+      subst (λ (c : Contents). Same (heldMinute (loggedContents scene n records singles words) events) (minuteOver c events)) (all-held er es ew)
+      (over-plain (loggedContents scene n records singles words) events (there w words (sized scene s .sizes) room lw))
 
 -- the same of counts that are the scene's, and of what was put into places of these lengths
 pub held-by : (scene : List ℕ) (n : Counts) (events : List Event) (records : List ℕ) (singles : List Float) (words : List ℕ) (v u t : ℕ)
@@ -152,10 +152,10 @@ pub held-by : (scene : List ℕ) (n : Counts) (events : List Event) (records : L
     → take (min (n .boxes * 6) u) singles ≡ listed (λ i. ofBits binary32 (partWord scene (boxPart (n .states) (n .boxes)) i)) (min (n .boxes * 6) u) 0
     → take (min (n .cells) t) words ≡ listed (partWord scene (cellPart (n .states) (n .boxes) (n .cells))) (min (n .cells) t) 0
     → isScene scene ≡ true → countsOf scene ≡ n
-    → Same (heldMinute (heldContents scene n records singles words) events) (minuteOver (contentsBehind scene n) events)
+    → Same (heldMinute (loggedContents scene n records singles words) events) (minuteOver (contentsBehind scene n) events)
 held-by scene n events records singles words v u t ev eu et lr ls lw er es ew s e =
     subst (λ (k : Counts). take (min (k .states * 20) v) records ≡ listed (partWord scene (recordPart (k .states))) (min (k .states * 20) v) 0
         → take (min (k .boxes * 6) u) singles ≡ listed (λ i. ofBits binary32 (partWord scene (boxPart (k .states) (k .boxes)) i)) (min (k .boxes * 6) u) 0
         → take (min (k .cells) t) words ≡ listed (partWord scene (cellPart (k .states) (k .boxes) (k .cells))) (min (k .cells) t) 0
-        → Same (heldMinute (heldContents scene k records singles words) events) (minuteOver (contentsBehind scene k) events)) e
+        → Same (heldMinute (loggedContents scene k records singles words) events) (minuteOver (contentsBehind scene k) events)) e
     (λ r q w. held-same scene records singles words s lr ls lw events (rw ev at r) (rw eu at q) (rw et at w)) er es ew

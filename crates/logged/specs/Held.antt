@@ -9,14 +9,14 @@ use Rattle.groups.specs.Summary.{summedWords}
 use Rattle.blocks.specs.Blocks.{windowPart}
 use Rattle.files.specs.declared.Counts.{Counts}
 use Rattle.files.specs.Files.{windowIn}
-use Rattle.files.specs.Contents.{Contents, contentsOf, numbersIn, lateWords, ageIn}
+use Rattle.files.specs.Contents.{Contents, contentsOf, numbersIn, lateWords, bodyAge}
 use Rattle.logs.specs.declared.Event.{Event}
 use Rattle.minute_state.specs.Minute.{State, minute}
 use Rattle.logged.specs.Logged.{lentOf}
 
 -- what stands first in the three places, with the summary's words among the cells
-abbrev pub heldContents : List ℕ → Counts → List ℕ → List Float → List ℕ → Contents
-heldContents scene n records singles words =
+abbrev pub loggedContents : List ℕ → Counts → List ℕ → List Float → List ℕ → Contents
+loggedContents scene n records singles words =
     contentsOf
     (take (min (n .states * 20) (length records)) records)
     (take (min (n .boxes * 6) (length singles)) singles)
@@ -24,7 +24,7 @@ heldContents scene n records singles words =
     (windowIn scene (windowPart (n .states) (n .boxes)))
     (numbersIn scene)
     (lateWords scene)
-    (ageIn scene)
+    (bodyAge scene)
 
 -- the minute over them
 unfoldable pub heldMinute : Contents → List Event → State

@@ -13,24 +13,24 @@ use Rattle.lent.specs.Lent.{lentRefusal}
 use Rattle.files.specs.Contents.{Contents, contentsIn}
 use Rattle.logs.specs.declared.Event.{Event}
 use Rattle.logs.specs.Logs.{sceneIn, isLog, eventsOf}
-use Rattle.minute_state.specs.Minute.{Lent, lentBy, windowOf, State, start}
+use Rattle.minute_state.specs.Minute.{MinuteLent, lentBy, minuteWindow, State, start}
 use Rattle.minute.specs.Separate.{separately}
 
 -- ---- over tables, cells and a body
 
 -- "1 to 4 of the scene, before anything runs"
-unfoldable pub sceneRefusal : Lent → List ℕ → MotionNumbers → ℕ
-sceneRefusal l cells given =
-    let lent = lentRefusal (l .records) (l .shapes) cells (windowOf l) in
+unfoldable pub loggedRefusal : MinuteLent → List ℕ → MotionNumbers → ℕ
+loggedRefusal l cells given =
+    let lent = lentRefusal (l .records) (l .shapes) cells (minuteWindow l) in
     choose (eqb lent 0) (numberRefusal (l .records) (l .rules) (l .body) given) lent
 
-unfoldable pub minuteAlone : Lent → List ℕ → MotionNumbers → ℕ → List Event → State
+unfoldable pub minuteAlone : MinuteLent → List ℕ → MotionNumbers → ℕ → List Event → State
 minuteAlone l cells given age events =
-    choose (eqb (sceneRefusal l cells given) 0) (separately l (start given age cells 0) events) (start given age cells (sceneRefusal l cells given))
+    choose (eqb (loggedRefusal l cells given) 0) (separately l (start given age cells 0) events) (start given age cells (loggedRefusal l cells given))
 
 -- ---- of a scene
 
-abbrev pub lentOf : Contents → Lent
+abbrev pub lentOf : Contents → MinuteLent
 lentOf c = lentBy (c .records) (c .shapes) (c .window) (rulesAt (c .numbers) (c .words)) (bodyAt (c .numbers) (c .words))
 
 unfoldable pub minuteOver : Contents → List Event → State
@@ -38,13 +38,13 @@ minuteOver c events = minuteAlone (lentOf c) (c .cells) (motionAt (c .numbers) (
 
 -- ---- of a file: 8 comes first, and there is nothing to hand back
 
-abbrev pub malformed : State
-malformed = start record { feet = vec zero64 zero64 zero64; velocity = vec zero64 zero64 zero64; ground = 0 } 0 [] 8
+abbrev pub malformedLog : State
+malformedLog = start record { feet = vec zero64 zero64 zero64; velocity = vec zero64 zero64 zero64; ground = 0 } 0 [] 8
 
 -- "Run the scene's body through them"
 unfoldable pub minuteIn : List ℕ → State
-minuteIn file = choose (isLog file) (minuteOver (contentsIn (sceneIn file)) (eventsOf file)) malformed
+minuteIn file = choose (isLog file) (minuteOver (contentsIn (sceneIn file)) (eventsOf file)) malformedLog
 
 -- the same of the first so many events
 unfoldable pub minuteFirst : List ℕ → ℕ → State
-minuteFirst file n = choose (isLog file) (minuteOver (contentsIn (sceneIn file)) (take n (eventsOf file))) malformed
+minuteFirst file n = choose (isLog file) (minuteOver (contentsIn (sceneIn file)) (take n (eventsOf file))) malformedLog

@@ -54,11 +54,11 @@ unfoldable pub endFits : ℕ → ℕ → Bool
 endFits blocks e = leb (blocks * 30) (e + 30) && ltb e (blocks * 30)
 
 -- "the rest zero"
-unfoldable pub restZero : (ℕ → ℕ) → ℕ → ℕ → Bool
-restZero word blocks e = every (blocks * 120 - e * 4) (λ k. eqb (word (e * 4 + k)) 0)
+unfoldable pub restOfLogZero : (ℕ → ℕ) → ℕ → ℕ → Bool
+restOfLogZero word blocks e = every (blocks * 120 - e * 4) (λ k. eqb (word (e * 4 + k)) 0)
 
 unfoldable pub eventsFit : (ℕ → ℕ) → ℕ → ℕ → Bool
-eventsFit word blocks e = endFits blocks e && (every e (eventFits word) && restZero word blocks e)
+eventsFit word blocks e = endFits blocks e && (every e (eventFits word) && restOfLogZero word blocks e)
 
 -- ---- "a scene, then blocks of kind 6"
 

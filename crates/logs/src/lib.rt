@@ -11,7 +11,7 @@ ghost use Rattle.base.specs.Choose.{choose};
 ghost use Rattle.base.specs.Every.{every};
 ghost use Rattle.base.specs.Ask.{refused, found};
 ghost use Rattle.blocks.specs.Blocks.{partWord};
-ghost use Rattle.logs.specs.Logs.{isTick, isSet, eventFits, setOf, eventAt, endFrom, endFits, restZero, eventsFit, firstBlocks, sceneIn, logWord, logBehind, logFrom, logOf, logFits, wholeLog, isLog, firstOf, logAsked};
+ghost use Rattle.logs.specs.Logs.{isTick, isSet, eventFits, setOf, eventAt, endFrom, endFits, restOfLogZero, eventsFit, firstBlocks, sceneIn, logWord, logBehind, logFrom, logOf, logFits, wholeLog, isLog, firstOf, logAsked};
 
 // A cell that is set: how far it lies from the window's origin, and the state that it becomes.
 pub struct CellSet {
@@ -133,8 +133,8 @@ fn words_left(blocks: u16, e: u16) -> u32
     if at < all { all - at } else { 0 }
 }
 
-fn rest_zero(file: &[u8], p: Part, blocks: u16, e: u16) -> bool
-    ensures { λ r. ⌜ r ≡ restZero (partWord (now (file .entry)) p) blocks e ⌝ }
+fn rest_of_log_zero(file: &[u8], p: Part, blocks: u16, e: u16) -> bool
+    ensures { λ r. ⌜ r ≡ restOfLogZero (partWord (now (file .entry)) p) blocks e ⌝ }
 {
     let at = e as u32 * 4;
     let n = words_left(blocks, e);
@@ -154,7 +154,7 @@ fn events_fit(file: &[u8], p: Part, blocks: u16, e: u16) -> bool
 {
     if end_fits(blocks, e) {
         if all_fit(file, p, e) {
-            return rest_zero(file, p, blocks, e);
+            return rest_of_log_zero(file, p, blocks, e);
         }
     }
     false

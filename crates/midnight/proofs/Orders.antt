@@ -16,7 +16,7 @@ use Rattle.base.specs.Loop.{listed, stored}
 use Rattle.table_check.specs.Check.{tableRefusal}
 use Rattle.night_rows.specs.Rows.{Row, rowOf, rowAt, windowAt, namedIn}
 use Rattle.answer_rows.specs.Answers.{answerWidth, answerNumbers, countRefusal}
-use Rattle.night_answers.specs.Answers.{Lent, singleStep, answerOf}
+use Rattle.night_answers.specs.Answers.{NightLent, singleStep, rowAnswer}
 use Rattle.base.proofs.Stored.{stored-first}
 use Rattle.base.proofs.Listed.{listed-length, listed-at, map-listed}
 use Rattle.midnight.specs.Run.{runRefusal, bodiesOf, answerRow, rowsOf, checkedWritten, runWritten, answersIn}
@@ -32,13 +32,13 @@ all-passed true false true c e = absurd (omega arith)
 all-passed true true b c e = absurd (omega arith)
 all-passed false a b c e = absurd (omega arith)
 
-pub record Passed (lent : Lent) (bodies room : ℕ) : Type 0 where
+pub record Passed (lent : NightLent) (bodies room : ℕ) : Type 0 where
   pub tables : tableRefusal (lent .records) (lent .shapes) ≡ 0
   pub windows : lent .count ≤ 16
   pub few : bodies ≤ 4096
   pub fits : bodies * answerWidth ≤ room
 
-pub passed : (lent : Lent) (bodies room : ℕ) → runRefusal lent bodies room ≡ 0 → Passed lent bodies room
+pub passed : (lent : NightLent) (bodies room : ℕ) → runRefusal lent bodies room ≡ 0 → Passed lent bodies room
 unfolding runRefusal countRefusal
 passed lent bodies room e =
     let p = all-passed (eqb (tableRefusal (lent .records) (lent .shapes)) 0) (ltb 16 (lent .count)) (ltb 4096 bodies) (ltb room (bodies * answerWidth)) e in
@@ -51,7 +51,7 @@ passed lent bodies room e =
 
 -- ---- rows one behind the other
 
-rows-length : (lent : Lent) (rows : List Row) → length (rowsOf lent rows) ≡ length rows * answerWidth
+rows-length : (lent : NightLent) (rows : List Row) → length (rowsOf lent rows) ≡ length rows * answerWidth
 unfolding rowsOf
 rows-length lent [] = refl
 rows-length lent (row ∷ rows) =
@@ -60,7 +60,7 @@ rows-length lent (row ∷ rows) =
     omega (arith, later, n)
 
 -- row i of what is stored is body i's
-row-at : (lent : Lent) (d : Row) (rows : List Row) (beyond : List Float) (i : ℕ) → i < length rows
+row-at : (lent : NightLent) (d : Row) (rows : List Row) (beyond : List Float) (i : ℕ) → i < length rows
     → rowOf answerWidth (rowsOf lent rows ++ beyond) i ≡ answerRow lent (getD rows i d)
 unfolding rowsOf
 row-at lent d [] beyond i h = absurd (not-suc-le-zero h)
@@ -77,7 +77,7 @@ row-at lent d (row ∷ rows) beyond (suc i) h =
 
 -- ---- the buffer after a call
 
-module _ (older : Bool) (lent : Lent) (numbers : List Float) (words : List ℕ) (bodies : ℕ) (out : List Float) where
+module _ (older : Bool) (lent : NightLent) (numbers : List Float) (words : List ℕ) (bodies : ℕ) (out : List Float) where
   abbrev pub after : List Float
   after = runWritten lent (bodiesOf older numbers words bodies) out
 
@@ -126,7 +126,7 @@ module _ (older : Bool) (lent : Lent) (numbers : List Float) (words : List ℕ) 
 
 -- ---- by what the program returns
 
-module _ (older : Bool) (lent : Lent) (numbers : List Float) (words : List ℕ) (bodies : ℕ) (out : List Float) where
+module _ (older : Bool) (lent : NightLent) (numbers : List Float) (words : List ℕ) (bodies : ℕ) (out : List Float) where
   module _ (r : ℕ) (told : r ≡ countRefusal (lent .count) bodies (length out)) where
     pub refused-run : (r ≡ 0 → ⊥) → out ≡ checkedWritten lent (bodiesOf older numbers words bodies) out
     unfolding checkedWritten choose
@@ -170,7 +170,7 @@ module _ (older : Bool) (lent : Lent) (numbers : List Float) (words : List ℕ) 
 abbrev pub picked : {A : Type 0} → A → List A → List ℕ → List A
 picked d rows places = map (λ i. getD rows i d) places
 
-map-picked : (lent : Lent) (d : Row) (rows : List Row) (places : List ℕ)
+map-picked : (lent : NightLent) (d : Row) (rows : List Row) (places : List ℕ)
     → map (answerRow lent) (picked d rows places) ≡ picked (answerRow lent d) (map (answerRow lent) rows) places
 map-picked lent d rows [] = refl
 map-picked lent d rows (i ∷ places) =
@@ -179,7 +179,7 @@ map-picked lent d rows (i ∷ places) =
 
 -- Two calls over the same tables and windows: where the bodies of the one are those of the other in the order of any list of places (each once, or
 -- some of them twice or not at all), so are the answers.
-pub follow : (older : Bool) (lent : Lent) (numbers numbers' : List Float) (words words' : List ℕ) (bodies bodies' : ℕ) (out out' : List Float)
+pub follow : (older : Bool) (lent : NightLent) (numbers numbers' : List Float) (words words' : List ℕ) (bodies bodies' : ℕ) (out out' : List Float)
     → runRefusal lent bodies (length out) ≡ 0 → runRefusal lent bodies' (length out') ≡ 0
     → (d : Row) (places : List ℕ) → bodiesOf older numbers' words' bodies' ≡ picked d (bodiesOf older numbers words bodies) places
     → answersIn (after older lent numbers' words' bodies' out') bodies' ≡ picked (answerRow lent d) (answersIn (after older lent numbers words bodies out) bodies) places

@@ -26,7 +26,7 @@ fn answer_all(
     while i < bodies {
         let own_numbers = numbers_at(numbers, i);
         let own_words = words_at(older, words, i);
-        let a = night_answers::answer_of(older, records, shapes, windows, count, cells, &checked, own_numbers, own_words);
+        let a = night_answers::row_answer(older, records, shapes, windows, count, cells, &checked, own_numbers, own_words);
         put_row(out, i, a);
         i += 1;
     }

@@ -26,7 +26,7 @@ use Rattle.lent.specs.Lent.{lentRefusal}
 use Rattle.groups.specs.Groups.{groupCount}
 use Rattle.groups.specs.Summary.{wordsBefore, hasSummary, built, summaryOf, setIn, agreesAt, agrees, summaryRefusal}
 use Rattle.groups.proofs.Sets.{has, Kept}
-use Rattle.summary.specs.Calls.{plain}
+use Rattle.summary.specs.Calls.{plainWords}
 use Rattle.step.proofs.Summed.{past-plain}
 use Rattle.fall_rule.specs.declared.Fall.{Fall}
 use Rattle.falls.specs.Answers.{fallingChecked, fallingEntry}
@@ -53,18 +53,18 @@ module _ {A : Type 0} where
 
 -- ---- the words of cells and columns
 
-plain-is : (words : List ℕ) (w : Window) → sizesFit (w .sizes) ≡ true → plain words w ≡ take (wordsBefore (w .sizes)) words
-unfolding plain choose
+plain-is : (words : List ℕ) (w : Window) → sizesFit (w .sizes) ≡ true → plainWords words w ≡ take (wordsBefore (w .sizes)) words
+unfolding plainWords choose
 plain-is words w e = rw e
 
 module _ (records words : List ℕ) (w : Window) (there : hasSummary words w ≡ true) where
-  pub plain-built : plain (built records words w) w ≡ plain words w
+  pub plain-built : plainWords (built records words w) w ≡ plainWords words w
   unfolding built choose
   plain-built =
       let f = has words w there .sizes in
       rw there (plain-is (stored words (wordsBefore (w .sizes)) (summaryOf records words w)) w f ∙ take-stored (wordsBefore (w .sizes)) words (wordsBefore (w .sizes)) (summaryOf records words w) (omega arith) ∙ sym (plain-is words w f))
 
-  pub plain-set : (p : Pos) (state : ℕ) → indexOf w p < cellCount (w .sizes) → plain (setIn records words w p state) w ≡ set (plain words w) (indexOf w p) state
+  pub plain-set : (p : Pos) (state : ℕ) → indexOf w p < cellCount (w .sizes) → plainWords (setIn records words w p state) w ≡ set (plainWords words w) (indexOf w p) state
   plain-set p state h =
       let f = has words w there .sizes in
       let below : indexOf w p < wordsBefore (w .sizes) = omega arith in
@@ -99,7 +99,7 @@ unfolding summaryRefusal agrees choose
 passes records words w k = rw (k .there, every-from (groupCount (w .sizes)) (agreesAt records words w) (λ i h. eq-eqb _ _ (k .fresh i h)))
 
 module _ (records : List ℕ) (shapes : List Float) (words : List ℕ) (w : Window) (rules : Rules) (body : BodyNumbers) (given : MotionNumbers) (age : ℕ) (fall : Fall) where
-  pub tick-plain : Kept records words (withAir w (rules .air)) → lentRefusal records shapes (plain words w) w ≡ 0
-      → fallingChecked records shapes words w rules body given age fall ≡ fallingEntry records shapes (plain words w) w rules body given age fall
+  pub tick-plain : Kept records words (withAir w (rules .air)) → lentRefusal records shapes (plainWords words w) w ≡ 0
+      → fallingChecked records shapes words w rules body given age fall ≡ fallingEntry records shapes (plainWords words w) w rules body given age fall
   unfolding fallingChecked fallingEntry choose
   tick-plain k sound = rw (sound, past-plain records shapes words w rules body given age (passes records words (withAir w (rules .air)) k))

@@ -16,36 +16,36 @@ use Rattle.window.specs.Window.{columnInside, heightInside, cellCount, indexOf}
 use Rattle.window.proofs.Cells.{is-inside, index-below}
 use Rattle.lent.specs.Lent.{lentRefusal}
 use Rattle.groups.specs.Groups.{groupCount}
-use Rattle.groups.specs.Summary.{hasSummary, buildRefusal, built, isInside, setRefusal, afterSet, CellSet, afterSets, agrees}
+use Rattle.groups.specs.Summary.{hasSummary, buildRefusal, built, isInside, setRefusal, afterSet, PlacedSet, afterSets, agrees}
 use Rattle.groups.proofs.Sets.{Kept, built-there, built-fresh, many-sets}
-use Rattle.summary.specs.Calls.{plain}
+use Rattle.summary.specs.Calls.{plainWords}
 use Rattle.step_answers.specs.declared.FallingAnswer.{FallingAnswer}
 use Rattle.falls.specs.Answers.{fallingEntry}
 use Rattle.logs.specs.declared.CellSet.{CellSet as LogSet}
 use Rattle.logs.specs.declared.Event.{Event}
 use Rattle.logs.specs.declared.Event.the-variants as event
-use Rattle.minute_state.specs.Minute.{Lent, windowOf, State, older, stepOn, ended, stepped, ticked, setPlace, changed, eventOn, after, startRefusal, start, minute}
-use Rattle.minute.specs.Separate.{singleStep, setAlone, eventAlone, separately, Equals}
+use Rattle.minute_state.specs.Minute.{MinuteLent, minuteWindow, State, older, stepOn, ended, afterStep, ticked, setPlace, changed, eventOn, after, startRefusal, start, minute}
+use Rattle.minute.specs.Separate.{separateStep, setAlone, eventAlone, separately, Equals}
 use Rattle.minute.proofs.Plain.{plain-built, plain-set, lent-kept, tick-plain}
 
 -- ---- what a run's state and that of separate steps have in common after each event
 
-record Alike (l : Lent) (s t : State) : Type 0 where
+record Alike (l : MinuteLent) (s t : State) : Type 0 where
   motion : s .motion ≡ t .motion
   age : s .age ≡ t .age
   fall : s .fall ≡ t .fall
-  cells : plain (s .words) (windowOf l) ≡ t .words
-  kept : Kept (l .records) (s .words) (windowOf l)
-  sound : lentRefusal (l .records) (l .shapes) (t .words) (windowOf l) ≡ 0
+  cells : plainWords (s .words) (minuteWindow l) ≡ t .words
+  kept : Kept (l .records) (s .words) (minuteWindow l)
+  sound : lentRefusal (l .records) (l .shapes) (t .words) (minuteWindow l) ≡ 0
   lines : s .lines ≡ t .lines
   refusal : s .refusal ≡ t .refusal
 
-module _ (l : Lent) (s t : State) (a : Alike l s t) where
+module _ (l : MinuteLent) (s t : State) (a : Alike l s t) where
   -- ---- a tick
 
-  same-step : stepOn l s ≡ singleStep l t
+  same-step : stepOn l s ≡ separateStep l t
   same-step =
-      let w = windowOf l in
+      let w = minuteWindow l in
       tick-plain (l .records) (l .shapes) (s .words) w (l .rules) (l .body) (s .motion) (s .age) (s .fall) (a .kept) (ap (λ (c : List ℕ). lentRefusal (l .records) (l .shapes) c w) (a .cells) ∙ a .sound)
       ∙ (λ i. fallingEntry (l .records) (l .shapes) (a .cells i) w (l .rules) (l .body) (a .motion i) (a .age i) (a .fall i))
 
@@ -53,7 +53,7 @@ module _ (l : Lent) (s t : State) (a : Alike l s t) where
   unfolding ticked choose
   ticked-alike r = go (eqb (r .step .refusal) 0)
     where
-      go : (b : Bool) → Alike l (choose b (stepped s r) (ended s (r .step .refusal))) (choose b (stepped t r) (ended t (r .step .refusal)))
+      go : (b : Bool) → Alike l (choose b (afterStep s r) (ended s (r .step .refusal))) (choose b (afterStep t r) (ended t (r .step .refusal)))
       go true =
           record {
             motion = refl;
@@ -70,32 +70,32 @@ module _ (l : Lent) (s t : State) (a : Alike l s t) where
   -- ---- a set
 
   module _ (q : LogSet) where
-    one : CellSet
+    one : PlacedSet
     one = record { at = setPlace l q; state = q .state }
 
-    set-kept : Kept (l .records) (afterSet (l .records) (s .words) (windowOf l) (setPlace l q) (q .state)) (windowOf l)
+    set-kept : Kept (l .records) (afterSet (l .records) (s .words) (minuteWindow l) (setPlace l q) (q .state)) (minuteWindow l)
     unfolding afterSets one
-    set-kept = many-sets (l .records) (s .words) (windowOf l) (one ∷ []) (a .kept)
+    set-kept = many-sets (l .records) (s .words) (minuteWindow l) (one ∷ []) (a .kept)
 
-    near : isInside (windowOf l) (setPlace l q) ≡ true → indexOf (windowOf l) (setPlace l q) < cellCount (windowOf l .sizes)
+    near : isInside (minuteWindow l) (setPlace l q) ≡ true → indexOf (minuteWindow l) (setPlace l q) < cellCount (minuteWindow l .sizes)
     near e =
-        let b = both (columnInside (windowOf l) (setPlace l q)) (heightInside (windowOf l) (setPlace l q)) e in
-        index-below (windowOf l) (setPlace l q) (is-inside (windowOf l) (setPlace l q) (b .one) (b .two))
+        let b = both (columnInside (minuteWindow l) (setPlace l q)) (heightInside (minuteWindow l) (setPlace l q)) e in
+        index-below (minuteWindow l) (setPlace l q) (is-inside (minuteWindow l) (setPlace l q) (b .one) (b .two))
 
     set-alike : Alike l (changed l s q) (setAlone l t q)
     unfolding setRefusal afterSet setAlone choose
-    set-alike = go (isInside (windowOf l) (setPlace l q)) refl
+    set-alike = go (isInside (minuteWindow l) (setPlace l q)) refl
       where
-        go : (b : Bool) → isInside (windowOf l) (setPlace l q) ≡ b → Alike l (changed l s q) (setAlone l t q)
+        go : (b : Bool) → isInside (minuteWindow l) (setPlace l q) ≡ b → Alike l (changed l s q) (setAlone l t q)
         go true e =
             let k = set-kept in
             rw (a .kept .there, e) record {
               motion = a .motion;
               age = a .age;
               fall = a .fall;
-              cells = plain-set (l .records) (s .words) (windowOf l) (a .kept .there) (setPlace l q) (q .state) (near e) ∙ ap (λ (c : List ℕ). set c (indexOf (windowOf l) (setPlace l q)) (q .state)) (a .cells);
+              cells = plain-set (l .records) (s .words) (minuteWindow l) (a .kept .there) (setPlace l q) (q .state) (near e) ∙ ap (λ (c : List ℕ). set c (indexOf (minuteWindow l) (setPlace l q)) (q .state)) (a .cells);
               kept = rw (a .kept .there, e) at k;
-              sound = lent-kept (t .words) (windowOf l) (indexOf (windowOf l) (setPlace l q)) (q .state) (near e) (l .records) (l .shapes) ∙ a .sound;
+              sound = lent-kept (t .words) (minuteWindow l) (indexOf (minuteWindow l) (setPlace l q)) (q .state) (near e) (l .records) (l .shapes) ∙ a .sound;
               lines = a .lines;
               refusal = refl;
             }
@@ -108,7 +108,7 @@ module _ (l : Lent) (s t : State) (a : Alike l s t) where
 
 -- ---- any list of events
 
-all-alike : (l : Lent) (es : List Event) (s t : State) → Alike l s t → Alike l (after l s es) (separately l t es)
+all-alike : (l : MinuteLent) (es : List Event) (s t : State) → Alike l s t → Alike l (after l s es) (separately l t es)
 unfolding after separately choose
 all-alike l [] s t a = a
 all-alike l (e ∷ es) s t a =
@@ -123,9 +123,9 @@ all-alike l (e ∷ es) s t a =
 
 -- ---- the start
 
-record Starts (l : Lent) (words : List ℕ) : Type 0 where
-  lent : lentRefusal (l .records) (l .shapes) (plain words (windowOf l)) (windowOf l) ≡ 0
-  there : hasSummary words (windowOf l) ≡ true
+record Starts (l : MinuteLent) (words : List ℕ) : Type 0 where
+  lent : lentRefusal (l .records) (l .shapes) (plainWords words (minuteWindow l)) (minuteWindow l) ≡ 0
+  there : hasSummary words (minuteWindow l) ≡ true
 
 -- 0, or the first of two refusals
 second : (n m : ℕ) → choose (eqb n 0) m n ≡ 0 → (n ≡ 0) × (m ≡ 0)
@@ -141,23 +141,23 @@ unfolding choose
 there-by true h = refl
 there-by false h = let z : _≡_ {A = ℕ} 11 0 = h in absurd (omega arith)
 
-starts : (l : Lent) (words : List ℕ) (given : MotionNumbers) → startRefusal l words given ≡ 0 → Starts l words
+starts : (l : MinuteLent) (words : List ℕ) (given : MotionNumbers) → startRefusal l words given ≡ 0 → Starts l words
 unfolding startRefusal buildRefusal
 starts l words given e =
-    let lent = lentRefusal (l .records) (l .shapes) (plain words (windowOf l)) (windowOf l) in
+    let lent = lentRefusal (l .records) (l .shapes) (plainWords words (minuteWindow l)) (minuteWindow l) in
     let numbers = numberRefusal (l .records) (l .rules) (l .body) given in
-    let a = second lent (choose (eqb numbers 0) (choose (hasSummary words (windowOf l)) 0 11) numbers) e in
-    let b = second numbers (choose (hasSummary words (windowOf l)) 0 11) (a .1) in
-    record { lent = a .0; there = there-by (hasSummary words (windowOf l)) (b .1) }
+    let a = second lent (choose (eqb numbers 0) (choose (hasSummary words (minuteWindow l)) 0 11) numbers) e in
+    let b = second numbers (choose (hasSummary words (minuteWindow l)) 0 11) (a .1) in
+    record { lent = a .0; there = there-by (hasSummary words (minuteWindow l)) (b .1) }
 
 -- the theorem: what a minute that starts leaves, for any list of events
-pub minute-separate : (l : Lent) (words : List ℕ) (given : MotionNumbers) (age : ℕ) (events : List Event) → startRefusal l words given ≡ 0
-    → Equals l (minute l words given age events) (separately l (start given age (plain words (windowOf l)) 0) events)
+pub minute-separate : (l : MinuteLent) (words : List ℕ) (given : MotionNumbers) (age : ℕ) (events : List Event) → startRefusal l words given ≡ 0
+    → Equals l (minute l words given age events) (separately l (start given age (plainWords words (minuteWindow l)) 0) events)
 unfolding minute agrees choose
 minute-separate l words given age events e =
     let b = starts l words given e in
-    let w = windowOf l in
-    let first : Alike l (start given age (built (l .records) words w) 0) (start given age (plain words w) 0) = record {
+    let w = minuteWindow l in
+    let first : Alike l (start given age (built (l .records) words w) 0) (start given age (plainWords words w) 0) = record {
       motion = refl;
       age = refl;
       fall = refl;
@@ -167,7 +167,7 @@ minute-separate l words given age events e =
       lines = refl;
       refusal = refl;
     } in
-    let a = all-alike l events (start given age (built (l .records) words w) 0) (start given age (plain words w) 0) first in
+    let a = all-alike l events (start given age (built (l .records) words w) 0) (start given age (plainWords words w) 0) first in
     rw (eq-eqb (startRefusal l words given) 0 e) record {
       motion = a .motion;
       age = a .age;

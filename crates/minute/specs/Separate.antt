@@ -11,47 +11,47 @@ use Rattle.boxes.specs.declared.Vec3.{Vec3}
 use Rattle.bodies.specs.declared.MotionNumbers.{MotionNumbers}
 use Rattle.window.specs.Window.{indexOf}
 use Rattle.groups.specs.Summary.{isInside, agrees}
-use Rattle.summary.specs.Calls.{plain}
+use Rattle.summary.specs.Calls.{plainWords}
 use Rattle.fall_rule.specs.declared.Fall.{Fall}
 use Rattle.step_answers.specs.declared.FallingAnswer.{FallingAnswer}
 use Rattle.falls.specs.Answers.{fallingEntry}
 use Rattle.logs.specs.declared.CellSet.{CellSet}
 use Rattle.logs.specs.declared.Event.{Event}
 use Rattle.logs.specs.declared.Event.the-variants as event
-use Rattle.minute_state.specs.Minute.{Lent, windowOf, State, older, ended, ticked, setPlace}
+use Rattle.minute_state.specs.Minute.{MinuteLent, minuteWindow, State, older, ended, ticked, setPlace}
 
 -- the words of a state are those of cells and columns here
-abbrev pub singleStep : Lent → State → FallingAnswer
-singleStep l s = fallingEntry (l .records) (l .shapes) (s .words) (windowOf l) (l .rules) (l .body) (s .motion) (s .age) (s .fall)
+abbrev pub separateStep : MinuteLent → State → FallingAnswer
+separateStep l s = fallingEntry (l .records) (l .shapes) (s .words) (minuteWindow l) (l .rules) (l .body) (s .motion) (s .age) (s .fall)
 
 -- "the windows as each set left them"
-unfoldable pub setAlone : Lent → State → CellSet → State
+unfoldable pub setAlone : MinuteLent → State → CellSet → State
 setAlone l s q =
-    choose (isInside (windowOf l) (setPlace l q))
+    choose (isInside (minuteWindow l) (setPlace l q))
     record {
       motion = s .motion;
       age = s .age;
       fall = s .fall;
-      words = set (s .words) (indexOf (windowOf l) (setPlace l q)) (q .state);
+      words = set (s .words) (indexOf (minuteWindow l) (setPlace l q)) (q .state);
       lines = s .lines;
       refusal = 0;
     }
     (ended s 5)
 
-abbrev pub eventAlone : Lent → State → Event → State
-eventAlone l s event.Tick = ticked s (singleStep l s)
+abbrev pub eventAlone : MinuteLent → State → Event → State
+eventAlone l s event.Tick = ticked s (separateStep l s)
 eventAlone l s (event.Set q) = setAlone l s q
 
-unfoldable pub separately : Lent → State → List Event → State
+unfoldable pub separately : MinuteLent → State → List Event → State
 separately l s [] = s
 separately l s (e ∷ es) = choose (eqb (s .refusal) 0) (separately l (eventAlone l s e) es) s
 
 -- "The state after the log equals that of separate steps": all of it but the summary, each of whose words equals the one built afresh
-pub record Equals (l : Lent) (run alone : State) : Type 0 where
+pub record Equals (l : MinuteLent) (run alone : State) : Type 0 where
   pub motion : run .motion ≡ alone .motion
   pub age : run .age ≡ alone .age
   pub fall : run .fall ≡ alone .fall
-  pub cells : plain (run .words) (windowOf l) ≡ alone .words
-  pub summary : agrees (l .records) (run .words) (windowOf l) ≡ true
+  pub cells : plainWords (run .words) (minuteWindow l) ≡ alone .words
+  pub summary : agrees (l .records) (run .words) (minuteWindow l) ≡ true
   pub lines : run .lines ≡ alone .lines
   pub refusal : run .refusal ≡ alone .refusal

@@ -19,7 +19,7 @@ ghost use Rattle.window.specs.Numbers.{withAir};
 ghost use Rattle.groups.specs.Groups.{cellAt};
 ghost use Rattle.groups.specs.Summary.{setRefusal, afterSet};
 ghost use Rattle.logs.specs.Logs.{logWord, eventAt, eventsBy};
-ghost use Rattle.minute_state.specs.Minute.{lentBy, after, startRefusal, minute, numbersOf};
+ghost use Rattle.minute_state.specs.Minute.{lentBy, after, startRefusal, minute, linesAsNumbers};
 ghost use Rattle.minute_state.specs.Turns.{minuteOf, stateOf, stepBy, tickedBy, feetBy, turnedBy, wordsBy, feetAfter};
 
 // One tick, over the words as they now are.
@@ -75,7 +75,7 @@ fn play(
     requires { ⌜ begun .refusal ≡ 0 ⌝ }
     ensures { λ r. ⌜ r ≡ minuteOf (after (lentBy (now (records .entry)) (now (shapes .entry)) w rules body) (stateOf begun (now (words .entry)) []) (listed (eventAt (logWord (now (file .entry)) (log .scene) (log .blocks))) n 0)) ⌝ }
     ensures { λ _. ⌜ now (words .exit) ≡ after (lentBy (now (records .entry)) (now (shapes .entry)) w rules body) (stateOf begun (now (words .entry)) []) (listed (eventAt (logWord (now (file .entry)) (log .scene) (log .blocks))) n 0) .words ⌝ }
-    ensures { λ _. ⌜ now (feet .exit) ≡ stored (now (feet .entry)) 0 (numbersOf (after (lentBy (now (records .entry)) (now (shapes .entry)) w rules body) (stateOf begun (now (words .entry)) []) (listed (eventAt (logWord (now (file .entry)) (log .scene) (log .blocks))) n 0) .lines)) ⌝ }
+    ensures { λ _. ⌜ now (feet .exit) ≡ stored (now (feet .entry)) 0 (linesAsNumbers (after (lentBy (now (records .entry)) (now (shapes .entry)) w rules body) (stateOf begun (now (words .entry)) []) (listed (eventAt (logWord (now (file .entry)) (log .scene) (log .blocks))) n 0) .lines)) ⌝ }
 {
     let mut m = begun;
     let mut i = 0u16;
@@ -120,7 +120,7 @@ pub fn run(
 ) -> Minute
     ensures { λ r. ⌜ r ≡ minuteOf (minute (lentBy (now (records .entry)) (now (shapes .entry)) w rules body) (now (words .entry)) given age (eventsBy (now (file .entry)) log)) ⌝ }
     ensures { λ _. ⌜ now (words .exit) ≡ minute (lentBy (now (records .entry)) (now (shapes .entry)) w rules body) (now (words .entry)) given age (eventsBy (now (file .entry)) log) .words ⌝ }
-    ensures { λ _. ⌜ now (feet .exit) ≡ stored (now (feet .entry)) 0 (numbersOf (minute (lentBy (now (records .entry)) (now (shapes .entry)) w rules body) (now (words .entry)) given age (eventsBy (now (file .entry)) log) .lines)) ⌝ }
+    ensures { λ _. ⌜ now (feet .exit) ≡ stored (now (feet .entry)) 0 (linesAsNumbers (minute (lentBy (now (records .entry)) (now (shapes .entry)) w rules body) (now (words .entry)) given age (eventsBy (now (file .entry)) log) .lines)) ⌝ }
 {
     let refusal = start_refusal(records, shapes, words, w, rules, body, given);
     if refusal != 0 {

@@ -14,7 +14,7 @@ use Rattle.groups.specs.Summary.{setRefusal, afterSet}
 use Rattle.logs.specs.declared.Event.{Event}
 use Rattle.logs.specs.declared.Event.the-variants as event
 use Rattle.minute_state.specs.declared.Minute.{Minute}
-use Rattle.minute_state.specs.Minute.{Lent, windowOf, State, older, setPlace}
+use Rattle.minute_state.specs.Minute.{MinuteLent, minuteWindow, State, older, setPlace}
 
 -- what a state leaves in the program's hands
 abbrev pub minuteOf : State → Minute
@@ -28,18 +28,18 @@ endedWith m n = record { motion = m .motion; age = m .age; fall = m .fall; ticks
 
 -- ---- a tick
 
-abbrev pub stepBy : Lent → List ℕ → Minute → FallingAnswer
-stepBy l words m = fallingChecked (l .records) (l .shapes) words (windowOf l) (l .rules) (l .body) (m .motion) (m .age) (m .fall)
+abbrev pub stepBy : MinuteLent → List ℕ → Minute → FallingAnswer
+stepBy l words m = fallingChecked (l .records) (l .shapes) words (minuteWindow l) (l .rules) (l .body) (m .motion) (m .age) (m .fall)
 
 -- the ticks are counted in 32 bits: past 2^32 - 1, which no log comes near, it is 0
 abbrev pub later : ℕ → ℕ
 later ticks = (ticks + 1) % 4294967296
 
-abbrev pub steppedBy : Minute → FallingAnswer → Minute
-steppedBy m a = record { motion = a .step .motion; age = older (m .age); fall = a .fall; ticks = later (m .ticks); refusal = 0 }
+abbrev pub steppedMinute : Minute → FallingAnswer → Minute
+steppedMinute m a = record { motion = a .step .motion; age = older (m .age); fall = a .fall; ticks = later (m .ticks); refusal = 0 }
 
 unfoldable pub tickedBy : Minute → FallingAnswer → Minute
-tickedBy m a = choose (eqb (a .step .refusal) 0) (steppedBy m a) (endedWith m (a .step .refusal))
+tickedBy m a = choose (eqb (a .step .refusal) 0) (steppedMinute m a) (endedWith m (a .step .refusal))
 
 abbrev pub feetNumbers : Vec3 → List Float
 feetNumbers v = v .x ∷ v .y ∷ v .z ∷ []
@@ -49,14 +49,14 @@ feetBy feet m a = choose (eqb (a .step .refusal) 0) (stored feet (m .ticks * 3) 
 
 -- ---- an event
 
-abbrev pub turnedBy : Lent → List ℕ → Minute → Event → Minute
+abbrev pub turnedBy : MinuteLent → List ℕ → Minute → Event → Minute
 turnedBy l words m event.Tick = tickedBy m (stepBy l words m)
-turnedBy l words m (event.Set q) = endedWith m (setRefusal words (windowOf l) (setPlace l q))
+turnedBy l words m (event.Set q) = endedWith m (setRefusal words (minuteWindow l) (setPlace l q))
 
-abbrev pub wordsBy : Lent → List ℕ → Event → List ℕ
+abbrev pub wordsBy : MinuteLent → List ℕ → Event → List ℕ
 wordsBy l words event.Tick = words
-wordsBy l words (event.Set q) = afterSet (l .records) words (windowOf l) (setPlace l q) (q .state)
+wordsBy l words (event.Set q) = afterSet (l .records) words (minuteWindow l) (setPlace l q) (q .state)
 
-abbrev pub feetAfter : Lent → List ℕ → Minute → List Float → Event → List Float
+abbrev pub feetAfter : MinuteLent → List ℕ → Minute → List Float → Event → List Float
 feetAfter l words m feet event.Tick = feetBy feet m (stepBy l words m)
 feetAfter l words m feet (event.Set q) = feet

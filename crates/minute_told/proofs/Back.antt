@@ -11,7 +11,7 @@ use Rattle.floats.specs.Numbers.{zero64}
 use Rattle.boxes.specs.declared.Vec3.{Vec3}
 use Rattle.boxes.specs.Boxes.{vec}
 use Rattle.minute_state.specs.declared.Minute.{Minute}
-use Rattle.minute_state.specs.Minute.{State, numbersOf}
+use Rattle.minute_state.specs.Minute.{State, linesAsNumbers}
 use Rattle.minute_state.specs.Turns.{minuteOf}
 use Rattle.minute_state.proofs.Turns.{numbers-length}
 use Rattle.text.specs.Cursor.{Put}
@@ -30,22 +30,22 @@ behind-three x y z l i =
     let c : (i + 1) * 3 + 2 ≡ suc (suc (suc (i * 3 + 2))) = omega arith in
     λ k. vec (getD (x ∷ y ∷ z ∷ l) (a k) zero64) (getD (x ∷ y ∷ z ∷ l) (b k) zero64) (getD (x ∷ y ∷ z ∷ l) (c k) zero64)
 
-read-back : (vs : List Vec3) (rest : List Float) → listed (feetAt (numbersOf vs ++ rest)) (length vs) 0 ≡ vs
-unfolding listed numbersOf
+read-back : (vs : List Vec3) (rest : List Float) → listed (feetAt (linesAsNumbers vs ++ rest)) (length vs) 0 ≡ vs
+unfolding listed linesAsNumbers
 read-back [] rest = refl
 read-back (v ∷ vs) rest =
     ap (λ (t : List Vec3). v ∷ t)
-    (listed-shift (feetAt (v .x ∷ v .y ∷ v .z ∷ (numbersOf vs ++ rest))) (feetAt (numbersOf vs ++ rest)) (behind-three (v .x) (v .y) (v .z) (numbersOf vs ++ rest)) (length vs) 0 ∙ read-back vs rest)
+    (listed-shift (feetAt (v .x ∷ v .y ∷ v .z ∷ (linesAsNumbers vs ++ rest))) (feetAt (linesAsNumbers vs ++ rest)) (behind-three (v .x) (v .y) (v .z) (linesAsNumbers vs ++ rest)) (length vs) 0 ∙ read-back vs rest)
 
-pub feet-back : (feet : List Float) (vs : List Vec3) → length vs * 3 ≤ length feet → listed (feetAt (stored feet 0 (numbersOf vs))) (length vs) 0 ≡ vs
+pub feet-back : (feet : List Float) (vs : List Vec3) → length vs * 3 ≤ length feet → listed (feetAt (stored feet 0 (linesAsNumbers vs))) (length vs) 0 ≡ vs
 feet-back feet vs h =
     let n = numbers-length vs in
-    ap (λ (l : List Float). listed (feetAt l) (length vs) 0) (stored-front feet (numbersOf vs) (omega arith)) ∙ read-back vs (drop (length (numbersOf vs)) feet)
+    ap (λ (l : List Float). listed (feetAt l) (length vs) 0) (stored-front feet (linesAsNumbers vs) (omega arith)) ∙ read-back vs (drop (length (linesAsNumbers vs)) feet)
 
 -- ---- what is told of a run is the text of its state
 
 pub printed : (s : State) (feet after : List Float) (m : Minute) {out end : List ℕ} {r : ℕ} → length (s .lines) * 3 ≤ length feet
-    → m ≡ minuteOf s → after ≡ stored feet 0 (numbersOf (s .lines)) → Put out 0 (textBy (listed (feetAt after) (m .ticks) 0) (m .refusal)) end r
+    → m ≡ minuteOf s → after ≡ stored feet 0 (linesAsNumbers (s .lines)) → Put out 0 (textBy (listed (feetAt after) (m .ticks) 0) (m .refusal)) end r
     → Put out 0 (minuteText s) end r
 printed s feet after m h em ea p =
     let back = ap (λ (k : ℕ). listed (feetAt after) k 0) (ap (λ (t : Minute). t .ticks) em)

@@ -10,13 +10,13 @@ ghost use Rattle.base.specs.Loop.{stored};
 ghost use Rattle.bodies.specs.Lent.{motionAt, bodyAt, rulesAt};
 ghost use Rattle.window.specs.Numbers.{windowOf};
 ghost use Rattle.logs.specs.Logs.{eventsBy};
-ghost use Rattle.minute_state.specs.Minute.{lentBy, minute, numbersOf};
+ghost use Rattle.minute_state.specs.Minute.{lentBy, minute, linesAsNumbers};
 ghost use Rattle.minute_state.specs.Turns.{minuteOf};
 ghost use Rattle.minute_told.specs.Numbers.{minuteWritten};
-ghost use Rattle.minutes.specs.Calls.{wholeBody, shortAt, minuteAt};
+ghost use Rattle.minutes.specs.Calls.{wholeMinute, shortAt, minuteAt};
 
-fn whole_body(numbers: &[f64], words: &[u32], places: usize) -> bool
-    ensures { λ r. ⌜ r ≡ wholeBody (now (numbers .entry)) (now (words .entry)) places ⌝ }
+fn whole_minute(numbers: &[f64], words: &[u32], places: usize) -> bool
+    ensures { λ r. ⌜ r ≡ wholeMinute (now (numbers .entry)) (now (words .entry)) places ⌝ }
 {
     bodies::lengths_fit(numbers, words) & (places >= 12)
 }
@@ -43,7 +43,7 @@ fn run_body(
 ) -> Minute
     ensures { λ r. ⌜ r ≡ minuteOf (minute (lentBy (now (records .entry)) (now (shapes .entry)) w (rulesAt (now (numbers .entry)) (now (words .entry))) (bodyAt (now (numbers .entry)) (now (words .entry)))) (now (cells .entry)) (motionAt (now (numbers .entry)) (now (words .entry))) age (eventsBy (now (log .entry)) l)) ⌝ }
     ensures { λ _. ⌜ now (cells .exit) ≡ minute (lentBy (now (records .entry)) (now (shapes .entry)) w (rulesAt (now (numbers .entry)) (now (words .entry))) (bodyAt (now (numbers .entry)) (now (words .entry)))) (now (cells .entry)) (motionAt (now (numbers .entry)) (now (words .entry))) age (eventsBy (now (log .entry)) l) .words ⌝ }
-    ensures { λ _. ⌜ now (feet .exit) ≡ stored (now (feet .entry)) 0 (numbersOf (minute (lentBy (now (records .entry)) (now (shapes .entry)) w (rulesAt (now (numbers .entry)) (now (words .entry))) (bodyAt (now (numbers .entry)) (now (words .entry)))) (now (cells .entry)) (motionAt (now (numbers .entry)) (now (words .entry))) age (eventsBy (now (log .entry)) l) .lines)) ⌝ }
+    ensures { λ _. ⌜ now (feet .exit) ≡ stored (now (feet .entry)) 0 (linesAsNumbers (minute (lentBy (now (records .entry)) (now (shapes .entry)) w (rulesAt (now (numbers .entry)) (now (words .entry))) (bodyAt (now (numbers .entry)) (now (words .entry)))) (now (cells .entry)) (motionAt (now (numbers .entry)) (now (words .entry))) age (eventsBy (now (log .entry)) l) .lines)) ⌝ }
 {
     let rules = bodies::rules_from(numbers, words);
     let body = bodies::body_from(numbers, words);
@@ -63,14 +63,14 @@ pub extern "C" fn boltjuniper_minute(
 ) -> u32
     ensures { λ r. ⌜ r ≡ minuteAt (now (records .entry)) (now (shapes .entry)) (now (cells .entry)) (windowOf ox oy oz sx sy sz lowest highest 0) (now (numbers .entry)) (now (words .entry)) age (now (log .entry)) (length (now (out .entry))) .refusal ⌝ }
     ensures { λ _. ⌜ now (cells .exit) ≡ minuteAt (now (records .entry)) (now (shapes .entry)) (now (cells .entry)) (windowOf ox oy oz sx sy sz lowest highest 0) (now (numbers .entry)) (now (words .entry)) age (now (log .entry)) (length (now (out .entry))) .words ⌝ }
-    ensures { λ _. ⌜ now (feet .exit) ≡ stored (now (feet .entry)) 0 (numbersOf (minuteAt (now (records .entry)) (now (shapes .entry)) (now (cells .entry)) (windowOf ox oy oz sx sy sz lowest highest 0) (now (numbers .entry)) (now (words .entry)) age (now (log .entry)) (length (now (out .entry))) .lines)) ⌝ }
+    ensures { λ _. ⌜ now (feet .exit) ≡ stored (now (feet .entry)) 0 (linesAsNumbers (minuteAt (now (records .entry)) (now (shapes .entry)) (now (cells .entry)) (windowOf ox oy oz sx sy sz lowest highest 0) (now (numbers .entry)) (now (words .entry)) age (now (log .entry)) (length (now (out .entry))) .lines)) ⌝ }
     ensures { λ _. ⌜ now (out .exit) ≡ minuteWritten (now (out .entry)) (minuteOf (minuteAt (now (records .entry)) (now (shapes .entry)) (now (cells .entry)) (windowOf ox oy oz sx sy sz lowest highest 0) (now (numbers .entry)) (now (words .entry)) age (now (log .entry)) (length (now (out .entry))))) ⌝ }
 {
     let w = window::window_of(ox, oy, oz, sx, sy, sz, lowest, highest, 0);
     match logs::log_of(log) {
         Logged::Unfit => 8,
         Logged::Is(l) => {
-            if whole_body(numbers, words, out.len()) {
+            if whole_minute(numbers, words, out.len()) {
                 let m = run_body(records, shapes, cells, w, numbers, words, age, log, l, feet);
                 return minute_told::minute_into(out, m);
             }

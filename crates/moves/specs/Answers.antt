@@ -16,7 +16,7 @@ use Rattle.window.specs.Look.{lookAt}
 use Rattle.lent.specs.Lent.{unless, direct}
 use Rattle.collection.specs.Collect.{collectBlockBoxes, collidesWithBlocks}
 use Rattle.collection.specs.Answers.{heldAsked}
-use Rattle.summary.specs.Calls.{plain, summed}
+use Rattle.summary.specs.Calls.{plainWords, summed}
 use Rattle.moves.specs.declared.HitAnswer.{HitAnswer}
 unfoldable pub use Rattle.through.specs.Through.{moveAabb}
 
@@ -55,8 +55,8 @@ moveEntry cap records shapes cells w aabb delta stepHeight wasOnGround =
 unfoldable pub moveSummed : ℕ → List ℕ → List Float → List ℕ → Window → Aabb → Vec3 → Float → Bool → MoveAnswer
 moveSummed cap records shapes words w aabb delta stepHeight wasOnGround =
     moveAnswer aabb
-    (direct records shapes (plain words w) w
+    (direct records shapes (plainWords words w) w
     (unless (not (isCap cap && isStep stepHeight)) 3
     (unless (not (isBox aabb && isDelta delta)) 4
     (summed records words w
-    (moveAabb (capOf cap) (lookAt (plain words w) w) records shapes aabb delta stepHeight wasOnGround)))))
+    (moveAabb (capOf cap) (lookAt (plainWords words w) w) records shapes aabb delta stepHeight wasOnGround)))))

@@ -1,7 +1,7 @@
 // Module 6 as a host calls it: collection and the move, with all their refusals.
+use base::AskedBool;
 use boxes::Aabb;
 use boxes::Vec3;
-use collection::AskedHit;
 use sweeps::Collected;
 use sweeps::MoveAnswer;
 use sweeps::MoveResult;
@@ -48,8 +48,8 @@ pub fn collides_with_blocks(records: &[u32], shapes: &[f32], cells: &[u32], w: W
     if boxes::is_box(area) {
         let told = collection::collides(records, shapes, cells, w, area);
         return match told {
-            AskedHit::Refused(n) => HitAnswer { refusal: n, hit: false },
-            AskedHit::Is(b) => HitAnswer { refusal: 0, hit: b },
+            AskedBool::Refused(n) => HitAnswer { refusal: n, hit: false },
+            AskedBool::Is(b) => HitAnswer { refusal: 0, hit: b },
         };
     }
     HitAnswer { refusal: 4, hit: false }

@@ -27,8 +27,8 @@ use Rattle.falls.proofs.Laws.{checked-alike}
 use Rattle.night_rows.specs.declared.WindowRow.{WindowRow}
 use Rattle.night_rows.specs.Rows.{Row, windowAt, isWhole, namedIn, ageIn, givenIn, bodyIn, rulesIn, fallIn}
 use Rattle.base.proofs.Listed.{listed-at}
-use Rattle.night_windows.specs.Windows.{cellsIn, isThere, isSummed, ownRefusal, refusalAt, checkedAt, stepWords}
-use Rattle.night_answers.specs.Answers.{Lent, refusedBody, singleStep, checkedStep, lateBody, wrongStep, answerBy, answerOf}
+use Rattle.night_windows.specs.Windows.{cellsIn, isThere, isSummed, ownRefusal, refusalAt, refusalWithin, stepWords}
+use Rattle.night_answers.specs.Answers.{NightLent, refusedBody, singleStep, checkedStep, lateBody, wrongStep, rowAnswerBy, rowAnswer}
 
 -- ---- what the checks of all windows say of the one that is named
 
@@ -38,20 +38,20 @@ unfolding choose
 alike {A} w true m n step wrong ten three e = ap (λ (k : ℕ). choose w (choose (eqb k 0) step (wrong k)) three) (e tt)
 alike w false m n step wrong ten three e = refl
 
-named-check : (records windows cells checked : List ℕ) (count j : ℕ) → count ≤ 16 → checked ≡ listed (checkedAt records windows cells count) 16 0 → j < count
+named-check : (records windows cells checked : List ℕ) (count j : ℕ) → count ≤ 16 → checked ≡ listed (refusalWithin records windows cells count) 16 0 → j < count
     → getD checked j 2 ≡ refusalAt records windows cells j
-unfolding checkedAt choose
+unfolding refusalWithin choose
 named-check records windows cells checked count j few e h =
-    let f : ℕ → ℕ = checkedAt records windows cells count in
+    let f : ℕ → ℕ = refusalWithin records windows cells count in
     let inside : j < 16 = omega arith in
     ap (λ (l : List ℕ). getD l j 2) e
     ∙ listed-at f 16 0 j 2 inside
     ∙ ap f (zero-add j)
     ∙ ap (λ (b : Bool). choose b (refusalAt records windows cells j) 2) (lt-ltb j count h)
 
-pub by-check : (lent : Lent) (row : Row) (checked : List ℕ) → lent .count ≤ 16 → checked ≡ listed (checkedAt (lent .records) (lent .windows) (lent .cells) (lent .count)) 16 0
-    → answerBy (getD checked (namedIn row) 2) lent row ≡ answerOf lent row
-unfolding answerBy
+pub by-check : (lent : NightLent) (row : Row) (checked : List ℕ) → lent .count ≤ 16 → checked ≡ listed (refusalWithin (lent .records) (lent .windows) (lent .cells) (lent .count)) 16 0
+    → rowAnswerBy (getD checked (namedIn row) 2) lent row ≡ rowAnswer lent row
+unfolding rowAnswerBy
 by-check lent row checked few e =
     alike (isWhole row) (ltb (namedIn row) (lent .count)) (getD checked (namedIn row) 2) (refusalAt (lent .records) (lent .windows) (lent .cells) (namedIn row))
     (checkedStep (lent .records) (lent .shapes) (lent .cells) (windowAt (lent .windows) (namedIn row)) row)
@@ -61,20 +61,20 @@ by-check lent row checked few e =
 -- ---- what each body's answer is
 
 -- a row that is there whole, and names a window whose row and words are, those of cells and columns alone
-pub record Named (lent : Lent) (row : Row) : Type 0 where
+pub record Named (lent : NightLent) (row : Row) : Type 0 where
   pub whole : isWhole row ≡ true
   pub window : namedIn row < lent .count
   pub there : isThere (lent .windows) (lent .cells) (namedIn row) ≡ true
   pub alone : isSummed (cellsIn (lent .cells) (windowAt (lent .windows) (namedIn row))) (windowAt (lent .windows) (namedIn row) .window) ≡ false
 
 -- the same with a summary behind them
-pub record NamedSummed (lent : Lent) (row : Row) : Type 0 where
+pub record NamedSummed (lent : NightLent) (row : Row) : Type 0 where
   pub whole : isWhole row ≡ true
   pub window : namedIn row < lent .count
   pub there : isThere (lent .windows) (lent .cells) (namedIn row) ≡ true
   pub summed : isSummed (cellsIn (lent .cells) (windowAt (lent .windows) (namedIn row))) (windowAt (lent .windows) (namedIn row) .window) ≡ true
 
-module _ (lent : Lent) (row : Row) where
+module _ (lent : NightLent) (row : Row) where
   abbrev pub named : WindowRow
   named = windowAt (lent .windows) (namedIn row)
 
@@ -89,8 +89,8 @@ module _ (lent : Lent) (row : Row) where
 
   -- by the check of the words
   pub answered : isWhole row ≡ true → namedIn row < lent .count → isThere (lent .windows) (lent .cells) (namedIn row) ≡ true
-      → answerOf lent row ≡ choose (eqb check 0) (checkedStep (lent .records) (lent .shapes) (lent .cells) named row) (wrongStep check (lent .records) (lent .shapes) (lent .cells) named row)
-  unfolding answerBy refusalAt choose
+      → rowAnswer lent row ≡ choose (eqb check 0) (checkedStep (lent .records) (lent .shapes) (lent .cells) named row) (wrongStep check (lent .records) (lent .shapes) (lent .cells) named row)
+  unfolding rowAnswerBy refusalAt choose
   answered whole window there = rw (whole, lt-ltb (namedIn row) (lent .count) window, there)
 
   abbrev pub entry : List ℕ → FallingAnswer
@@ -115,7 +115,7 @@ module _ (lent : Lent) (row : Row) where
     over cells e = checked-alike (lent .records) (lent .shapes) cells w (rulesIn row) (bodyIn row) (givenIn row) (ageIn row) (fallIn row) (passes cells e)
 
     -- over tables that pass: the single step's answer, its 2 included
-    pub single : Named lent row → answerOf lent row ≡ singleStep (lent .records) (lent .shapes) (lent .cells) (windowAt (lent .windows) (namedIn row)) row
+    pub single : Named lent row → rowAnswer lent row ≡ singleStep (lent .records) (lent .shapes) (lent .cells) (windowAt (lent .windows) (namedIn row)) row
     unfolding ownRefusal windowRefusal checkedStep stepWords wrongStep choose
     single k = answered (k .whole) (k .window) (k .there) ∙ go (windowFits own w) refl
       where
@@ -128,19 +128,19 @@ module _ (lent : Lent) (row : Row) where
             two-is e z = let q : _≡_ {A = ℕ} 2 0 = rw e at z in omega arith
 
   -- a row that is not there whole: 3, whatever else is wrong
-  pub not-whole : isWhole row ≡ false → answerOf lent row ≡ refusedBody 3 row
-  unfolding answerBy choose
+  pub not-whole : isWhole row ≡ false → rowAnswer lent row ≡ refusedBody 3 row
+  unfolding rowAnswerBy choose
   not-whole short = rw short
 
   -- no window of that number: 10, whatever is wrong with the body
-  pub no-window : isWhole row ≡ true → lent .count ≤ namedIn row → answerOf lent row ≡ refusedBody 10 row
-  unfolding answerBy choose
+  pub no-window : isWhole row ≡ true → lent .count ≤ namedIn row → rowAnswer lent row ≡ refusedBody 10 row
+  unfolding rowAnswerBy choose
   no-window whole none = rw (whole, le-ltb (namedIn row) (lent .count) none)
 
   -- a window whose row or words are not there: 2, whatever is wrong with the body
   pub not-there : isWhole row ≡ true → namedIn row < lent .count → isThere (lent .windows) (lent .cells) (namedIn row) ≡ false
-      → answerOf lent row ≡ refusedBody 2 row
-  unfolding answerBy refusalAt wrongStep choose
+      → rowAnswer lent row ≡ refusedBody 2 row
+  unfolding rowAnswerBy refusalAt wrongStep choose
   not-there whole named short = rw (whole, lt-ltb (namedIn row) (lent .count) named, short)
 
 -- ---- a refused body's motion and fall record are those given, its liquid none, and no sample told
@@ -178,8 +178,8 @@ unfolding wrongStep
 wrong-back row n records shapes cells w =
     chosen-back row _ _ _ (chosen-back row _ _ _ (late-back row records) (any-step-back row records shapes cells w)) (refused-back row 2)
 
-pub hands-back : (lent : Lent) (row : Row) → HandsBack row (answerOf lent row)
-unfolding answerBy
+pub hands-back : (lent : NightLent) (row : Row) → HandsBack row (rowAnswer lent row)
+unfolding rowAnswerBy
 hands-back lent row =
     let w : WindowRow = windowAt (lent .windows) (namedIn row) in
     chosen-back row _ _ _

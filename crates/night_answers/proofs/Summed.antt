@@ -19,7 +19,7 @@ use Rattle.lent.specs.Lent.{unless, sound, lentRefusal}
 use Rattle.groups.specs.Groups.{groupCount}
 use Rattle.groups.specs.Summary.{wordsBefore, hasSummary, agrees, summaryRefusal}
 use Rattle.groups.proofs.Sets.{Has, has}
-use Rattle.summary.specs.Calls.{plain}
+use Rattle.summary.specs.Calls.{plainWords}
 use Rattle.bodies.specs.Limits.{numberRefusal}
 use Rattle.step_answers.specs.declared.Tick.{Tick}
 use Rattle.step.specs.Answers.{stepAnswer, checkedAsked, fitting, summedAsked}
@@ -30,10 +30,10 @@ use Rattle.falls.specs.Answers.{withFall, fallingChecked, fallingEntry, falling
 use Rattle.falls.proofs.Laws.{summed-alike}
 use Rattle.night_rows.specs.Rows.{Row, ageIn, givenIn, bodyIn, rulesIn, fallIn}
 use Rattle.night_windows.specs.Windows.{front, lastIn, isSummed, ownRefusal, stepWords}
-use Rattle.night_answers.specs.Answers.{Lent, refusedBody, checkedStep, lateBody, wrongStep, answerOf}
+use Rattle.night_answers.specs.Answers.{NightLent, refusedBody, checkedStep, lateBody, wrongStep, rowAnswer}
 use Rattle.night_answers.proofs.Bodies.{NamedSummed, named, own, w, check, answered, entry, passes, two, over}
 
-module _ (lent : Lent) (row : Row) (k : NamedSummed lent row) (sound-tables : tableRefusal (lent .records) (lent .shapes) ≡ 0) where
+module _ (lent : NightLent) (row : Row) (k : NamedSummed lent row) (sound-tables : tableRefusal (lent .records) (lent .shapes) ≡ 0) where
   abbrev mine : List ℕ
   mine = own lent row
 
@@ -55,8 +55,8 @@ module _ (lent : Lent) (row : Row) (k : NamedSummed lent row) (sound-tables : ta
   front-long : length (front mine) ≡ length mine - 1
   front-long = length-take-le (length mine - 1) mine (omega arith)
 
-  front-plain : plain (front mine) at ≡ plain mine at
-  unfolding plain choose
+  front-plain : plainWords (front mine) at ≡ plainWords mine at
+  unfolding plainWords choose
   front-plain =
       let h = has (front mine) at there in
       let l = h .long in
@@ -65,7 +65,7 @@ module _ (lent : Lent) (row : Row) (k : NamedSummed lent row) (sound-tables : ta
 
   -- ---- what the check says, by the cells and columns and by the words of the summary
   abbrev cells : List ℕ
-  cells = plain mine at
+  cells = plainWords mine at
 
   check-2 : windowFits cells at ≡ false → check lent row ≡ 2
   unfolding ownRefusal windowRefusal choose
@@ -93,7 +93,7 @@ module _ (lent : Lent) (row : Row) (k : NamedSummed lent row) (sound-tables : ta
     unfolding checkedStep stepWords choose
     stepped e = rw (k .summed, ne-eqb (lastIn mine) air other) (over lent row sound-tables cells (fine e))
 
-    pub by-cells : answerOf lent row ≡ entry lent row cells
+    pub by-cells : rowAnswer lent row ≡ entry lent row cells
     unfolding wrongStep choose
     by-cells = answered lent row (k .whole) (k .window) (k .there) ∙ go (windowFits cells at) (agrees (lent .records) (front mine) (withAir at (lastIn mine))) refl refl
       where
@@ -122,10 +122,10 @@ module _ (lent : Lent) (row : Row) (k : NamedSummed lent row) (sound-tables : ta
         (ap (λ (ask : Ask Tick). withFall (fallIn row) (givenIn row) (stepAnswer (givenIn row) (unless (not (fallFits (fallIn row))) 3 ask))) (past-plain (lent .records) (lent .shapes) (front mine) at (rulesIn row) (bodyIn row) (givenIn row) (ageIn row) h)
         ∙ sym whole)
       where
-        lent-0 : lentRefusal (lent .records) (lent .shapes) (plain (front mine) at) at ≡ 0
+        lent-0 : lentRefusal (lent .records) (lent .shapes) (plainWords (front mine) at) at ≡ 0
         lent-0 = ap (λ (l : List ℕ). lentRefusal (lent .records) (lent .shapes) l at) front-plain ∙ passes lent row sound-tables cells (fine e)
 
-        whole : over-summary ≡ withFall (fallIn row) (givenIn row) (stepAnswer (givenIn row) (unless (not (fallFits (fallIn row))) 3 (checkedAsked (lent .records) (lent .shapes) (plain (front mine) at) at (rulesIn row) (bodyIn row) (givenIn row) (ageIn row))))
+        whole : over-summary ≡ withFall (fallIn row) (givenIn row) (stepAnswer (givenIn row) (unless (not (fallFits (fallIn row))) 3 (checkedAsked (lent .records) (lent .shapes) (plainWords (front mine) at) at (rulesIn row) (bodyIn row) (givenIn row) (ageIn row))))
         whole = summed-alike (lent .records) (lent .shapes) (front mine) at (rulesIn row) (bodyIn row) (givenIn row) (ageIn row) (fallIn row) h ∙ (rw lent-0)
 
     -- it does not: 13, after the body's own 3 and 4
@@ -151,7 +151,7 @@ module _ (lent : Lent) (row : Row) (k : NamedSummed lent row) (sound-tables : ta
     unfolding fallingSummed lentRefusal windowRefusal withFall choose
     no-window e = rw (front-plain, sound-tables, e)
 
-    pub by-summary : answerOf lent row ≡ over-summary
+    pub by-summary : rowAnswer lent row ≡ over-summary
     unfolding wrongStep choose
     by-summary = answered lent row (k .whole) (k .window) (k .there) ∙ go (windowFits cells at) (agrees (lent .records) (front mine) (withAir at (lastIn mine))) refl refl
       where

@@ -14,14 +14,14 @@ use Rattle.night_rows.specs.Rows.{Row, windowAt, isWhole, namedIn, ageIn, given
 use Rattle.night_windows.specs.Windows.{cellsIn, lastIn, refusalAt, stepWords}
 
 -- what all bodies share: the tables, and so many windows, in rows, over the words of all of them
-pub record Lent : Type 0 where
+pub record NightLent : Type 0 where
   pub records : List ℕ
   pub shapes : List Float
   pub windows : List ℕ
   pub count : ℕ
   pub cells : List ℕ
 
-abbrev pub lentWith : List ℕ → List Float → List ℕ → ℕ → List ℕ → Lent
+abbrev pub lentWith : List ℕ → List Float → List ℕ → ℕ → List ℕ → NightLent
 lentWith records shapes windows count cells =
     record { records = records; shapes = shapes; windows = windows; count = count; cells = cells }
 
@@ -56,8 +56,8 @@ wrongStep refusal records shapes cells w row =
     (refusedBody 2 row)
 
 -- by what its window's check said
-unfoldable pub answerBy : ℕ → Lent → Row → FallingAnswer
-answerBy refusal lent row =
+unfoldable pub rowAnswerBy : ℕ → NightLent → Row → FallingAnswer
+rowAnswerBy refusal lent row =
     choose (isWhole row)
     (choose (ltb (namedIn row) (lent .count))
     (choose (eqb refusal 0) (checkedStep (lent .records) (lent .shapes) (lent .cells) (windowAt (lent .windows) (namedIn row)) row)
@@ -65,5 +65,5 @@ answerBy refusal lent row =
     (refusedBody 10 row))
     (refusedBody 3 row)
 
-abbrev pub answerOf : Lent → Row → FallingAnswer
-answerOf lent row = answerBy (refusalAt (lent .records) (lent .windows) (lent .cells) (namedIn row)) lent row
+abbrev pub rowAnswer : NightLent → Row → FallingAnswer
+rowAnswer lent row = rowAnswerBy (refusalAt (lent .records) (lent .windows) (lent .cells) (namedIn row)) lent row

@@ -17,7 +17,7 @@ ghost use mathlib.Core.Path.{_≡_};
 ghost use lib.ListN.{getD};
 ghost use Rattle.tables.specs.Tables.{wordAt};
 ghost use Rattle.night_rows.specs.Rows.{rowWith};
-ghost use Rattle.night_answers.specs.Answers.{lentWith, refusedBody, checkedStep, lateBody, wrongStep, answerBy};
+ghost use Rattle.night_answers.specs.Answers.{lentWith, refusedBody, checkedStep, lateBody, wrongStep, rowAnswerBy};
 
 // A refused body: its motion and fall record as given.
 fn refused_body(older: bool, refusal: u32, numbers: &[f64], words: &[u32]) -> FallingAnswer
@@ -111,7 +111,7 @@ fn wrong_step(
 }
 
 // 3, then 10, then 2, then what the step gives.
-pub fn answer_of(
+pub fn row_answer(
     older: bool,
     records: &[u32],
     shapes: &[f32],
@@ -122,7 +122,7 @@ pub fn answer_of(
     numbers: &[f64],
     words: &[u32],
 ) -> FallingAnswer
-    ensures { λ r. ⌜ r ≡ answerBy (getD (now (checked .entry)) (wordAt (now (words .entry)) 0 0) 2) (lentWith (now (records .entry)) (now (shapes .entry)) (now (windows .entry)) count (now (cells .entry))) (rowWith older (now (numbers .entry)) (now (words .entry))) ⌝ }
+    ensures { λ r. ⌜ r ≡ rowAnswerBy (getD (now (checked .entry)) (wordAt (now (words .entry)) 0 0) 2) (lentWith (now (records .entry)) (now (shapes .entry)) (now (windows .entry)) count (now (cells .entry))) (rowWith older (now (numbers .entry)) (now (words .entry))) ⌝ }
 {
     if is_whole(older, numbers, words) {
         let named = tables::word(words, 0, 0);

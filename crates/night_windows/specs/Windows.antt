@@ -9,7 +9,7 @@ use Rattle.window.specs.declared.Window.{Window}
 use Rattle.window.specs.Window.{windowRefusal}
 use Rattle.window.specs.Numbers.{withAir}
 use Rattle.groups.specs.Summary.{hasSummary, summaryRefusal}
-use Rattle.summary.specs.Calls.{plain}
+use Rattle.summary.specs.Calls.{plainWords}
 use Rattle.night_rows.specs.declared.WindowRow.{WindowRow}
 use Rattle.night_rows.specs.Rows.{rowOf, windowWidth, windowAt}
 
@@ -37,7 +37,7 @@ isSummed own w = hasSummary (front own) w
 unfoldable pub ownRefusal : List ℕ → List ℕ → Window → ℕ
 ownRefusal records own w =
     choose (isSummed own w)
-    (choose (eqb (windowRefusal (plain own w) w) 0) (summaryRefusal records (front own) (withAir w (lastIn own))) 2)
+    (choose (eqb (windowRefusal (plainWords own w) w) 0) (summaryRefusal records (front own) (withAir w (lastIn own))) 2)
     (windowRefusal own w)
 
 unfoldable pub refusalAt : List ℕ → List ℕ → List ℕ → ℕ → ℕ
@@ -45,9 +45,9 @@ refusalAt records windows cells j =
     choose (isThere windows cells j) (ownRefusal records (cellsIn cells (windowAt windows j)) (windowAt windows j .window)) 2
 
 -- the same of the first so many; nothing names a window beyond them
-unfoldable pub checkedAt : List ℕ → List ℕ → List ℕ → ℕ → ℕ → ℕ
-checkedAt records windows cells count j = choose (ltb j count) (refusalAt records windows cells j) 2
+unfoldable pub refusalWithin : List ℕ → List ℕ → List ℕ → ℕ → ℕ → ℕ
+refusalWithin records windows cells count j = choose (ltb j count) (refusalAt records windows cells j) 2
 
 -- a body of the summary's air state goes by it; one that names another is stepped over cells and columns
 unfoldable pub stepWords : List ℕ → Window → ℕ → List ℕ
-stepWords own w air = choose (isSummed own w) (choose (eqb (lastIn own) air) (front own) (plain own w)) own
+stepWords own w air = choose (isSummed own w) (choose (eqb (lastIn own) air) (front own) (plainWords own w)) own

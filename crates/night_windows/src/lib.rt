@@ -8,7 +8,7 @@ use night_rows::words_from;
 use window::Window;
 ghost use mathlib.Core.Path.{_≡_};
 ghost use Rattle.base.specs.Loop.{listed};
-ghost use Rattle.night_windows.specs.Windows.{cellsIn, front, lastIn, isSummed, ownRefusal, refusalAt, checkedAt, stepWords};
+ghost use Rattle.night_windows.specs.Windows.{cellsIn, front, lastIn, isSummed, ownRefusal, refusalAt, refusalWithin, stepWords};
 
 // A window's own words, of all that are lent.
 pub fn cells_in(cells: &[u32], row: WindowRow) -> &[u32]
@@ -76,8 +76,8 @@ fn refusal_at(records: &[u32], windows: &[u32], cells: &[u32], j: u32) -> u32
 }
 
 // The same for a window that is one of so many; 2 beyond them.
-fn checked_at(records: &[u32], windows: &[u32], count: u32, cells: &[u32], j: u32) -> u32
-    ensures { λ r. ⌜ r ≡ checkedAt (now (records .entry)) (now (windows .entry)) (now (cells .entry)) count j ⌝ }
+fn refusal_within(records: &[u32], windows: &[u32], count: u32, cells: &[u32], j: u32) -> u32
+    ensures { λ r. ⌜ r ≡ refusalWithin (now (records .entry)) (now (windows .entry)) (now (cells .entry)) count j ⌝ }
 {
     if j < count {
         return refusal_at(records, windows, cells, j);
@@ -87,12 +87,12 @@ fn checked_at(records: &[u32], windows: &[u32], count: u32, cells: &[u32], j: u3
 
 // Each window checked, once for all bodies.
 pub fn check_all(records: &[u32], windows: &[u32], count: u32, cells: &[u32]) -> [u32; 16]
-    ensures { λ r. ⌜ r ≡ listed (checkedAt (now (records .entry)) (now (windows .entry)) (now (cells .entry)) count) 16 0 ⌝ }
+    ensures { λ r. ⌜ r ≡ listed (refusalWithin (now (records .entry)) (now (windows .entry)) (now (cells .entry)) count) 16 0 ⌝ }
 {
     let mut checked = [2; 16];
     let mut j = 0u32;
     while j < 16 {
-        checked[j as usize] = checked_at(records, windows, count, cells, j);
+        checked[j as usize] = refusal_within(records, windows, count, cells, j);
         j += 1;
     }
     checked

@@ -16,7 +16,7 @@ use Rattle.sweeps.specs.Lists.{room, listOf, noBox}
 use Rattle.grid.specs.Grid.{isFree}
 use Rattle.grid.proofs.OverList.{taken-over}
 use Rattle.off_grid.specs.Scaled.{slack, tightUnits, tightSlack, isSlight}
-use Rattle.off_grid.specs.Demand.{boxF64, ListDemand}
+use Rattle.off_grid.specs.Demand.{boxF64, BoundedListDemand}
 use Rattle.off_grid.proofs.Axis.{unit, All}
 use Rattle.off_grid.proofs.Passes.{BoxIn, box-widen, box-real, Clear, free-clear}
 use Rattle.off_grid.proofs.Starts.{one, box-in, mover, from-start, tight, loose}
@@ -37,7 +37,7 @@ all-clear r a [] A B t = tt
 all-clear r a (b ∷ bs) A B t =
     (free-clear a b (box-real A) (box-real (B .0)) (and-l (not (overlap a b)) (isFree a bs) t), all-clear r a bs A (B .1) (and-r (not (overlap a b)) (isFree a bs) t))
 
-within-bound : (k : ℕ) → 3 * unit ≤ k → ListDemand (pos k)
+within-bound : (k : ℕ) → 3 * unit ≤ k → BoundedListDemand (pos k)
 within-bound k K cap list a d h ground L F free e b m =
     let t = taken-over cap list a d h ground e in
     let M = mover a d h F (t .box) (t .delta) (t .step) in
@@ -46,8 +46,8 @@ within-bound k K cap list a d h ground L F free e b m =
     (from-start k K (listOf list) a d h ground record { mover = M; boxes = B; free = all-clear (67108868 * one) a (listOf list) (M .box) B free } b m)
 
 -- "by at most 2^-26", and three quarters of it
-pub off-grid-accepted : ListDemand slack
+pub off-grid-accepted : BoundedListDemand slack
 off-grid-accepted = within-bound (2 ^ 1048) loose
 
-pub off-grid-accepted-tight : ListDemand tightSlack
+pub off-grid-accepted-tight : BoundedListDemand tightSlack
 off-grid-accepted-tight = within-bound tightUnits tight

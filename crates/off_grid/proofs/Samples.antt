@@ -55,5 +55,5 @@ pub record Fair : Type 0 where
   pub reach : S.reachOn (after .min .y) (after .max .y) (floor .min .y) (floor .max .y) ≡ pos (2 ^ 1019)
 
 pub falling-fair : Fair
-unfolding C.choose LS.isCap LS.capOf N.sizeOf L.areBoxes M.clipAll M.clipSequence M.steppedUp M.moveOver E.moveOverList G.isFree S.scaled I.fits I.ofBits I.round I.add I.sub I.mul I.div I.neg I.lt I.le I.eq I.ne
+unfolding C.choose LS.isCap LS.capOf N.sizeOf L.areBoxes M.clipAll M.clipSequence M.steppedUp M.moveOver E.moveOverList G.isFree S.floatUnits I.fits I.ofBits I.round I.add I.sub I.mul I.div I.neg I.lt I.le I.eq I.ne
 falling-fair = record { typed = record { box = tt; way = tt; step = tt }; free = tt; accepted = refl; inside = refl; reach = refl }

@@ -11,7 +11,8 @@ use lib.Ieee.{Float, nan, inf, fin}
 use Rattle.base.specs.Choose.{choose}
 use Rattle.base.proofs.Differences.{subℕ-pos, subℕ-neg, subℕ-sub, subℕ-lt, subℕ-leZ}
 use Rattle.boxes.specs.declared.Aabb.{Aabb}
-use Rattle.off_grid.specs.Scaled.{scaled, leastZ, reachOn, slightAxes, isSlight}
+use Rattle.grid.specs.Exact.{leastZ}
+use Rattle.off_grid.specs.Scaled.{floatUnits, reachOn, slightAxes, isSlight}
 use Rattle.base.proofs.Scaled.{scaledSize, over, under}
 use Rattle.off_grid.proofs.Axis.{unit, Short, before, beyond}
 use Rattle.off_grid.proofs.Passes.{ShortX, ShortY, ShortZ, Clear, onX, onY, onZ}
@@ -24,17 +25,17 @@ turned : (k : ℕ) → negℤ (pos k) ≡ subℕ 0 k
 turned zero = refl
 turned (suc k) = sym (subℕ-neg 0 (suc k) k (omega arith))
 
-pub scaled-is : (x : Float) → scaled x ≡ subℕ (over x) (under x)
-unfolding scaled over under scaledSize
+pub scaled-is : (x : Float) → floatUnits x ≡ subℕ (over x) (under x)
+unfolding floatUnits over under scaledSize
 scaled-is nan = refl
 scaled-is (inf false) = straight (scaledSize (inf false))
 scaled-is (inf true) = turned (scaledSize (inf true))
 scaled-is (fin false m e) = straight (scaledSize (fin false m e))
 scaled-is (fin true m e) = turned (scaledSize (fin true m e))
 
-difference : (x y : Float) → scaled x -ℤ scaled y ≡ subℕ (over x + under y) (under x + over y)
+difference : (x y : Float) → floatUnits x -ℤ floatUnits y ≡ subℕ (over x + under y) (under x + over y)
 difference x y =
-    ap (λ (z : ℤ). z -ℤ scaled y) (scaled-is x) ∙ ap (λ (z : ℤ). subℕ (over x) (under x) -ℤ z) (scaled-is y) ∙ subℕ-sub (over x) (under x) (over y) (under y)
+    ap (λ (z : ℤ). z -ℤ floatUnits y) (scaled-is x) ∙ ap (λ (z : ℤ). subℕ (over x) (under x) -ℤ z) (scaled-is y) ∙ subℕ-sub (over x) (under x) (over y) (under y)
 
 -- the smaller of two is at most k where one of them is
 at-most : (p n k : ℕ) → p ≤ n + k → T (leZ (subℕ p n) (pos k))
@@ -60,7 +61,7 @@ module _ (k : ℕ) (K : 3 * unit ≤ k) where
 
     short-reach : Short lo hi from to (3 * unit) (3 * unit) → T (leZ (reachOn from to lo hi) (pos k))
     short-reach s =
-        subst (λ (z : ℤ). T (leZ (leastZ z (scaled hi -ℤ scaled from)) (pos k))) (sym (difference to lo))
+        subst (λ (z : ℤ). T (leZ (leastZ z (floatUnits hi -ℤ floatUnits from)) (pos k))) (sym (difference to lo))
         (subst (λ (z : ℤ). T (leZ (leastZ (subℕ (over to + under lo) (under to + over lo)) z) (pos k))) (sym (difference hi from))
         (least-most (over to + under lo) (under to + over lo) (over hi + under from) (under hi + over from) k (ends s)))
 

@@ -33,8 +33,8 @@ pub record TypedList (list : BoxList) : Type 0 where
   pub boxes : (i : ℕ) → i < room → T (boxF64 (getD (list .boxes) i noBox))
 
 -- ---- the demand, for a bound
-abbrev pub ListDemand : ℤ → Type 0
-ListDemand bound =
+abbrev pub BoundedListDemand : ℤ → Type 0
+BoundedListDemand bound =
     (cap : ℕ) (list : BoxList) (aabb : Aabb) (delta : Vec3) (stepHeight : Float) (wasOnGround : Bool)
     → TypedList list → TypedMove aabb delta stepHeight
     → T (isFree aabb (listOf list))

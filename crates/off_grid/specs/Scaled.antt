@@ -3,18 +3,19 @@ use mathlib.Core.Bool.{Bool}
 use Prim.Native.Nat.{ℕ, _+_, _*_, _/_, _^_}
 use lib.Dec.{leb}
 use lib.IntN.{ℤ, pos, _-ℤ_}
-use lib.Signed.{ltZ, leZ}
+use lib.Signed.{leZ}
 use lib.Ieee.{Float, nan, inf, fin, up, down}
 use Rattle.base.specs.Choose.{choose}
 use Rattle.wholes.specs.Whole.{signedOf}
 use Rattle.boxes.specs.declared.Aabb.{Aabb}
+use Rattle.grid.specs.Exact.{leastZ}
 
 -- How many times 2 ^ -1074 it is: that is the smallest f64 above 0, so every finite f64 is a whole number of them. An infinity has no value; it counts
 -- as 2 ^ 1024, which is past every f64, so that the order is the floats' own.
-unfoldable pub scaled : Float → ℤ
-scaled nan = pos 0
-scaled (inf s) = signedOf s (2 ^ 2098)
-scaled (fin s m e) = signedOf s (m * up e * 2 ^ 1074 / down e)
+unfoldable pub floatUnits : Float → ℤ
+floatUnits nan = pos 0
+floatUnits (inf s) = signedOf s (2 ^ 2098)
+floatUnits (fin s m e) = signedOf s (m * up e * 2 ^ 1074 / down e)
 
 -- 2 ^ -26, scaled: "at most 2^-26"
 abbrev pub slack : ℤ
@@ -27,12 +28,9 @@ tightUnits = 3 * 2 ^ 1046
 abbrev pub tightSlack : ℤ
 tightSlack = pos tightUnits
 
-abbrev pub leastZ : ℤ → ℤ → ℤ
-leastZ a b = choose (ltZ b a) b a
-
 -- on one axis, of a box from al to ah and a block from bl to bh: "the smaller of final greatest less block least, and block greatest less final least"
 abbrev pub reachOn : Float → Float → Float → Float → ℤ
-reachOn al ah bl bh = leastZ (scaled ah -ℤ scaled bl) (scaled bh -ℤ scaled al)
+reachOn al ah bl bh = leastZ (floatUnits ah -ℤ floatUnits bl) (floatUnits bh -ℤ floatUnits al)
 
 -- 1 where that is at most a bound
 abbrev pub slightOn : ℤ → Float → Float → Float → Float → ℕ

@@ -53,7 +53,7 @@ all-at (x ∷ l) t zero = and-l (I.fits I.binary32 x) (allFit l) t
 all-at (x ∷ l) t (suc i) = all-at l (and-r (I.fits I.binary32 x) (allFit l) t) i
 
 all-fit : T (allFit H.paletteShapes)
-unfolding allFit C.choose I.fits I.ofBits I.ofInt I.div I.round H.paletteShapes H.boxesOf H.joined H.partOf H.hasPart H.boxOf H.byKind H.postEdge H.armEdge H.armLength H.height S.kind S.index S.bit S.bitAt T.weight T.digitAt S.sideOf S.hasPost
+unfolding allFit C.choose I.fits I.ofBits I.ofInt I.div I.round H.paletteShapes H.boxesOfState O.appended H.partNumbers H.hasPart H.boxOfPart H.byKind H.postEdge H.armEdge H.armLength H.height S.kind S.index S.bit S.bitAt T.weight T.digitAt S.sideDigit S.hasPost
 all-fit = tt
 
 shapes-typed : E.TypedShapes H.paletteShapes
@@ -61,39 +61,39 @@ shapes-typed = record { numbers = all-at H.paletteShapes all-fit }
 
 -- ---- the tables are taken; what is asked then computes
 abbrev lentTo : ℕ
-lentTo = C.choose (eqb (Wd.windowRefusal F.cells F.window) 0) (C.choose (B.isRegistered P.paletteRecords (F.window .air)) 0 3) (Wd.windowRefusal F.cells F.window)
+lentTo = C.choose (eqb (Wd.windowRefusal F.fencedCells F.fencedWindow) 0) (C.choose (B.isRegistered P.paletteRecords (F.fencedWindow .air)) 0 3) (Wd.windowRefusal F.fencedCells F.fencedWindow)
 
 taken : (delta : Vec3)
-    → X.moveEntry 0 P.paletteRecords H.paletteShapes F.cells F.window F.body delta F.step true
-    ≡ X.moveAnswer F.body
+    → X.moveEntry 0 P.paletteRecords H.paletteShapes F.fencedCells F.fencedWindow F.bodyBox delta F.step true
+    ≡ X.moveAnswer F.bodyBox
     (unless (not (eqb lentTo 0)) lentTo
     (unless (not (LS.isCap 0 && L.isStep F.step)) 3
-    (unless (not (L.isBox F.body && L.isDelta delta)) 4
-    (X.moveAabb (LS.capOf 0) (U.lookAt F.cells F.window) P.paletteRecords H.paletteShapes F.body delta F.step true))))
+    (unless (not (L.isBox F.bodyBox && L.isDelta delta)) 4
+    (X.moveAabb (LS.capOf 0) (U.lookAt F.fencedCells F.fencedWindow) P.paletteRecords H.paletteShapes F.bodyBox delta F.step true))))
 unfolding C.choose LS.isCap lentRefusal directRefusal X.moveEntry
 taken delta = rw passes
 
 pub record Fair (delta : Vec3) : Type 0 where
-  pub typed : TypedMove F.body delta F.step
-  pub accepted : X.moveEntry 0 P.paletteRecords H.paletteShapes F.cells F.window F.body delta F.step true .refusal ≡ 0
+  pub typed : TypedMove F.bodyBox delta F.step
+  pub accepted : X.moveEntry 0 P.paletteRecords H.paletteShapes F.fencedCells F.fencedWindow F.bodyBox delta F.step true .refusal ≡ 0
 
-pub premises : T (E.windowOffGrid P.paletteRecords H.paletteShapes F.cells F.window F.body)
-unfolding C.choose N.sizeOf O.listed A.turning Y.every W.floorSize W.floorInt W.cellOf B.isRegistered B.boxesAt Wd.isVoid Wd.indexOf Wd.columnIndexOf U.lookAt R.spanOf R.onFrom J.connectKind J.isFence J.isThinOrWall J.oppositeFace J.gateDecides J.gateJoins J.registeredConnects J.sideWord J.transition J.transitions J.postTransition J.straight J.raises J.raisedBy J.joins J.post J.besideNeighbours J.connectedState K.connectedShape K.shapeOf K.cellShape Z.settledBoxes G.isFree D.shapePasses D.everyColumn D.everyHeight D.everyPlace E.windowOffGrid T.weight T.digitAt T.turned T.turnedAt T.wallLink T.wallTurn S.kind S.index S.bit S.bitAt S.sideOf S.postDigit S.hasPost Lk.fenceLink Lk.link H.hasPart H.one H.boxCountOf H.firstBox H.firstBoxOf H.boxesOf H.joined H.partOf H.boxOf H.byKind H.postEdge H.armEdge H.armLength H.height H.paletteShapes P.flags P.faces P.recordWord P.paletteWord P.paletteRecords F.window F.cells I.ofInt I.ofBits I.round I.add I.sub I.mul I.div I.neg I.lt I.le I.eq I.ne
+pub premises : T (E.windowOffGrid P.paletteRecords H.paletteShapes F.fencedCells F.fencedWindow F.bodyBox)
+unfolding C.choose N.sizeOf O.listed A.turning Y.every W.floorSize W.floorInt W.cellOf B.isRegistered B.boxesAt Wd.isVoid Wd.indexOf Wd.columnIndexOf U.lookAt R.spanOf R.onFrom J.connectKind J.isFence J.isThinOrWall J.oppositeFace J.gateDecides J.gateJoins J.registeredConnects J.sideWord J.transition J.transitions J.postTransition J.straight J.raises J.raisedBy J.joins J.post J.besideNeighbours J.connectedState K.connectedShape K.shapeOf K.cellShape Z.settledBoxes G.isFree D.shapePasses D.everyColumn D.everyHeight D.everyPlace E.windowOffGrid T.weight T.digitAt T.turned T.turnedAt T.wallLink T.wallTurn S.kind S.index S.bit S.bitAt S.sideDigit S.postDigit S.hasPost Lk.fenceLink Lk.link H.hasPart H.one H.boxCountOf H.firstBox H.firstBoxOf H.boxesOfState O.appended H.partNumbers H.boxOfPart H.byKind H.postEdge H.armEdge H.armLength H.height H.paletteShapes P.flags P.faces P.recordWord P.paletteWord P.paletteRecords F.fencedWindow F.fencedCells I.ofInt I.ofBits I.round I.add I.sub I.mul I.div I.neg I.lt I.le I.eq I.ne
 premises = tt
 
 pub falling-fair : Fair F.falling
-unfolding C.choose LS.isCap LS.capOf N.sizeOf O.listed A.turning Y.every W.floorSize W.floorInt W.cellOf M.clipAll M.clipSequence M.steppedUp M.moveOver B.isRegistered B.boxesAt Wd.isVoid Wd.indexOf Wd.columnIndexOf Wd.sizesFit Wd.coordinateFits Wd.originFits Wd.heightsFit Wd.columnFits Wd.columnsFit Wd.windowFits Wd.windowRefusal U.lookAt R.spanOf R.onFrom Q.line Q.layer Q.walk J.connectKind J.isFence J.isThinOrWall J.oppositeFace J.gateDecides J.gateJoins J.registeredConnects J.sideWord J.transition J.transitions J.postTransition J.straight J.raises J.raisedBy J.joins J.post J.besideNeighbours J.connectedState K.connectedShape K.shapeOf K.cellShape K.offerAll K.visit K.collectBlockBoxes X.moveAabb T.weight T.digitAt T.turned T.turnedAt T.wallLink T.wallTurn S.kind S.index S.bit S.bitAt S.sideOf S.postDigit S.hasPost Lk.fenceLink Lk.link H.hasPart H.one H.boxCountOf H.firstBox H.firstBoxOf H.boxesOf H.joined H.partOf H.boxOf H.byKind H.postEdge H.armEdge H.armLength H.height H.paletteShapes P.flags P.faces P.recordWord P.paletteWord P.paletteRecords F.window F.cells I.fits I.ofInt I.ofBits I.round I.add I.sub I.mul I.div I.neg I.lt I.le I.eq I.ne
+unfolding C.choose LS.isCap LS.capOf N.sizeOf O.listed A.turning Y.every W.floorSize W.floorInt W.cellOf M.clipAll M.clipSequence M.steppedUp M.moveOver B.isRegistered B.boxesAt Wd.isVoid Wd.indexOf Wd.columnIndexOf Wd.sizesFit Wd.coordinateFits Wd.originFits Wd.heightsFit Wd.columnFits Wd.columnsFit Wd.windowFits Wd.windowRefusal U.lookAt R.spanOf R.onFrom Q.line Q.layer Q.walk J.connectKind J.isFence J.isThinOrWall J.oppositeFace J.gateDecides J.gateJoins J.registeredConnects J.sideWord J.transition J.transitions J.postTransition J.straight J.raises J.raisedBy J.joins J.post J.besideNeighbours J.connectedState K.connectedShape K.shapeOf K.cellShape K.offerAll K.visit K.collectBlockBoxes X.moveAabb T.weight T.digitAt T.turned T.turnedAt T.wallLink T.wallTurn S.kind S.index S.bit S.bitAt S.sideDigit S.postDigit S.hasPost Lk.fenceLink Lk.link H.hasPart H.one H.boxCountOf H.firstBox H.firstBoxOf H.boxesOfState O.appended H.partNumbers H.boxOfPart H.byKind H.postEdge H.armEdge H.armLength H.height H.paletteShapes P.flags P.faces P.recordWord P.paletteWord P.paletteRecords F.fencedWindow F.fencedCells I.fits I.ofInt I.ofBits I.round I.add I.sub I.mul I.div I.neg I.lt I.le I.eq I.ne
 falling-fair = record { typed = record { box = tt; way = tt; step = tt }; accepted = ap (λ (r : MoveAnswer). r .refusal) (taken F.falling) }
 
 pub walking-fair : Fair F.walking
-unfolding C.choose LS.isCap LS.capOf N.sizeOf O.listed A.turning Y.every W.floorSize W.floorInt W.cellOf M.clipAll M.clipSequence M.steppedUp M.moveOver B.isRegistered B.boxesAt Wd.isVoid Wd.indexOf Wd.columnIndexOf Wd.sizesFit Wd.coordinateFits Wd.originFits Wd.heightsFit Wd.columnFits Wd.columnsFit Wd.windowFits Wd.windowRefusal U.lookAt R.spanOf R.onFrom Q.line Q.layer Q.walk J.connectKind J.isFence J.isThinOrWall J.oppositeFace J.gateDecides J.gateJoins J.registeredConnects J.sideWord J.transition J.transitions J.postTransition J.straight J.raises J.raisedBy J.joins J.post J.besideNeighbours J.connectedState K.connectedShape K.shapeOf K.cellShape K.offerAll K.visit K.collectBlockBoxes X.moveAabb T.weight T.digitAt T.turned T.turnedAt T.wallLink T.wallTurn S.kind S.index S.bit S.bitAt S.sideOf S.postDigit S.hasPost Lk.fenceLink Lk.link H.hasPart H.one H.boxCountOf H.firstBox H.firstBoxOf H.boxesOf H.joined H.partOf H.boxOf H.byKind H.postEdge H.armEdge H.armLength H.height H.paletteShapes P.flags P.faces P.recordWord P.paletteWord P.paletteRecords F.window F.cells I.fits I.ofInt I.ofBits I.round I.add I.sub I.mul I.div I.neg I.lt I.le I.eq I.ne
+unfolding C.choose LS.isCap LS.capOf N.sizeOf O.listed A.turning Y.every W.floorSize W.floorInt W.cellOf M.clipAll M.clipSequence M.steppedUp M.moveOver B.isRegistered B.boxesAt Wd.isVoid Wd.indexOf Wd.columnIndexOf Wd.sizesFit Wd.coordinateFits Wd.originFits Wd.heightsFit Wd.columnFits Wd.columnsFit Wd.windowFits Wd.windowRefusal U.lookAt R.spanOf R.onFrom Q.line Q.layer Q.walk J.connectKind J.isFence J.isThinOrWall J.oppositeFace J.gateDecides J.gateJoins J.registeredConnects J.sideWord J.transition J.transitions J.postTransition J.straight J.raises J.raisedBy J.joins J.post J.besideNeighbours J.connectedState K.connectedShape K.shapeOf K.cellShape K.offerAll K.visit K.collectBlockBoxes X.moveAabb T.weight T.digitAt T.turned T.turnedAt T.wallLink T.wallTurn S.kind S.index S.bit S.bitAt S.sideDigit S.postDigit S.hasPost Lk.fenceLink Lk.link H.hasPart H.one H.boxCountOf H.firstBox H.firstBoxOf H.boxesOfState O.appended H.partNumbers H.boxOfPart H.byKind H.postEdge H.armEdge H.armLength H.height H.paletteShapes P.flags P.faces P.recordWord P.paletteWord P.paletteRecords F.fencedWindow F.fencedCells I.fits I.ofInt I.ofBits I.round I.add I.sub I.mul I.div I.neg I.lt I.le I.eq I.ne
 walking-fair = record { typed = record { box = tt; way = tt; step = tt }; accepted = ap (λ (r : MoveAnswer). r .refusal) (taken F.walking) }
 
 -- ---- so the theorem speaks of them: of every block box, at the bound that is asked and at the one that is proved
-pub beside : (delta : Vec3) → Fair delta → (b : Aabb) → D.IsSettled P.paletteRecords H.paletteShapes F.cells F.window b
-    → T (isSlight slack (X.moveEntry 0 P.paletteRecords H.paletteShapes F.cells F.window F.body delta F.step true .result .aabb) b)
-beside delta f b c = off-grid-window 0 P.paletteRecords H.paletteShapes F.cells F.window F.body delta F.step true shapes-typed (f .typed) premises (f .accepted) b c
+pub beside : (delta : Vec3) → Fair delta → (b : Aabb) → D.IsSettled P.paletteRecords H.paletteShapes F.fencedCells F.fencedWindow b
+    → T (isSlight slack (X.moveEntry 0 P.paletteRecords H.paletteShapes F.fencedCells F.fencedWindow F.bodyBox delta F.step true .result .aabb) b)
+beside delta f b c = off-grid-window 0 P.paletteRecords H.paletteShapes F.fencedCells F.fencedWindow F.bodyBox delta F.step true shapes-typed (f .typed) premises (f .accepted) b c
 
-pub beside-tight : (delta : Vec3) → Fair delta → (b : Aabb) → D.IsSettled P.paletteRecords H.paletteShapes F.cells F.window b
-    → T (isSlight tightSlack (X.moveEntry 0 P.paletteRecords H.paletteShapes F.cells F.window F.body delta F.step true .result .aabb) b)
-beside-tight delta f b c = off-grid-window-tight 0 P.paletteRecords H.paletteShapes F.cells F.window F.body delta F.step true shapes-typed (f .typed) premises (f .accepted) b c
+pub beside-tight : (delta : Vec3) → Fair delta → (b : Aabb) → D.IsSettled P.paletteRecords H.paletteShapes F.fencedCells F.fencedWindow b
+    → T (isSlight tightSlack (X.moveEntry 0 P.paletteRecords H.paletteShapes F.fencedCells F.fencedWindow F.bodyBox delta F.step true .result .aabb) b)
+beside-tight delta f b c = off-grid-window-tight 0 P.paletteRecords H.paletteShapes F.fencedCells F.fencedWindow F.bodyBox delta F.step true shapes-typed (f .typed) premises (f .accepted) b c

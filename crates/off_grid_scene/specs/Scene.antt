@@ -9,32 +9,24 @@ use Rattle.boxes.specs.declared.Vec3.{Vec3}
 use Rattle.boxes.specs.declared.Aabb.{Aabb}
 use Rattle.boxes.specs.Boxes.{vec, fromFeet}
 use Rattle.window.specs.declared.Window.{Window}
+use Rattle.palette_states.specs.States.{airState as air, cubeState as cube, oakState as oak}
 use Rattle.small_scenes.specs.Moves.{ratio, whole}
 
-abbrev pub air : ℕ
-air = 0
-
-abbrev pub cube : ℕ
-cube = 1
-
-abbrev pub oakFence : ℕ
-oakFence = 2
-
 -- x 99 to 102, y 62 to 66, z -9 to -7, in a world from -64 to 319
-unfoldable pub window : Window
-window =
+unfoldable pub fencedWindow : Window
+fencedWindow =
     record { origin = record { x = pos 99; y = pos 62; z = negsuc 8 }; sizes = record { x = 4; y = 5; z = 3 }; lowest = negsuc 63; highest = pos 319; air = air }
 
 -- the floor; a layer of air with the fence at x 101, z -8; three of air; and the twelve columns, all loaded
-unfoldable pub cells : List ℕ
-cells =
+unfoldable pub fencedCells : List ℕ
+fencedCells =
     replicate 12 cube
-    ++ (replicate 6 air ++ (oakFence ∷ replicate 5 air)
+    ++ (replicate 6 air ++ (oak ∷ replicate 5 air)
     ++ (replicate 36 air
     ++ replicate 12 1))
 
-abbrev pub body : Aabb
-body = fromFeet (vec (ratio 1003 10) (whole 64) (neg (ratio 77 10))) (ratio 6 10) (ratio 18 10)
+abbrev pub bodyBox : Aabb
+bodyBox = fromFeet (vec (ratio 1003 10) (whole 64) (neg (ratio 77 10))) (ratio 6 10) (ratio 18 10)
 
 abbrev pub falling : Vec3
 falling = vec (whole 0) (neg (ratio 8 100)) (whole 0)

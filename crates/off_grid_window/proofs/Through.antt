@@ -35,7 +35,7 @@ use Rattle.off_grid.specs.Scaled.{slack, tightUnits, tightSlack, isSlight}
 use Rattle.off_grid.proofs.Axis.{unit, lt→, Short, before, beyond}
 use Rattle.off_grid.proofs.Passes.{BoxIn, box-widen, BoxReal, box-real, Clear, onX, onY, onZ, free-clear, overlap-turn}
 use Rattle.off_grid.proofs.Starts.{one, one-units, Mover, mover, Start, all-from, from-start, from-start-aside, swept-in, tight, loose}
-use Rattle.off_grid_window.specs.Demand.{TypedShapes, isShape, windowOffGrid, WindowDemand}
+use Rattle.off_grid_window.specs.Demand.{TypedShapes, isShape, windowOffGrid, BoundedWindowDemand}
 use Rattle.off_grid_window.proofs.Cells.{one-pos, own-one, fewer, floor-of, Place, held-at, under-it, over-it, in-cells, in-layers}
 use Rattle.off_grid_window.proofs.Blocks.{End, InCells, Off, above, beneath, off, Stands, near, far, block}
 
@@ -193,7 +193,7 @@ module _ (records : List ℕ) (shapes : List Float) (cells : List ℕ) (w : Wind
                 (free-clear swept o (box-real R) (cells-real e) (overlap-turn o swept (subst (λ (b : Bool). T (not b)) (sym q) tt)))
 
 -- ---- a move that is not refused
-within-bound : (k : ℕ) → 3 * unit ≤ k → WindowDemand (pos k)
+within-bound : (k : ℕ) → 3 * unit ≤ k → BoundedWindowDemand (pos k)
 unfolding windowOffGrid
 within-bound k K cap records shapes cells w m d h ground S F t e o c =
     let a = taken-through cap records shapes cells w m d h ground e in
@@ -203,8 +203,8 @@ within-bound k K cap records shapes cells w m d h ground S F t e o c =
     subst (λ (q : MoveResult). T (isSlight (pos k) (q .aabb) o)) (sym (a .result)) (through records shapes cells w S (a .window) G m d h M (capOf cap) (a .boxes) (a .collects) k K free ground o c)
 
 -- "by at most 2^-26", and three quarters of it
-pub off-grid-window : WindowDemand slack
+pub off-grid-window : BoundedWindowDemand slack
 off-grid-window = within-bound (2 ^ 1048) loose
 
-pub off-grid-window-tight : WindowDemand tightSlack
+pub off-grid-window-tight : BoundedWindowDemand tightSlack
 off-grid-window-tight = within-bound tightUnits tight

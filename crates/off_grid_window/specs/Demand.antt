@@ -33,8 +33,8 @@ unfoldable pub windowOffGrid : List ℕ → List Float → List ℕ → Window �
 windowOffGrid records shapes cells w aabb = shapesPass isShape records shapes cells w && isFreeIn records shapes cells w aabb
 
 -- the demand, for a bound
-abbrev pub WindowDemand : ℤ → Type 0
-WindowDemand bound =
+abbrev pub BoundedWindowDemand : ℤ → Type 0
+BoundedWindowDemand bound =
     (cap : ℕ) (records : List ℕ) (shapes : List Float) (cells : List ℕ) (w : Window) (aabb : Aabb) (delta : Vec3) (stepHeight : Float) (wasOnGround : Bool)
     → TypedShapes shapes → TypedMove aabb delta stepHeight
     → T (windowOffGrid records shapes cells w aabb)

@@ -1,6 +1,6 @@
 // The records of the classroom palette: a word of a state, and the table of all. Its boxes are in `palette_boxes`.
 use palette_boxes::box_count;
-use palette_boxes::first_box;
+use palette_boxes::first_box_of;
 use palette_states::kind_of;
 use palette_states::post_digit;
 ghost use mathlib.Core.Path.{_≡_};
@@ -41,7 +41,7 @@ fn record_word(state: u32, k: u32) -> u32
         return post_digit(state);
     }
     if k == 7 {
-        return first_box(state);
+        return first_box_of(state);
     }
     if k == 8 {
         return box_count(state);
@@ -59,7 +59,7 @@ fn record_word(state: u32, k: u32) -> u32
 }
 
 // Word k of a state's record: 0 where there is none.
-pub fn word(state: u32, k: u32) -> u32
+pub fn palette_word(state: u32, k: u32) -> u32
     ensures { λ r. ⌜ r ≡ paletteWord state k ⌝ }
 {
     if state < 212 {
@@ -81,7 +81,7 @@ fn put_words(out: &mut [u32])
 {
     let mut i = 0u32;
     while i < 4240 {
-        let x = word(i / 20, i % 20);
+        let x = palette_word(i / 20, i % 20);
         put_word(out, i as usize, x);
         i += 1;
     }

@@ -10,14 +10,14 @@ use lib.ListN.{length, getD, set, drop, length-append, length-map, length-set, L
 use lib.Ieee.{Float}
 use lib.Seq.{sets, sets-eq}
 use Rattle.base.specs.Choose.{choose}
-use Rattle.base.specs.Loop.{listed, stored}
+use Rattle.base.specs.Loop.{listed, stored, appended}
 use Rattle.base.proofs.Fill.{text-turn, text-end}
 use Rattle.floats.specs.Numbers.{zero64}
 use Rattle.tables.specs.Tables.{floatAt}
 use Rattle.tables.proofs.Lists.{getD-any}
 use Rattle.palette_states.specs.States.{kind}
-use Rattle.palette_boxes.specs.Shapes.{boxOf, sixteenths, hasPart, partOf, joined, boxesOf, one, boxCountOf, firstBox, byKind}
-use Rattle.palette_boxes.proofs.Joins.{joined-last}
+use Rattle.palette_boxes.specs.Shapes.{boxOfPart, sixteenths, hasPart, partNumbers, boxesOfState, one, boxCountOf, firstBox, byKind}
+use Rattle.base.proofs.Appended.{appended-last}
 
 -- ---- a number by kind is at most what each of the three is
 at-most : (t : Bool) (a b n : ℕ) → a ≤ n → b ≤ n → choose t a b ≤ n
@@ -35,30 +35,30 @@ unfolding choose
 chosen true a b n p q = p
 chosen false a b n p q = q
 
-pub box-six : (k part : ℕ) → length (boxOf k part) ≡ 6
-unfolding boxOf
+pub box-six : (k part : ℕ) → length (boxOfPart k part) ≡ 6
+unfolding boxOfPart
 box-six k part = chosen (eqb part 0) _ _ 6 refl (chosen (eqb part 1) _ _ 6 refl (chosen (eqb part 2) _ _ 6 refl (chosen (eqb part 3) _ _ 6 refl refl)))
 
-numbers-six : (k part : ℕ) → length (map sixteenths (boxOf k part)) ≡ 6
-numbers-six k part = length-map (boxOf k part) sixteenths ∙ box-six k part
+numbers-six : (k part : ℕ) → length (map sixteenths (boxOfPart k part)) ≡ 6
+numbers-six k part = length-map (boxOfPart k part) sixteenths ∙ box-six k part
 
 -- ---- a part that is there, and one that is not
-pub part-is : (s part : ℕ) → hasPart s part ≡ true → partOf s part ≡ map sixteenths (boxOf (kind s) part)
-unfolding partOf choose
+pub part-is : (s part : ℕ) → hasPart s part ≡ true → partNumbers s part ≡ map sixteenths (boxOfPart (kind s) part)
+unfolding partNumbers choose
 part-is s part h = rw h
 
-pub part-none : (s part : ℕ) → hasPart s part ≡ false → partOf s part ≡ []
-unfolding partOf choose
+pub part-none : (s part : ℕ) → hasPart s part ≡ false → partNumbers s part ≡ []
+unfolding partNumbers choose
 part-none s part h = rw h
 
-pub part-six : (s part : ℕ) → hasPart s part ≡ true → length (partOf s part) ≡ 6
+pub part-six : (s part : ℕ) → hasPart s part ≡ true → length (partNumbers s part) ≡ 6
 part-six s part h = ap length (part-is s part h) ∙ numbers-six (kind s) part
 
-pub part-length : (s part : ℕ) → length (partOf s part) ≡ one s part * 6
+pub part-length : (s part : ℕ) → length (partNumbers s part) ≡ one s part * 6
 unfolding one choose
 part-length s part = go (hasPart s part) refl
   where
-    go : (b : Bool) → hasPart s part ≡ b → length (partOf s part) ≡ choose b 1 0 * 6
+    go : (b : Bool) → hasPart s part ≡ b → length (partNumbers s part) ≡ choose b 1 0 * 6
     go true h = part-six s part h
     go false h = ap length (part-none s part h)
 
@@ -70,24 +70,24 @@ one-most s part = go (hasPart s part)
     go true = omega arith
     go false = omega arith
 
-pub part-short : (s part : ℕ) → length (partOf s part) ≤ 6
+pub part-short : (s part : ℕ) → length (partNumbers s part) ≤ 6
 part-short s part = omega (arith, part-length s part, one-most s part)
 
 -- number c of a part that is there
-pub part-at : (s part c : ℕ) (b : List ℕ) → b ≡ boxOf (kind s) part → hasPart s part ≡ true → c < 6 → sixteenths (getD b c 0) ≡ floatAt (partOf s part) c
+pub part-at : (s part c : ℕ) (b : List ℕ) → b ≡ boxOfPart (kind s) part → hasPart s part ≡ true → c < 6 → sixteenths (getD b c 0) ≡ floatAt (partNumbers s part) c
 part-at s part c b e h g =
-    let l : c < length (map sixteenths (boxOf (kind s) part)) = rw (numbers-six (kind s) part) g in
-    rw (e, part-is s part h) (sym (List·getD-map sixteenths (boxOf (kind s) part) c 0) ∙ getD-any (map sixteenths (boxOf (kind s) part)) c (sixteenths 0) zero64 l)
+    let l : c < length (map sixteenths (boxOfPart (kind s) part)) = rw (numbers-six (kind s) part) g in
+    rw (e, part-is s part h) (sym (List·getD-map sixteenths (boxOfPart (kind s) part) c 0) ∙ getD-any (map sixteenths (boxOfPart (kind s) part)) c (sixteenths 0) zero64 l)
 
 -- ---- the boxes of a state, and of all
-pub boxes-length : (s : ℕ) → length (boxesOf s) ≡ boxCountOf s * 6
-unfolding boxesOf joined boxCountOf
+pub boxes-length : (s : ℕ) → length (boxesOfState s) ≡ boxCountOf s * 6
+unfolding boxesOfState appended boxCountOf
 boxes-length s =
-    let a : List Float = partOf s 0 in
-    let b : List Float = partOf s 1 in
-    let c : List Float = partOf s 2 in
-    let d : List Float = partOf s 3 in
-    let e : List Float = partOf s 4 in
+    let a : List Float = partNumbers s 0 in
+    let b : List Float = partNumbers s 1 in
+    let c : List Float = partNumbers s 2 in
+    let d : List Float = partNumbers s 3 in
+    let e : List Float = partNumbers s 4 in
     omega (
       arith,
       part-length s 0,
@@ -106,19 +106,19 @@ pub count-most : (s : ℕ) → boxCountOf s ≤ 5
 unfolding boxCountOf
 count-most s = omega (arith, one-most s 0, one-most s 1, one-most s 2, one-most s 3, one-most s 4)
 
-pub boxes-short : (s : ℕ) → length (boxesOf s) ≤ 30
+pub boxes-short : (s : ℕ) → length (boxesOfState s) ≤ 30
 boxes-short s = omega (arith, boxes-length s, count-most s)
 
 pub first-next : (s : ℕ) → firstBox (s + 1) ≡ firstBox s + boxCountOf s
 unfolding firstBox
 first-next s = ap firstBox (add-one s)
 
-pub first-length : (n : ℕ) → length (joined boxesOf n 0) ≡ firstBox n * 6
-unfolding joined firstBox
+pub first-length : (n : ℕ) → length (appended boxesOfState n 0) ≡ firstBox n * 6
+unfolding appended firstBox
 first-length zero = refl
 first-length (suc n) =
-    let e : length (joined boxesOf (suc n) 0) ≡ length (joined boxesOf n 0 ++ boxesOf n) = ap length (joined-last boxesOf n) in
-    omega (arith, e, length-append (joined boxesOf n 0) (boxesOf n), first-length n, boxes-length n)
+    let e : length (appended boxesOfState (suc n) 0) ≡ length (appended boxesOfState n 0 ++ boxesOfState n) = ap length (appended-last boxesOfState n) in
+    omega (arith, e, length-append (appended boxesOfState n 0) (boxesOfState n), first-length n, boxes-length n)
 
 -- ---- loops that store
 -- the numbers of a box, from `at` on

@@ -9,7 +9,7 @@ use Rattle.palette_boxes.specs.Shapes as H
 use Rattle.palette_boxes.proofs.Boxes.{first-length}
 
 pub all-boxes : H.firstBox 212 ≡ 658
-unfolding H.firstBox H.boxCountOf H.one H.hasPart choose T.weight T.digitAt S.kind S.index S.bit S.bitAt S.sideOf S.hasPost
+unfolding H.firstBox H.boxCountOf H.one H.hasPart choose T.weight T.digitAt S.kind S.index S.bit S.bitAt S.sideDigit S.hasPost
 all-boxes = refl
 
 pub shapes-length : length H.paletteShapes ≡ 3948

@@ -1,4 +1,3 @@
 -- Laws of the palette's boxes.
-pub mod Joins
 pub mod Boxes
 pub mod Counts

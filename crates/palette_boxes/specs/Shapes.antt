@@ -1,13 +1,14 @@
 -- The boxes of a state. Each number that document 02 names is a whole number of sixteenths, so boxes are said in sixteenths and are exact as f32.
 -- "Boxes stand post first, then north, east, south, west": part 0 is the post, and part p the arm of side p - 1.
 use mathlib.Core.Bool.{Bool, not}
-use mathlib.Core.List.{List, [], _∷_, _++_, map}
+use mathlib.Core.List.{List, [], _∷_, map}
 use Prim.Native.Nat.{ℕ, zero, suc, _+_, _-_}
 use lib.Dec.{leb, eqb}
 use lib.IntN.{pos}
 use lib.Ieee.{Float, binary32, ofInt, ofBits, div}
 use Rattle.base.specs.Choose.{choose}
-use Rattle.palette_states.specs.States.{states, kind, sideOf, hasPost}
+use Rattle.base.specs.Loop.{appended}
+use Rattle.palette_states.specs.States.{states, kind, sideDigit, hasPost}
 
 -- ---- edges by kind, in sixteenths: the lower one, the upper one being as far from the other end of the cell
 
@@ -33,8 +34,8 @@ height k = choose (eqb k 0) 16 (choose (eqb k 3) 16 24)
 
 -- ---- boxes, x0 y0 z0 x1 y1 z1, in sixteenths: north is towards z 0, east towards x 1
 
-abbrev pub post : ℕ → ℕ → List ℕ
-post a h = a ∷ 0 ∷ a ∷ (16 - a) ∷ h ∷ (16 - a) ∷ []
+abbrev pub postBox : ℕ → ℕ → List ℕ
+postBox a h = a ∷ 0 ∷ a ∷ (16 - a) ∷ h ∷ (16 - a) ∷ []
 
 abbrev pub northArm : ℕ → ℕ → ℕ → List ℕ
 northArm a n h = a ∷ 0 ∷ 0 ∷ (16 - a) ∷ h ∷ n ∷ []
@@ -48,9 +49,9 @@ southArm a n h = a ∷ 0 ∷ (16 - n) ∷ (16 - a) ∷ h ∷ 16 ∷ []
 abbrev pub westArm : ℕ → ℕ → ℕ → List ℕ
 westArm a n h = 0 ∷ 0 ∷ a ∷ n ∷ h ∷ (16 - a) ∷ []
 
-unfoldable pub boxOf : ℕ → ℕ → List ℕ
-boxOf k part =
-    choose (eqb part 0) (post (postEdge k) (height k))
+unfoldable pub boxOfPart : ℕ → ℕ → List ℕ
+boxOfPart k part =
+    choose (eqb part 0) (postBox (postEdge k) (height k))
     (choose (eqb part 1) (northArm (armEdge k) (armLength k) (height k))
     (choose (eqb part 2) (eastArm (armEdge k) (armLength k) (height k))
     (choose (eqb part 3) (southArm (armEdge k) (armLength k) (height k))
@@ -63,18 +64,13 @@ abbrev pub sixteenths : ℕ → Float
 sixteenths n = div binary32 (ofInt binary32 (pos n)) (ofBits binary32 0x41800000)
 
 unfoldable pub hasPart : ℕ → ℕ → Bool
-hasPart s part = choose (eqb part 0) (hasPost s) (not (eqb (sideOf s (part - 1)) 0))
+hasPart s part = choose (eqb part 0) (hasPost s) (not (eqb (sideDigit s (part - 1)) 0))
 
-unfoldable pub partOf : ℕ → ℕ → List Float
-partOf s part = choose (hasPart s part) (map sixteenths (boxOf (kind s) part)) []
+unfoldable pub partNumbers : ℕ → ℕ → List Float
+partNumbers s part = choose (hasPart s part) (map sixteenths (boxOfPart (kind s) part)) []
 
--- the lists f i, f (i + 1) and so on, as many as the number says, one behind the other
-unfoldable pub joined : {A : Type 0} → (ℕ → List A) → ℕ → ℕ → List A
-joined f zero i = []
-joined f (suc n) i = f i ++ joined f n (i + 1)
-
-unfoldable pub boxesOf : ℕ → List Float
-boxesOf s = joined (partOf s) 5 0
+unfoldable pub boxesOfState : ℕ → List Float
+boxesOfState s = appended (partNumbers s) 5 0
 
 -- ---- their number, word 8, and the number of those before, word 7
 
@@ -98,4 +94,4 @@ abbrev pub shapeNumbers : ℕ
 shapeNumbers = 3948
 
 unfoldable pub paletteShapes : List Float
-paletteShapes = joined boxesOf states 0
+paletteShapes = appended boxesOfState states 0

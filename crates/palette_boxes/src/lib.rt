@@ -1,7 +1,7 @@
 // The boxes of the classroom palette: those of a state by rule, and the table of all.
 use palette_states::has_post;
 use palette_states::kind_of;
-use palette_states::side_of;
+use palette_states::side_digit;
 use tables::ShapeBox;
 ghost use mathlib.Core.Path.{_≡_};
 ghost use Prim.Native.Nat.{_+_, _≤_, _<_};
@@ -10,7 +10,7 @@ ghost use mathlib.Core.Bool.{true};
 ghost use lib.ListN.{length, set};
 ghost use Rattle.base.specs.Loop.{stored};
 ghost use Rattle.tables.specs.Tables.{floatAt, boxAt};
-ghost use Rattle.palette_boxes.specs.Shapes.{byKind, postEdge, armEdge, armLength, height, boxOf, sixteenths, hasPart, partOf, boxesOf, one, boxCountOf, firstBoxOf, shapeNumbers, paletteShapes};
+ghost use Rattle.palette_boxes.specs.Shapes.{byKind, postEdge, armEdge, armLength, height, boxOfPart, sixteenths, hasPart, partNumbers, boxesOfState, one, boxCountOf, firstBoxOf, shapeNumbers, paletteShapes};
 ghost use Rattle.palette_boxes.specs.Fill.{fillRefusal, filled};
 
 // What a number is by kind: a pane's, a wall's, or a fence's.
@@ -63,8 +63,8 @@ fn height_of(kind: u32) -> u8
 }
 
 // The box of a part, in sixteenths.
-fn box_of(kind: u32, part: u32) -> [u8; 6]
-    ensures { λ r. ⌜ r ≡ boxOf kind part ⌝ }
+fn box_of_part(kind: u32, part: u32) -> [u8; 6]
+    ensures { λ r. ⌜ r ≡ boxOfPart kind part ⌝ }
 {
     let h = height_of(kind);
     if part == 0 {
@@ -98,7 +98,7 @@ fn has_part(state: u32, part: u32) -> bool
     if part == 0 {
         return has_post(state);
     }
-    let d = side_of(state, part - 1);
+    let d = side_digit(state, part - 1);
     d != 0
 }
 
@@ -118,7 +118,7 @@ pub fn box_count(state: u32) -> u32
 }
 
 // Word 7: 0 where there is no such state.
-pub fn first_box(state: u32) -> u32
+pub fn first_box_of(state: u32) -> u32
     ensures { λ r. ⌜ r ≡ firstBoxOf state ⌝ }
 {
     if 212 <= state {
@@ -136,15 +136,15 @@ pub fn first_box(state: u32) -> u32
 // Number c of a part that a state has.
 fn part_number(state: u32, part: u32, c: usize) -> f64
     requires { ⌜ (hasPart state part ≡ true) × (c < 6) ⌝ }
-    ensures { λ r. ⌜ r ≡ floatAt (partOf state part) c ⌝ }
+    ensures { λ r. ⌜ r ≡ floatAt (partNumbers state part) c ⌝ }
 {
-    let b = box_of(kind_of(state), part);
+    let b = box_of_part(kind_of(state), part);
     std::num::f32_to_f64_with_nan(in_blocks(b[c]))
 }
 
 // Number i of a state's boxes: 0.0 where there is none.
 fn number_of(state: u32, i: usize) -> f64
-    ensures { λ r. ⌜ r ≡ floatAt (boxesOf state) i ⌝ }
+    ensures { λ r. ⌜ r ≡ floatAt (boxesOfState state) i ⌝ }
 {
     let mut left = i;
     let mut part = 0u32;
@@ -163,8 +163,8 @@ fn number_of(state: u32, i: usize) -> f64
 }
 
 // Box k of a state: zeros where there is none.
-pub fn box_at(state: u32, k: u32) -> ShapeBox
-    ensures { λ r. ⌜ r ≡ boxAt (boxesOf state) k ⌝ }
+pub fn palette_box(state: u32, k: u32) -> ShapeBox
+    ensures { λ r. ⌜ r ≡ boxAt (boxesOfState state) k ⌝ }
 {
     let i = (k as usize) * 6;
     let x0 = number_of(state, i);
@@ -192,9 +192,9 @@ fn put(out: &mut [f32], i: usize, x: f32)
 }
 
 fn put_box(out: &mut [f32], at: u32, kind: u32, part: u32)
-    ensures { λ _. ⌜ now (out .exit) ≡ stored (now (out .entry)) at (map sixteenths (boxOf kind part)) ⌝ }
+    ensures { λ _. ⌜ now (out .exit) ≡ stored (now (out .entry)) at (map sixteenths (boxOfPart kind part)) ⌝ }
 {
-    let b = box_of(kind, part);
+    let b = box_of_part(kind, part);
     let first = at as usize;
     let mut c = 0usize;
     while c < 6 {
@@ -206,8 +206,8 @@ fn put_box(out: &mut [f32], at: u32, kind: u32, part: u32)
 // A part of a state from place `at` on, where it has it: the place behind it.
 fn put_part(out: &mut [f32], at: u32, state: u32, part: u32) -> u32
     requires { ⌜ at < 10000 ⌝ }
-    ensures { λ r. ⌜ r ≡ at + length (partOf state part) ⌝ }
-    ensures written { λ _. ⌜ now (out .exit) ≡ stored (now (out .entry)) at (partOf state part) ⌝ }
+    ensures { λ r. ⌜ r ≡ at + length (partNumbers state part) ⌝ }
+    ensures written { λ _. ⌜ now (out .exit) ≡ stored (now (out .entry)) at (partNumbers state part) ⌝ }
 {
     if has_part(state, part) {
         put_box(out, at, kind_of(state), part);
@@ -218,8 +218,8 @@ fn put_part(out: &mut [f32], at: u32, state: u32, part: u32) -> u32
 
 fn put_boxes(out: &mut [f32], at: u32, state: u32) -> u32
     requires { ⌜ at < 9000 ⌝ }
-    ensures { λ r. ⌜ r ≡ at + length (boxesOf state) ⌝ }
-    ensures written { λ _. ⌜ now (out .exit) ≡ stored (now (out .entry)) at (boxesOf state) ⌝ }
+    ensures { λ r. ⌜ r ≡ at + length (boxesOfState state) ⌝ }
+    ensures written { λ _. ⌜ now (out .exit) ≡ stored (now (out .entry)) at (boxesOfState state) ⌝ }
 {
     let mut next = at;
     let mut part = 0u32;

@@ -15,7 +15,8 @@ use lib.Ieee.{Float}
 use borrow.Author.Tests.{eqb-true, ltb-true, eq-eqb, le-leb, lt-ltb, le-ltb, lt-leb}
 use Rattle.base.specs.Choose.{choose}
 use Rattle.base.specs.Every.{every, any}
-use Rattle.base.specs.Loop.{listed}
+use Rattle.base.specs.Loop.{listed, appended}
+use Rattle.base.proofs.Appended.{appended-part}
 use Rattle.base.proofs.Every.{both, and-true, every-at, every-from}
 use Rattle.floats.specs.Numbers as N
 use Rattle.cover.specs.declared.Side.the-variants.{North, East, South, West}
@@ -31,7 +32,6 @@ use Rattle.palette_boxes.specs.Shapes as H
 use Rattle.palette_boxes.specs.Fill as F
 use Rattle.palette.specs.Palette as P
 use Rattle.base.proofs.Listed.{listed-at}
-use Rattle.palette_boxes.proofs.Joins.{joined-part}
 use Rattle.palette.proofs.Records.{records-length}
 use Rattle.palette_boxes.proofs.Counts.{all-boxes, shapes-length}
 use Rattle.palette_boxes.proofs.Boxes.{boxes-length, count-most, first-length}
@@ -96,21 +96,21 @@ part-fits s h =
     (le-leb (H.firstBox s + H.boxCountOf s) 658 (inside s h))
 
 -- the part is the state's boxes
-pub boxes-at : (s : ℕ) → s < 212 → stateBoxes P.paletteRecords H.paletteShapes s ≡ H.boxesOf s
+pub boxes-at : (s : ℕ) → s < 212 → stateBoxes P.paletteRecords H.paletteShapes s ≡ H.boxesOfState s
 unfolding boxesAt choose H.paletteShapes
 boxes-at s h =
     rw (word-7 s h, word-8 s h, shapes-length, le-leb (H.firstBox s + H.boxCountOf s) 658 (inside s h))
-    (joined-part H.boxesOf 212 s (H.firstBox s * 6) (H.boxCountOf s * 6) h (first-length s) (boxes-length s))
+    (appended-part H.boxesOfState 212 s (H.firstBox s * 6) (H.boxCountOf s * 6) h (first-length s) (boxes-length s))
 
 -- ---- word 19
 abbrev searched : List Float → ℕ
 searched l = choose (G.coversBySearch l North) 1 0 + choose (G.coversBySearch l East) 2 0 + choose (G.coversBySearch l South) 4 0 + choose (G.coversBySearch l West) 8 0
 
 faced : ℕ → Bool
-faced s = allFit (H.boxesOf s) && eqb (P.faces s) (searched (H.boxesOf s))
+faced s = allFit (H.boxesOfState s) && eqb (P.faces s) (searched (H.boxesOfState s))
 
 all-faced : every 212 faced ≡ true
-unfolding faced every any choose allFit G.gapOnFace G.gapOnLine G.anyGap G.gapAt G.gapPast G.hasPoint G.spans G.isInner G.coversBySearch Q.onFace Q.uPlace I.fits I.lt I.eq I.le I.isNan I.ofBits I.ofInt I.div I.round H.boxesOf H.joined H.partOf H.hasPart H.boxOf H.byKind H.postEdge H.armEdge H.armLength H.height S.kind S.index S.bit S.bitAt T.weight T.digitAt S.sideOf S.hasPost P.faces
+unfolding faced every any choose allFit G.gapOnFace G.gapOnLine G.anyGap G.gapAt G.gapPast G.hasPoint G.spansLine G.isInner G.coversBySearch Q.onFace Q.uPlace I.fits I.lt I.eq I.le I.isNan I.ofBits I.ofInt I.div I.round H.boxesOfState appended H.partNumbers H.hasPart H.boxOfPart H.byKind H.postEdge H.armEdge H.armLength H.height S.kind S.index S.bit S.bitAt T.weight T.digitAt S.sideDigit S.hasPost P.faces
 all-faced = refl
 
 word-19 : (s : ℕ) → s < 212 → wordAt P.paletteRecords s 19 ≡ P.faces s
@@ -118,16 +118,16 @@ unfolding P.recordWord choose
 word-19 s h = word-at s 19 h (omega arith)
 
 -- what face cover gives
-pub faces-are : (s : ℕ) → s < 212 → P.faces s ≡ Q.fullFaces (H.boxesOf s)
+pub faces-are : (s : ℕ) → s < 212 → P.faces s ≡ Q.fullFaces (H.boxesOfState s)
 unfolding faced
 faces-are s h =
-    let t : allFit (H.boxesOf s) && eqb (P.faces s) (searched (H.boxesOf s)) ≡ true = every-at 212 faced all-faced s h in
-    let b = both (allFit (H.boxesOf s)) (eqb (P.faces s) (searched (H.boxesOf s))) t in
-    eqb-true (P.faces s) (searched (H.boxesOf s)) (b .two) ∙ sym (full-search (H.boxesOf s) (subst T (sym (b .one)) tt))
+    let t : allFit (H.boxesOfState s) && eqb (P.faces s) (searched (H.boxesOfState s)) ≡ true = every-at 212 faced all-faced s h in
+    let b = both (allFit (H.boxesOfState s)) (eqb (P.faces s) (searched (H.boxesOfState s))) t in
+    eqb-true (P.faces s) (searched (H.boxesOfState s)) (b .two) ∙ sym (full-search (H.boxesOfState s) (subst T (sym (b .one)) tt))
 
 faces-fit : (s : ℕ) → s < 212 → K.facesFit P.paletteRecords H.paletteShapes s ≡ true
 unfolding K.facesFit
-faces-fit s h = rw (word-19 s h, boxes-at s h) (eq-eqb (P.faces s) (Q.fullFaces (H.boxesOf s)) (faces-are s h))
+faces-fit s h = rw (word-19 s h, boxes-at s h) (eq-eqb (P.faces s) (Q.fullFaces (H.boxesOfState s)) (faces-are s h))
 
 -- ---- words 9 to 18
 word-4 : (s : ℕ) → s < 212 → wordAt P.paletteRecords s 4 ≡ S.kind s
@@ -183,7 +183,7 @@ boxed zero l = true
 boxed (suc n) l = K.boxFits l 0 && boxed n (drop 6 l)
 
 all-boxed : boxed 658 H.paletteShapes ≡ true
-unfolding boxed K.boxFits K.sideFits choose N.sizeOf I.lt I.eq I.le I.ofBits I.ofInt I.div I.round H.paletteShapes H.boxesOf H.joined H.partOf H.hasPart H.boxOf H.byKind H.postEdge H.armEdge H.armLength H.height S.kind S.index S.bit S.bitAt T.weight T.digitAt S.sideOf S.hasPost
+unfolding boxed K.boxFits K.sideFits choose N.sizeOf I.lt I.eq I.le I.ofBits I.ofInt I.div I.round H.paletteShapes H.boxesOfState appended H.partNumbers H.hasPart H.boxOfPart H.byKind H.postEdge H.armEdge H.armLength H.height S.kind S.index S.bit S.bitAt T.weight T.digitAt S.sideDigit S.hasPost
 all-boxed = refl
 
 moved : (l : List Float) (k c : ℕ) → Q.boxNumber (drop 6 l) k c ≡ Q.boxNumber l (suc k) c

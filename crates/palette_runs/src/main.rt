@@ -78,7 +78,7 @@ fn boxes_looked_up() -> Sums {
     let mut s = none();
     let mut i = 0u32;
     while i < 213 * 6 {
-        s = with_box(s, palette_boxes::box_at(i / 6, i % 6));
+        s = with_box(s, palette_boxes::palette_box(i / 6, i % 6));
         i += 1;
     }
     s

@@ -6,6 +6,25 @@ use lib.Dec.{ltb, eqb}
 use Rattle.base.specs.Choose.{choose}
 use Rattle.turns.specs.Turns.{firstWall, walls, digitAt}
 
+-- the first state of each
+abbrev pub airState : ℕ
+airState = 0
+
+abbrev pub cubeState : ℕ
+cubeState = 1
+
+abbrev pub oakState : ℕ
+oakState = 2
+
+abbrev pub brickState : ℕ
+brickState = 18
+
+abbrev pub paneState : ℕ
+paneState = 34
+
+abbrev pub wallState : ℕ
+wallState = firstWall
+
 abbrev pub states : ℕ
 states = firstWall + walls
 
@@ -27,8 +46,8 @@ unfoldable pub bitAt : ℕ → ℕ → ℕ
 bitAt i p = i / bit p % 2
 
 -- a state's digit on a side: 0 where it is not joined there
-unfoldable pub sideOf : ℕ → ℕ → ℕ
-sideOf s p = choose (eqb (kind s) 0) 0 (choose (eqb (kind s) 4) (digitAt (index s) p) (bitAt (index s) p))
+unfoldable pub sideDigit : ℕ → ℕ → ℕ
+sideDigit s p = choose (eqb (kind s) 0) 0 (choose (eqb (kind s) 4) (digitAt (index s) p) (bitAt (index s) p))
 
 -- ---- posts
 

@@ -2,7 +2,7 @@
 ghost use mathlib.Core.Path.{_≡_};
 ghost use Prim.Native.Nat.{_≤_, _<_};
 ghost use Rattle.turns.specs.Turns.{weight, digitAt};
-ghost use Rattle.palette_states.specs.States.{kind, index, bit, bitAt, sideOf, postDigit, hasPost};
+ghost use Rattle.palette_states.specs.States.{kind, index, bit, bitAt, sideDigit, postDigit, hasPost};
 
 // What a state connects as.
 pub fn kind_of(state: u32) -> u32
@@ -97,8 +97,8 @@ fn digit_at(index: u32, side: u32) -> u32
 }
 
 // A state's digit on a side: 0 where it is not joined there.
-pub fn side_of(state: u32, side: u32) -> u32
-    ensures { λ r. ⌜ r ≡ sideOf state side ⌝ }
+pub fn side_digit(state: u32, side: u32) -> u32
+    ensures { λ r. ⌜ r ≡ sideDigit state side ⌝ }
 {
     let k = kind_of(state);
     if k == 0 {

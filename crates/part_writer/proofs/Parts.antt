@@ -12,16 +12,16 @@ use lib.ListN.{length, getD, take, drop, length-append, length-take, length-drop
 use lib.Seq.{getD-take, getD-drop, drop-drop, drop-at, take-all, take-add, take-append-le, drop-append-le}
 use borrow.Author.Tests.{lt-ltb, le-ltb, le-leb, leb-true}
 use Rattle.base.specs.Choose.{choose}
-use Rattle.base.specs.Loop.{stored}
+use Rattle.base.specs.Loop.{appended, stored}
 use Rattle.base.proofs.Every.{both, every-at, every-from}
+use Rattle.base.proofs.Appended.{appended-last, appended-same, appended-length, appended-at, appended-cut}
 use Rattle.base.proofs.Fill.{stored-then}
 use Rattle.blocks.specs.declared.Part.{Part}
 use Rattle.blocks.specs.Blocks.{blockOf, fileWord, newMark, isSecond, blockFits, perBlock, blocksOf, endOf, usedIn, partFits, partWord, bodyPart}
 use Rattle.blocks.proofs.Parts.{per-block}
 use Rattle.block_rules.proofs.Blocks.{block-is, block-small}
-use Rattle.part_writer.specs.Bytes.{joined, partBlock, partBytes, partRoom, writtenPart}
+use Rattle.part_writer.specs.Bytes.{partBlock, partBytes, partRoom, writtenPart}
 use Rattle.base.proofs.Stored.{stored-length}
-use Rattle.block_writer.proofs.Joined.{joined-same, joined-length, joined-at, joined-cut}
 use Rattle.block_writer.proofs.Blocks.{block-same, block-length}
 use Rattle.part_writer.proofs.Blocks.{Fit, made-used, made-marked, made-fits, marked-there, block-made}
 use Rattle.part_writer.proofs.Counts.{in-block, at-place, used-most, within, used-word}
@@ -55,12 +55,12 @@ module _ (p : Part) (f : ℕ → ℕ) where
 
   pub part-length : length (partBytes p f) ≡ blocksOf p * 512
   unfolding partBytes
-  part-length = joined-length 512 (partBlock p f) (blocksOf p) (λ j h. block-size j)
+  part-length = appended-length 512 (partBlock p f) (blocksOf p) (λ j h. block-size j)
 
 -- words that are none of the part's do not matter
 pub part-same : (p : Part) (f g : ℕ → ℕ) → ((i : ℕ) → i < p .words → f i ≡ g i) → partBytes p f ≡ partBytes p g
 unfolding partBytes partBlock
-part-same p f g e = joined-same (partBlock p f) (partBlock p g) (blocksOf p) (λ j h. block-same _ _ _ _ _ (λ k l. e _ (used-word p j k h l)))
+part-same p f g e = appended-same (partBlock p f) (partBlock p g) (blocksOf p) (λ j h. block-same _ _ _ _ _ (λ k l. e _ (used-word p j k h l)))
 
 -- ---- a file that holds these blocks at the part's place
 pub record Holds (file : List ℕ) (p : Part) (f : ℕ → ℕ) : Type 0 where
@@ -134,8 +134,8 @@ module _ (file : List ℕ) (p : Part) (f : ℕ → ℕ) where
   pub holds-bytes : Holds file p f → take (blocksOf p * 512) (drop (p .first * 512) file) ≡ partBytes p f
   unfolding partBytes
   holds-bytes holds =
-      joined-cut 512 (drop (p .first * 512) file) (blocksOf p)
-      ∙ joined-same (λ (j : ℕ). take 512 (drop (j * 512) (drop (p .first * 512) file))) (partBlock p f) (blocksOf p)
+      appended-cut 512 (drop (p .first * 512) file) (blocksOf p)
+      ∙ appended-same (λ (j : ℕ). take 512 (drop (j * 512) (drop (p .first * 512) file))) (partBlock p f) (blocksOf p)
       (λ j h. sym (cut j h (holds .whole)) ∙ holds .blocks j h)
 
   pub bytes-hold : endOf p * 512 ≤ length file → take (blocksOf p * 512) (drop (p .first * 512) file) ≡ partBytes p f → Holds file p f
@@ -155,9 +155,9 @@ module _ (file : List ℕ) (p : Part) (f : ℕ → ℕ) where
 
       piece : (j : ℕ) → j < blocksOf p → pieces j ≡ partBlock p f j
       piece j h =
-          sym (joined-at 512 pieces (blocksOf p) j size h)
-          ∙ ap (λ (l : List ℕ). take 512 (drop (j * 512) l)) (sym (joined-cut 512 (drop (p .first * 512) file) (blocksOf p)) ∙ e)
-          ∙ joined-at 512 (partBlock p f) (blocksOf p) j (λ j h. block-size p f j) h
+          sym (appended-at 512 pieces (blocksOf p) j size h)
+          ∙ ap (λ (l : List ℕ). take 512 (drop (j * 512) l)) (sym (appended-cut 512 (drop (p .first * 512) file) (blocksOf p)) ∙ e)
+          ∙ appended-at 512 (partBlock p f) (blocksOf p) j (λ j h. block-size p f j) h
 
 -- ---- room for a part
 
@@ -172,18 +172,17 @@ roomy size p h =
     record { few = leb-true _ _ (t .one); long = leb-true _ _ (t .two) }
 
 -- ---- the program's loop: a block more
-module _ (p : Part) (f : ℕ → ℕ) (l₀ l : List ℕ) (j : ℕ) (size : length l ≡ length l₀) (inv : l ≡ stored l₀ (p .first * 512) (joined (partBlock p f) j)) where
+module _ (p : Part) (f : ℕ → ℕ) (l₀ l : List ℕ) (j : ℕ) (size : length l ≡ length l₀) (inv : l ≡ stored l₀ (p .first * 512) (appended (partBlock p f) j 0)) where
   module _ (l′ block : List ℕ) (put : l′ ≡ stored l ((p .first + j) * 512) block) (e : block ≡ partBlock p f j) where
     pub turn-size : length l′ ≡ length l₀
     turn-size = ap length put ∙ stored-length l ((p .first + j) * 512) block ∙ size
 
-    pub turn-stored : l′ ≡ stored l₀ (p .first * 512) (joined (partBlock p f) (j + 1))
-    unfolding joined
+    pub turn-stored : l′ ≡ stored l₀ (p .first * 512) (appended (partBlock p f) (j + 1) 0)
     turn-stored =
         let n : j + 1 ≡ suc j = omega arith in
-        let b = joined-length 512 (partBlock p f) j (λ j h. block-size p f j) in
-        let q : (p .first + j) * 512 ≡ p .first * 512 + length (joined (partBlock p f) j) = omega arith in
-        rw (put, e, inv, q, n) (stored-then l₀ (p .first * 512) (joined (partBlock p f) j) (partBlock p f j))
+        let b = appended-length 512 (partBlock p f) j (λ j h. block-size p f j) in
+        let q : (p .first + j) * 512 ≡ p .first * 512 + length (appended (partBlock p f) j 0) = omega arith in
+        rw (put, e, inv, q, n, appended-last (partBlock p f) j) (stored-then l₀ (p .first * 512) (appended (partBlock p f) j 0) (partBlock p f j))
 
   -- the last
   pub all-written : partRoom (length l₀) p ≡ true → j ≡ blocksOf p → l ≡ writtenPart l₀ p f

@@ -6,9 +6,9 @@ use native.Mathlib.Nat.{mod-lt}
 use native.Mathlib.Omega.{arith}
 use lib.ListN.{length, getD, take, drop}
 use lib.Seq.{drop-cons, getD-take, getD-drop}
+use Rattle.base.proofs.Appended.{appended-same, appended-cut}
 use Rattle.blocks.specs.Blocks.{fileWord, sumOf, checkOf, secondOf}
 use Rattle.part_writer.specs.Bytes.{byteOf, wordBytes, bytesOf}
-use Rattle.block_writer.proofs.Joined.{joined-same, joined-cut}
 
 -- ---- the four bytes of a word, added up as the reader does
 
@@ -90,8 +90,8 @@ word-bytes l b k h =
 pub words-back : (l : List ℕ) → ((i : ℕ) → getD l i 0 < 256) → (n : ℕ) → n * 4 ≤ length l → take (n * 4) l ≡ bytesOf (fileWord l) n
 unfolding bytesOf
 words-back l b n h =
-    joined-cut 4 l n
-    ∙ joined-same (λ (k : ℕ). take 4 (drop (k * 4) l)) (λ (k : ℕ). wordBytes (fileWord l k)) n (λ k g. sym (word-bytes l b k (omega arith)))
+    appended-cut 4 l n
+    ∙ appended-same (λ (k : ℕ). take 4 (drop (k * 4) l)) (λ (k : ℕ). wordBytes (fileWord l k)) n (λ k g. sym (word-bytes l b k (omega arith)))
 
 -- ---- the two checks
 

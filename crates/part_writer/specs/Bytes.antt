@@ -7,12 +7,12 @@ use lib.Dec.{leb}
 use lib.ListN.{length, getD}
 use lib.Ieee.{Float, binary32, toBits}
 use Rattle.base.specs.Choose.{choose}
-use Rattle.base.specs.Loop.{stored}
+use Rattle.base.specs.Loop.{appended, stored}
 use Rattle.floats.specs.Numbers.{zero64}
 use Rattle.blocks.specs.declared.Part.{Part}
 use Rattle.blocks.specs.Blocks.{perBlock, blocksOf, endOf, usedIn}
 pub use Rattle.block_writer.specs.Bytes.{byteOf, wordIn}
-unfoldable pub use Rattle.block_writer.specs.Bytes.{joined, wordBytes, bytesOf, headBytes, payloadWord, withSecond, withCheck, blockBytes}
+unfoldable pub use Rattle.block_writer.specs.Bytes.{wordBytes, bytesOf, headBytes, payloadWord, withSecond, withCheck, blockBytes}
 
 -- ---- a part: its blocks, one after the other
 
@@ -21,7 +21,7 @@ unfoldable pub partBlock : Part → (ℕ → ℕ) → ℕ → List ℕ
 partBlock p f j = blockBytes (p .first + j) (p .kind) (λ k. f (j * perBlock (p .kind) + k)) (usedIn p j)
 
 unfoldable pub partBytes : Part → (ℕ → ℕ) → List ℕ
-partBytes p f = joined (partBlock p f) (blocksOf p)
+partBytes p f = appended (partBlock p f) (blocksOf p) 0
 
 -- the part ends within a scene's 128 blocks, and within a buffer of this size
 unfoldable pub partRoom : ℕ → Part → Bool

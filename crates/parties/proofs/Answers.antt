@@ -19,7 +19,7 @@ use Rattle.midnight.specs.Run.{runRefusal, rowsOf, checkedWritten, runWritten}
 use Rattle.base.proofs.Listed.{listed-length}
 use Rattle.night_answers.proofs.Bodies.{Named, no-window}
 use Rattle.midnight.proofs.Orders as midnight
-use Rattle.parties.specs.Parties.{Call, Who, partyOf, lentTo, bodiesIn, halfLength, halfOf, partyRefusal, refusalOf, partyWritten, halfAfter, callWritten}
+use Rattle.parties.specs.Parties.{Call, Who, partyOf, lentTo, bodiesIn, halfLength, halfOf, partyRefusal, refusalFor, partyWritten, halfAfter, callWritten}
 use Rattle.halves.proofs.Halves.{half-length}
 use Rattle.parties.proofs.Halves.{own-half}
 
@@ -68,8 +68,8 @@ module _ (who : Who) (call : Call) where
   unfolding halfAfter partyWritten checkedWritten
   by-tests = rw (counted, half-length who (call .out)) refl
 
-  pub unwritten : (refusalOf who call ≡ 0 → ⊥) → halfOf who (callWritten call) ≡ halfOf who (call .out)
-  unfolding refusalOf partyRefusal
+  pub unwritten : (refusalFor who call ≡ 0 → ⊥) → halfOf who (callWritten call) ≡ halfOf who (call .out)
+  unfolding refusalFor partyRefusal
   unwritten refused =
       own-half call who ∙ by-tests
       ∙ nothing-written (eqb (tableRefusal (call .records) (call .shapes)) 0) (ltb 2048 (partyOf who call .bodies))
@@ -78,10 +78,10 @@ module _ (who : Who) (call : Call) where
 
   -- ---- a party that is not
 
-  module _ (accepted : refusalOf who call ≡ 0) where
+  module _ (accepted : refusalFor who call ≡ 0) where
     tests : (eqb (tableRefusal (call .records) (call .shapes)) 0 ≡ true) × (ltb 2048 (partyOf who call .bodies) ≡ false)
         × (countRefusal (partyOf who call .count) (partyOf who call .bodies) (halfLength (call .out)) ≡ 0)
-    unfolding refusalOf partyRefusal
+    unfolding refusalFor partyRefusal
     tests =
         all-passed (eqb (tableRefusal (call .records) (call .shapes)) 0) (ltb 2048 (partyOf who call .bodies))
         (countRefusal (partyOf who call .count) (partyOf who call .bodies) (halfLength (call .out))) accepted

@@ -11,7 +11,7 @@ use borrow.Author.Tests.{ne-eqb}
 use Rattle.base.specs.Choose.{choose}
 use Rattle.table_check.specs.Check.{tableRefusal}
 use Rattle.parties.specs.declared.Refusals.{Refusals}
-use Rattle.parties.specs.Parties.{Call, Who, first, second, partyOf, lentTo, bodiesIn, halfLength, halfOf, nobodys, partyRefusal, refusalOf, callRefusals, partyWritten, halfAfter, callWritten}
+use Rattle.parties.specs.Parties.{Call, Who, first, second, partyOf, lentTo, bodiesIn, halfLength, halfOf, nobodys, partyRefusal, refusalFor, callRefusals, partyWritten, halfAfter, callWritten}
 use Rattle.halves.proofs.Halves.{half-length}
 use Rattle.parties.proofs.Halves.{written-length}
 
@@ -22,7 +22,7 @@ refusals r s = record { first = r; second = s }
 
 module _ (call : Call) (bad : tableRefusal (call .records) (call .shapes) ≡ 0 → ⊥) where
   pub both-refused : refusals 1 1 ≡ callRefusals call
-  unfolding refusalOf choose
+  unfolding refusalFor choose
   both-refused = rw (ne-eqb (tableRefusal (call .records) (call .shapes)) 0 bad)
 
   half-kept : (who : Who) → halfAfter who call ≡ halfOf who (call .out)
@@ -44,8 +44,8 @@ module _ (call : Call) (bad : tableRefusal (call .records) (call .shapes) ≡ 0 
 -- ---- tables that pass
 
 module _ (call : Call) (sound : tableRefusal (call .records) (call .shapes) ≡ 0) where
-  told-alone : (who : Who) → partyRefusal (partyOf who call .count) (partyOf who call .bodies) (length (halfOf who (call .out))) ≡ refusalOf who call
-  unfolding refusalOf choose
+  told-alone : (who : Who) → partyRefusal (partyOf who call .count) (partyOf who call .bodies) (length (halfOf who (call .out))) ≡ refusalFor who call
+  unfolding refusalFor choose
   told-alone who =
       ap (λ (k : ℕ). partyRefusal (partyOf who call .count) (partyOf who call .bodies) k) (half-length who (call .out))
       ∙ sym (ap (λ (n : ℕ). choose (eqb n 0) (partyRefusal (partyOf who call .count) (partyOf who call .bodies) (halfLength (call .out))) 1) sound)
@@ -80,7 +80,7 @@ module _ (call : Call) (sound : tableRefusal (call .records) (call .shapes) ≡ 
         → refusals r s ≡ callRefusals call
     told-both r s er es =
         ap (λ (k : ℕ). refusals k s) (er ∙ told-alone first)
-        ∙ ap (λ (k : ℕ). refusals (refusalOf first call) k)
+        ∙ ap (λ (k : ℕ). refusals (refusalFor first call) k)
         (es ∙ ap (λ (l : List Float). partyRefusal (call .second .count) (call .second .bodies) (length l)) untouched ∙ told-alone second)
 
     -- the second half is written, to y, and put back

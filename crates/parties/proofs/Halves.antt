@@ -9,7 +9,7 @@ use Rattle.base.specs.Choose.{choose}
 use Rattle.base.specs.Loop.{stored}
 use Rattle.table_check.specs.Check.{tableRefusal}
 use Rattle.night_rows.specs.Rows.{Row}
-use Rattle.night_answers.specs.Answers.{Lent}
+use Rattle.night_answers.specs.Answers.{NightLent}
 use Rattle.answer_rows.specs.Answers.{countRefusal}
 use Rattle.midnight.specs.Run.{checkedWritten, rowsOf}
 use Rattle.base.proofs.Stored.{stored-length}
@@ -23,7 +23,7 @@ chosen-length false x y half ex ey = ey
 
 -- ---- what a party's code leaves in its half, after 14, or as the midnight call over checked tables
 
-module _ (lent : Lent) (rows : List Row) (half : List Float) where
+module _ (lent : NightLent) (rows : List Row) (half : List Float) where
   pub written-length : length (partyWritten lent rows half) ≡ length half
   unfolding partyWritten checkedWritten
   written-length =

@@ -10,7 +10,7 @@ use Rattle.base.specs.Choose.{choose}
 use Rattle.table_check.specs.Check.{tableRefusal}
 use Rattle.night_answers.specs.Answers.{lentWith}
 use Rattle.midnight.specs.Run.{bodiesOf, answersIn}
-use Rattle.parties.specs.Parties.{Party, Call, Who, first, second, partyOf, halfOf, partyRefusal, refusalOf, callRefusals, partyWritten, halfAfter, callWritten, toldTo}
+use Rattle.parties.specs.Parties.{Party, Call, Who, first, second, partyOf, halfOf, partyRefusal, refusalFor, callRefusals, partyWritten, halfAfter, callWritten, toldTo}
 use Rattle.parties.specs.Separation.{Agree, Separation}
 use Rattle.parties.proofs.Halves.{own-half}
 
@@ -26,7 +26,7 @@ halfBy records shapes p half =
     half
 
 told : (who : Who) (call : Call) → toldTo who (callRefusals call) ≡ toldBy (call .records) (call .shapes) (partyOf who call) (length (call .out))
-unfolding refusalOf
+unfolding refusalFor
 told first call = refl
 told second call = refl
 

@@ -8,9 +8,9 @@ use lib.ListN.{length}
 use lib.Ieee.{Float}
 use Rattle.base.specs.Choose.{choose}
 use Rattle.table_check.specs.Check.{tableRefusal}
-pub use Rattle.halves.specs.Halves.{Who, first, second, halfLength, placeOf, halfOf, nobodys}
+pub use Rattle.halves.specs.Halves.{Who, first, second, halfLength, halfPlace, halfOf, nobodys}
 use Rattle.night_rows.specs.Rows.{Row}
-use Rattle.night_answers.specs.Answers.{Lent, lentWith}
+use Rattle.night_answers.specs.Answers.{NightLent, lentWith}
 use Rattle.answer_rows.specs.Answers.{countRefusal}
 use Rattle.midnight.specs.Run.{bodiesOf, checkedWritten, answersIn}
 use Rattle.parties.specs.declared.Refusals.{Refusals}
@@ -48,7 +48,7 @@ partyOf first call = call .first
 partyOf second call = call .second
 
 -- what its bodies share: the tables, and its windows and no others. A number that is not below their count names no window: 10
-abbrev pub lentTo : Who → Call → Lent
+abbrev pub lentTo : Who → Call → NightLent
 lentTo who call =
     lentWith (call .records) (call .shapes) (partyOf who call .windows) (partyOf who call .count) (partyOf who call .cells)
 
@@ -62,19 +62,19 @@ unfoldable pub partyRefusal : ℕ → ℕ → ℕ → ℕ
 partyRefusal windows bodies room = choose (ltb 2048 bodies) 14 (countRefusal windows bodies room)
 
 -- 1 before it, for both
-unfoldable pub refusalOf : Who → Call → ℕ
-refusalOf who call =
+unfoldable pub refusalFor : Who → Call → ℕ
+refusalFor who call =
     choose (eqb (tableRefusal (call .records) (call .shapes)) 0)
     (partyRefusal (partyOf who call .count) (partyOf who call .bodies) (halfLength (call .out)))
     1
 
 abbrev pub callRefusals : Call → Refusals
-callRefusals call = record { first = refusalOf first call; second = refusalOf second call }
+callRefusals call = record { first = refusalFor first call; second = refusalFor second call }
 
 -- ---- what is written
 
 -- into a half: nothing where its party is refused, else an answer for each of its bodies
-unfoldable pub partyWritten : Lent → List Row → List Float → List Float
+unfoldable pub partyWritten : NightLent → List Row → List Float → List Float
 partyWritten lent rows half = choose (ltb 2048 (length rows)) half (checkedWritten lent rows half)
 
 unfoldable pub halfAfter : Who → Call → List Float

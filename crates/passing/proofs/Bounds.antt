@@ -19,15 +19,15 @@ use Rattle.groups.specs.declared.Place.{Place}
 use Rattle.groups.specs.declared.Layout.{Layout}
 use Rattle.groups.specs.Places.{layoutOf}
 use Rattle.passing.specs.declared.Reach.{Reach}
-use Rattle.passing.specs.Passing.{firstOf, lastOf, spans, reachOf, nowhere}
+use Rattle.passing.specs.Passing.{firstColumn, lastColumn, spans, reachOf, nowhere}
 use Rattle.passing.proofs.Clear.{layout-fits, reach-is, reach-not}
 
 -- ---- a reach from what the calls answered
-module _ (w : Window) (r : Range) (l : Layout) (a b : Place) (el : l ≡ layoutOf (w .sizes)) (ea : a ≡ firstOf w r) (eb : b ≡ lastOf w r) where
+module _ (w : Window) (r : Range) (l : Layout) (a b : Place) (el : l ≡ layoutOf (w .sizes)) (ea : a ≡ firstColumn w r) (eb : b ≡ lastColumn w r) where
   laid : (t : Bool) → l .fits ≡ t → layoutOf (w .sizes) .fits ≡ t
   laid t f = ap (λ (k : Layout). k .fits) (sym el) ∙ f
 
-  spanned : (t : Bool) → spans (w .sizes) a b ≡ t → spans (w .sizes) (firstOf w r) (lastOf w r) ≡ t
+  spanned : (t : Bool) → spans (w .sizes) a b ≡ t → spans (w .sizes) (firstColumn w r) (lastColumn w r) ≡ t
   spanned t g = (λ i. spans (w .sizes) (sym ea i) (sym eb i)) ∙ g
 
   pub made : l .fits ≡ true → spans (w .sizes) a b ≡ true → (m n : ℕ) → m ≡ b .x / 4 + 1 - a .x / 4 → n ≡ b .z / 4 + 1 - a .z / 4
@@ -36,10 +36,10 @@ module _ (w : Window) (r : Range) (l : Layout) (a b : Place) (el : l ≡ layoutO
       let across = em ∙ (λ i. eb i .x / 4 + 1 - ea i .x / 4) in
       let deep = en ∙ (λ i. eb i .z / 4 + 1 - ea i .z / 4) in
       (λ i. record { on = true; before = el i .before; row = el i .across; layer = el i .deep; x = ea i .x / 4; z = ea i .z / 4; across = across i; deep = deep i })
-      ∙ sym (reach-is w r (and-true (layoutOf (w .sizes) .fits) (spans (w .sizes) (firstOf w r) (lastOf w r)) (laid true f) (spanned true g)))
+      ∙ sym (reach-is w r (and-true (layoutOf (w .sizes) .fits) (spans (w .sizes) (firstColumn w r) (lastColumn w r)) (laid true f) (spanned true g)))
 
   pub not-spanned : spans (w .sizes) a b ≡ false → nowhere ≡ reachOf w r
-  not-spanned g = sym (reach-not w r (and-right (layoutOf (w .sizes) .fits) (spans (w .sizes) (firstOf w r) (lastOf w r)) (spanned false g)))
+  not-spanned g = sym (reach-not w r (and-right (layoutOf (w .sizes) .fits) (spans (w .sizes) (firstColumn w r) (lastColumn w r)) (spanned false g)))
 
 pub not-laid : (w : Window) (r : Range) (l : Layout) → l ≡ layoutOf (w .sizes) → l .fits ≡ false → nowhere ≡ reachOf w r
 unfolding reachOf choose

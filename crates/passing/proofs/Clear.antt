@@ -27,22 +27,22 @@ use Rattle.groups.specs.Summary.{wordsBefore, hasSummary}
 use Rattle.groups.specs.Places.{layoutOf, offsetIn, placeIn}
 use Rattle.groups.proofs.Sets.{Kept, has, of-four, at-index, index-under}
 use Rattle.passing.specs.declared.Reach.{Reach}
-use Rattle.passing.specs.Passing.{firstOf, lastOf, spans, between, nowhere, reachOf, reachIn, marked, allMarked, passesBy, passes}
+use Rattle.passing.specs.Passing.{firstColumn, lastColumn, spans, reachBetween, nowhere, reachOf, reachIn, rowMarked, allMarked, passesBy, passes}
 use Rattle.passing.proofs.Spans.{Between, in-range, alone}
 
 -- ---- what a reach that is on says
 abbrev pub reaches : Window → Range → Bool
-reaches w r = layoutOf (w .sizes) .fits && spans (w .sizes) (firstOf w r) (lastOf w r)
+reaches w r = layoutOf (w .sizes) .fits && spans (w .sizes) (firstColumn w r) (lastColumn w r)
 
 reach-on : (w : Window) (r : Range) → reachOf w r .on ≡ true → reaches w r ≡ true
 unfolding reachOf choose
 reach-on w r h = go (reaches w r) h
   where
-    go : (t : Bool) → (choose t (between (layoutOf (w .sizes)) (firstOf w r) (lastOf w r)) nowhere) .on ≡ true → t ≡ true
+    go : (t : Bool) → (choose t (reachBetween (layoutOf (w .sizes)) (firstColumn w r) (lastColumn w r)) nowhere) .on ≡ true → t ≡ true
     go true h = refl
     go false h = absurd (false≢true h)
 
-pub reach-is : (w : Window) (r : Range) → reaches w r ≡ true → reachOf w r ≡ between (layoutOf (w .sizes)) (firstOf w r) (lastOf w r)
+pub reach-is : (w : Window) (r : Range) → reaches w r ≡ true → reachOf w r ≡ reachBetween (layoutOf (w .sizes)) (firstColumn w r) (lastColumn w r)
 unfolding reachOf choose
 reach-is w r h = rw h
 
@@ -136,33 +136,33 @@ module _ (words : List ℕ) (w : Window) (r : Range) (y : ℕ) (over : passes wo
       both (reachOf w r .on) (ltb up (s .y)) (p .one) .two
 
   fit : sizesFit s ≡ true
-  fit = layout-fits s (both (layoutOf s .fits) (spans s (firstOf w r) (lastOf w r)) reached .one)
+  fit = layout-fits s (both (layoutOf s .fits) (spans s (firstColumn w r) (lastColumn w r)) reached .one)
 
-  full : reachOf w r ≡ between record { fits = true; before = wordsBefore s; across = groupsOn (s .x); deep = groupsOn (s .z) } (firstOf w r) (lastOf w r)
-  full = reach-is w r reached ∙ ap (λ (l : Layout). between l (firstOf w r) (lastOf w r)) (layout-is s fit)
+  full : reachOf w r ≡ reachBetween record { fits = true; before = wordsBefore s; across = groupsOn (s .x); deep = groupsOn (s .z) } (firstColumn w r) (lastColumn w r)
+  full = reach-is w r reached ∙ ap (λ (l : Layout). reachBetween l (firstColumn w r) (lastColumn w r)) (layout-is s fit)
 
-  all : allMarked words (between record { fits = true; before = wordsBefore s; across = groupsOn (s .x); deep = groupsOn (s .z) } (firstOf w r) (lastOf w r)) up ≡ true
+  all : allMarked words (reachBetween record { fits = true; before = wordsBefore s; across = groupsOn (s .x); deep = groupsOn (s .z) } (firstColumn w r) (lastColumn w r)) up ≡ true
   unfolding passesBy
   all =
       let p = both (reachOf w r .on && ltb up (s .y)) (allMarked words (reachOf w r) up) e in
       ap (λ (k : Reach). allMarked words k up) (sym full) ∙ p .two
 
   -- the four ends
-  ends : spans s (firstOf w r) (lastOf w r) ≡ true
-  ends = both (layoutOf s .fits) (spans s (firstOf w r) (lastOf w r)) reached .two
+  ends : spans s (firstColumn w r) (lastColumn w r) ≡ true
+  ends = both (layoutOf s .fits) (spans s (firstColumn w r) (lastColumn w r)) reached .two
 
   module _ (x z : ℕ) (hx : x < r .x .count) (hz : z < r .z .count) where
-    on-x : Between (w .origin .x) (s .x) (onFrom (r .x .first) x) (firstOf w r .x) (lastOf w r .x)
+    on-x : Between (w .origin .x) (s .x) (onFrom (r .x .first) x) (firstColumn w r .x) (lastColumn w r .x)
     on-x =
-        let a = both (ltb (firstOf w r .x) (s .x) && ltb (lastOf w r .x) (s .x) && ltb (firstOf w r .z) (s .z)) (ltb (lastOf w r .z) (s .z)) ends in
-        let b = both (ltb (firstOf w r .x) (s .x) && ltb (lastOf w r .x) (s .x)) (ltb (firstOf w r .z) (s .z)) (a .one) in
-        let c = both (ltb (firstOf w r .x) (s .x)) (ltb (lastOf w r .x) (s .x)) (b .one) in
+        let a = both (ltb (firstColumn w r .x) (s .x) && ltb (lastColumn w r .x) (s .x) && ltb (firstColumn w r .z) (s .z)) (ltb (lastColumn w r .z) (s .z)) ends in
+        let b = both (ltb (firstColumn w r .x) (s .x) && ltb (lastColumn w r .x) (s .x)) (ltb (firstColumn w r .z) (s .z)) (a .one) in
+        let c = both (ltb (firstColumn w r .x) (s .x)) (ltb (lastColumn w r .x) (s .x)) (b .one) in
         in-range (w .origin .x) (s .x) (r .x .first) (r .x .count) x hx (c .one) (c .two)
 
-    on-z : Between (w .origin .z) (s .z) (onFrom (r .z .first) z) (firstOf w r .z) (lastOf w r .z)
+    on-z : Between (w .origin .z) (s .z) (onFrom (r .z .first) z) (firstColumn w r .z) (lastColumn w r .z)
     on-z =
-        let a = both (ltb (firstOf w r .x) (s .x) && ltb (lastOf w r .x) (s .x) && ltb (firstOf w r .z) (s .z)) (ltb (lastOf w r .z) (s .z)) ends in
-        let b = both (ltb (firstOf w r .x) (s .x) && ltb (lastOf w r .x) (s .x)) (ltb (firstOf w r .z) (s .z)) (a .one) in
+        let a = both (ltb (firstColumn w r .x) (s .x) && ltb (lastColumn w r .x) (s .x) && ltb (firstColumn w r .z) (s .z)) (ltb (lastColumn w r .z) (s .z)) ends in
+        let b = both (ltb (firstColumn w r .x) (s .x) && ltb (lastColumn w r .x) (s .x)) (ltb (firstColumn w r .z) (s .z)) (a .one) in
         in-range (w .origin .z) (s .z) (r .z .first) (r .z .count) z hz (b .two) (a .two)
 
     on-y : Between (w .origin .y) (s .y) (onFrom (r .y .first) y) up up
@@ -172,13 +172,13 @@ module _ (words : List ℕ) (w : Window) (r : Range) (y : ℕ) (over : passes wo
     g = record { x = on-x .at / 4; y = up / 4; z = on-z .at / 4 }
 
     word-marked : getD words (wordsBefore s + groupIndex s g) 1 ≡ 0
-    unfolding allMarked marked
+    unfolding allMarked rowMarked
     word-marked =
-        let i = on-x .at / 4 - firstOf w r .x / 4 in
-        let j = on-z .at / 4 - firstOf w r .z / 4 in
-        let rows = every-at (lastOf w r .z / 4 + 1 - firstOf w r .z / 4) _ all j (steps (firstOf w r .z) (on-z .at) (lastOf w r .z) (on-z .above) (on-z .under)) in
-        let word = every-at (lastOf w r .x / 4 + 1 - firstOf w r .x / 4) _ rows i (steps (firstOf w r .x) (on-x .at) (lastOf w r .x) (on-x .above) (on-x .under)) in
-        let place = word-place (wordsBefore s) (firstOf w r .x / 4) i (on-x .at / 4) (up / 4) (groupsOn (s .z)) (firstOf w r .z / 4) j (on-z .at / 4) (groupsOn (s .x)) (on-from (firstOf w r .x) (on-x .at) (on-x .above)) (on-from (firstOf w r .z) (on-z .at) (on-z .above)) in
+        let i = on-x .at / 4 - firstColumn w r .x / 4 in
+        let j = on-z .at / 4 - firstColumn w r .z / 4 in
+        let rows = every-at (lastColumn w r .z / 4 + 1 - firstColumn w r .z / 4) _ all j (steps (firstColumn w r .z) (on-z .at) (lastColumn w r .z) (on-z .above) (on-z .under)) in
+        let word = every-at (lastColumn w r .x / 4 + 1 - firstColumn w r .x / 4) _ rows i (steps (firstColumn w r .x) (on-x .at) (lastColumn w r .x) (on-x .above) (on-x .under)) in
+        let place = word-place (wordsBefore s) (firstColumn w r .x / 4) i (on-x .at / 4) (up / 4) (groupsOn (s .z)) (firstColumn w r .z / 4) j (on-z .at / 4) (groupsOn (s .x)) (on-from (firstColumn w r .x) (on-x .at) (on-x .above)) (on-from (firstColumn w r .z) (on-z .at) (on-z .above)) in
         subst (λ (n : ℕ). getD words n 1 ≡ 0) place (eqb-true _ 0 word)
 
     gx : g .x < groupsOn (s .x)

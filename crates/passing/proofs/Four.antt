@@ -16,7 +16,7 @@ use Rattle.groups.specs.declared.Place.{Place}
 use Rattle.groups.specs.Places.{placeIn}
 use Rattle.passing.specs.declared.Reach.{Reach}
 use Rattle.passing.specs.declared.Stretch.{Stretch}
-use Rattle.passing.specs.Passing.{marked, allMarked, heightOf, passesBy, linesBy, endOf, stretchAt, Tells}
+use Rattle.passing.specs.Passing.{rowMarked, allMarked, heightOf, passesBy, linesBy, stretchEnd, stretchAt, Tells}
 use Rattle.passing.proofs.Spans.{on-from}
 
 module _ (words : List ℕ) (w : Window) (r : Range) (k : Reach) where
@@ -25,7 +25,7 @@ module _ (words : List ℕ) (w : Window) (r : Range) (k : Reach) where
 
   marked-alike : (a b : ℕ) → a / 4 ≡ b / 4 → allMarked words k a ≡ allMarked words k b
   unfolding allMarked
-  marked-alike a b e = ap (λ (g : ℕ). every (k .deep) (λ j. marked words (k .before + k .x + (g * k .layer + k .z + j) * k .row) (k .across))) e
+  marked-alike a b e = ap (λ (g : ℕ). every (k .deep) (λ j. rowMarked words (k .before + k .x + (g * k .layer + k .z + j) * k .row) (k .across))) e
 
   same : (y z : ℕ) → up y < w .sizes .y → up z < w .sizes .y → up y / 4 ≡ up z / 4 → linesBy words w r k y ≡ linesBy words w r k z
   unfolding passesBy
@@ -44,7 +44,7 @@ module _ (words : List ℕ) (w : Window) (r : Range) (k : Reach) where
   later s y t = record { tells = λ z a b. t .tells z (omega arith) b }
 
   -- what the groups of a layer say is so up to where they end
-  asked : (y : ℕ) → Tells words w r k record { until = endOf w r k y; lines = linesBy words w r k y } y
+  asked : (y : ℕ) → Tells words w r k record { until = stretchEnd w r k y; lines = linesBy words w r k y } y
   unfolding choose
   asked y = go (k .on) (ltb (up y) (w .sizes .y)) refl refl
     where
@@ -68,7 +68,7 @@ module _ (words : List ℕ) (w : Window) (r : Range) (k : Reach) where
     unfolding stretchAt choose
     handed-on = rw e (go (ltb y (last .until)))
       where
-        go : (t : Bool) → Tells words w r k (choose t last record { until = endOf w r k y; lines = linesBy words w r k y }) y
+        go : (t : Bool) → Tells words w r k (choose t last record { until = stretchEnd w r k y; lines = linesBy words w r k y }) y
         go true = known
         go false = asked y
 
@@ -77,7 +77,7 @@ module _ (words : List ℕ) (w : Window) (r : Range) (k : Reach) where
     unfolding stretchAt choose
     its-lines = rw e (go (ltb y (last .until)) refl)
       where
-        go : (t : Bool) → ltb y (last .until) ≡ t → (choose t last record { until = endOf w r k y; lines = linesBy words w r k y }) .lines ≡ linesBy words w r k y
+        go : (t : Bool) → ltb y (last .until) ≡ t → (choose t last record { until = stretchEnd w r k y; lines = linesBy words w r k y }) .lines ≡ linesBy words w r k y
         go true f = known .tells y (omega arith) (ltb-true y (last .until) f)
         go false f = refl
 

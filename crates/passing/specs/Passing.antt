@@ -19,19 +19,19 @@ use Rattle.passing.specs.declared.Reach.{Reach}
 use Rattle.passing.specs.declared.Stretch.{Stretch}
 
 -- how far the first and the last column of a range lie from the origin
-abbrev pub firstOf : Window → Range → Place
-firstOf w r = placeIn w (placeAt r 0 0 0)
+abbrev pub firstColumn : Window → Range → Place
+firstColumn w r = placeIn w (placeAt r 0 0 0)
 
-abbrev pub lastOf : Window → Range → Place
-lastOf w r = placeIn w (placeAt r (r .x .count - 1) 0 (r .z .count - 1))
+abbrev pub lastColumn : Window → Range → Place
+lastColumn w r = placeIn w (placeAt r (r .x .count - 1) 0 (r .z .count - 1))
 
 -- both lie in the window, and so does every column between them
 abbrev pub spans : Sizes → Place → Place → Bool
 spans s a b = ltb (a .x) (s .x) && ltb (b .x) (s .x) && ltb (a .z) (s .z) && ltb (b .z) (s .z)
 
 -- the groups from that of the first to that of the last
-abbrev pub between : Layout → Place → Place → Reach
-between l a b =
+abbrev pub reachBetween : Layout → Place → Place → Reach
+reachBetween l a b =
     record {
       on = true;
       before = l .before;
@@ -48,8 +48,8 @@ nowhere = record { on = false; before = 0; row = 0; layer = 0; x = 0; z = 0; acr
 
 unfoldable pub reachOf : Window → Range → Reach
 reachOf w r =
-    choose (layoutOf (w .sizes) .fits && spans (w .sizes) (firstOf w r) (lastOf w r))
-    (between (layoutOf (w .sizes)) (firstOf w r) (lastOf w r))
+    choose (layoutOf (w .sizes) .fits && spans (w .sizes) (firstColumn w r) (lastColumn w r))
+    (reachBetween (layoutOf (w .sizes)) (firstColumn w r) (lastColumn w r))
     nowhere
 
 -- none where no word is lent behind those of cells and columns
@@ -57,11 +57,11 @@ unfoldable pub reachIn : List ℕ → Window → Range → Reach
 reachIn words w r = choose (ltb (layoutOf (w .sizes) .before) (length words)) (reachOf w r) nowhere
 
 -- so many words from a place on are 0, and so many such rows
-unfoldable pub marked : List ℕ → ℕ → ℕ → Bool
-marked words at n = every n (λ i. eqb (getD words (at + i) 1) 0)
+unfoldable pub rowMarked : List ℕ → ℕ → ℕ → Bool
+rowMarked words at n = every n (λ i. eqb (getD words (at + i) 1) 0)
 
 unfoldable pub allMarked : List ℕ → Reach → ℕ → Bool
-allMarked words k y = every (k .deep) (λ j. marked words (k .before + k .x + (y / 4 * k .layer + k .z + j) * k .row) (k .across))
+allMarked words k y = every (k .deep) (λ j. rowMarked words (k .before + k .x + (y / 4 * k .layer + k .z + j) * k .row) (k .across))
 
 -- how far above the origin a layer of the range lies, and the window's height where it lies outside
 abbrev pub heightOf : Window → Range → ℕ → ℕ
@@ -79,15 +79,15 @@ linesBy words w r k y = choose (passesBy words w r k y) 0 (r .x .count)
 
 -- the first layer after y whose groups may be others: after those of the same four, or of the window; 0, which is none after y, where y lies outside
 -- the window's heights; and 2^32, beyond every layer, where no layer is passed over
-abbrev pub endOf : Window → Range → Reach → ℕ → ℕ
-endOf w r k y =
+abbrev pub stretchEnd : Window → Range → Reach → ℕ → ℕ
+stretchEnd w r k y =
     choose (k .on)
     (choose (ltb (heightOf w r y) (w .sizes .y)) (y + min (4 - heightOf w r y % 4) (w .sizes .y - heightOf w r y)) 0)
     4294967296
 
 -- what is known of layer y and those after it: what was known before, where that goes so far, and else what the groups of layer y say
 unfoldable pub stretchAt : List ℕ → Window → Range → Reach → ℕ → Stretch → Stretch
-stretchAt words w r k y last = choose (ltb y (last .until)) last record { until = endOf w r k y; lines = linesBy words w r k y }
+stretchAt words w r k y last = choose (ltb y (last .until)) last record { until = stretchEnd w r k y; lines = linesBy words w r k y }
 
 -- a stretch tells the lines of each layer from y on up to its end
 pub record Tells (words : List ℕ) (w : Window) (r : Range) (k : Reach) (s : Stretch) (y : ℕ) : Type 0 where

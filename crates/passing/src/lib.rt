@@ -10,7 +10,7 @@ ghost use mathlib.Core.Bool.{_&&_};
 ghost use Prim.Native.Nat.{_+_, _*_, _-_, _/_, _%_, _≤_, min};
 ghost use lib.Dec.{eqb};
 ghost use lib.ListN.{getD};
-ghost use Rattle.passing.specs.Passing.{spans, reachOf, reachIn, marked, allMarked, stretchAt};
+ghost use Rattle.passing.specs.Passing.{spans, reachOf, reachIn, rowMarked, allMarked, stretchAt};
 
 // The groups of a range's columns: the first on x and z, and how many from there on; where the words of groups stand, and how many groups a row and
 // a layer of them has. `on` is no where a column of the range lies outside the window.
@@ -116,7 +116,7 @@ fn is_clear(words: &[u32], i: usize) -> bool
 // So many words from a place on are there, and are 0.
 fn is_marked(words: &[u32], at: usize, n: u8) -> bool
     requires { ⌜ at ≤ 1152921504606846976 ⌝ }
-    ensures { λ r. ⌜ r ≡ marked (now (words .entry)) at n ⌝ }
+    ensures { λ r. ⌜ r ≡ rowMarked (now (words .entry)) at n ⌝ }
 {
     let n = n as usize;
     let mut i = 0usize;

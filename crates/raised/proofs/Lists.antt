@@ -22,7 +22,7 @@ use Rattle.window.specs.declared.Window.{Window}
 use Rattle.window.specs.Look.{lookAt}
 use Rattle.lent.specs.Lent.{directRefusal}
 use Rattle.groups.specs.Summary.{summaryRefusal}
-use Rattle.summary.specs.Calls.{plain}
+use Rattle.summary.specs.Calls.{plainWords}
 use Rattle.collection.specs.Collect.{sweptArea, collectBlockBoxes}
 use Rattle.collection.specs.Answers.{heldAsked}
 use Rattle.collection.proofs.Caps.{raised}
@@ -66,11 +66,11 @@ unfolding moveSummed choose
 moved-summed records shapes words w cap higher raise aabb delta step ground =
     rw (raise .first, raise .second)
     (told (moveAnswer aabb) (λ (a : MoveAnswer). a .refusal) refl _ _
-    (chosen (not (eqb (directRefusal records shapes (plain words w) w) 0)) (refused (directRefusal records shapes (plain words w) w)) _ _
+    (chosen (not (eqb (directRefusal records shapes (plainWords words w) w) 0)) (refused (directRefusal records shapes (plainWords words w) w)) _ _
     (chosen (not (isStep step)) (refused 3) _ _
     (chosen (not (isBox aabb && isDelta delta)) (refused 4) _ _
     (chosen (not (eqb (summaryRefusal records words w) 0)) (refused (summaryRefusal records words w)) _ _
-    (move-raised records shapes (plain words w) w (capOf cap) (capOf higher) (raise .above) aabb delta step ground))))))
+    (move-raised records shapes (plainWords words w) w (capOf cap) (capOf higher) (raise .above) aabb delta step ground))))))
 
 module _ (cap higher : ℕ) (raise : Raised cap higher) (list : BoxList) (aabb : Aabb) (delta : Vec3) (step : Float) (ground : Bool) where
   abbrev after : Bool → Bool → Bool → ℕ

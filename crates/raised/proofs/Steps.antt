@@ -20,7 +20,7 @@ use Rattle.window.specs.Look.{Block, lookAt}
 use Rattle.window.specs.Numbers.{withAir}
 use Rattle.lent.specs.Lent.{lentRefusal}
 use Rattle.groups.specs.Summary.{summaryRefusal}
-use Rattle.summary.specs.Calls.{plain}
+use Rattle.summary.specs.Calls.{plainWords}
 use Rattle.bodies.specs.declared.Body.{Body}
 use Rattle.bodies.specs.declared.BodyNumbers.{BodyNumbers}
 use Rattle.bodies.specs.declared.Ground.{Ground}
@@ -133,16 +133,16 @@ module _ (rules : Rules) (c d : ℕ) (raise : Raised c d) (records : List ℕ) (
 module _ (rules : Rules) (c d : ℕ) (raise : Raised c d) (records : List ℕ) (shapes : List Float) (words : List ℕ) (w : Window) (body : BodyNumbers) (given : MotionNumbers) (age : ℕ) where
   by-summary : Beside (summedAsked records shapes words w (withCap rules c) body given age) (summedAsked records shapes words w (withCap rules d) body given age)
   by-summary =
-      refused-alike (numberRefusal records (withCap rules c) body given) (numberRefusal records (withCap rules d) body given) _ _ (same-refusal rules c d raise records shapes (plain words w) w body given age)
+      refused-alike (numberRefusal records (withCap rules c) body given) (numberRefusal records (withCap rules d) body given) _ _ (same-refusal rules c d raise records shapes (plainWords words w) w body given age)
       (chosen _ (refused (summaryRefusal records words (withAir w (rules .air)))) _ _
-      (checked rules c d raise records shapes (plain words w) w body given age))
+      (checked rules c d raise records shapes (plainWords words w) w body given age))
 
   pub stepped-summed : Alters6 (stepSummed records shapes words w (withCap rules c) body given age .refusal) (stepSummed records shapes words w (withCap rules c) body given age) (stepSummed records shapes words w (withCap rules d) body given age)
   unfolding stepSummed
-  stepped-summed = told (stepAnswer given) (λ (a : StepAnswer). a .refusal) refl _ _ (chosen _ (refused (lentRefusal records shapes (plain words w) w)) _ _ by-summary)
+  stepped-summed = told (stepAnswer given) (λ (a : StepAnswer). a .refusal) refl _ _ (chosen _ (refused (lentRefusal records shapes (plainWords words w) w)) _ _ by-summary)
 
   pub fallen-summed : (fall : Fall) → Alters6 (fallingSummed records shapes words w (withCap rules c) body given age fall .step .refusal) (fallingSummed records shapes words w (withCap rules c) body given age fall) (fallingSummed records shapes words w (withCap rules d) body given age fall)
   unfolding fallingSummed withFall
   fallen-summed fall =
       told (λ (m : Ask Tick). withFall fall given (stepAnswer given m)) (λ (a : FallingAnswer). a .step .refusal) refl _ _
-      (chosen _ (refused (lentRefusal records shapes (plain words w) w)) _ _ (chosen (not (fallFits fall)) (refused 3) _ _ by-summary))
+      (chosen _ (refused (lentRefusal records shapes (plainWords words w) w)) _ _ (chosen (not (fallFits fall)) (refused 3) _ _ by-summary))

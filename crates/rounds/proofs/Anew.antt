@@ -20,12 +20,12 @@ use Rattle.blocks.specs.Blocks.{partWord, bodyPart, recordPart, boxPart, window
 use Rattle.files.specs.declared.Counts.{Counts}
 use Rattle.files.specs.Places.{wordPlace, flapNumber, presentWord}
 use Rattle.files.specs.Files.{bodyWord, windowIn, countsOf, blocksFor, isScene}
-use Rattle.files.specs.Contents.{Contents, bodyFloat, lateWord, ageIn, wordsOf, singlesOf, contentsIn}
+use Rattle.files.specs.Contents.{Contents, bodyFloat, lateWord, bodyAge, wordsOf, singlesOf, contentsIn}
 use Rattle.files.proofs.Told.{tells}
 use Rattle.part_writer.specs.Bytes.{wordIn}
 use Rattle.base.proofs.Listed.{listed-length, listed-from}
 use Rattle.writer.specs.Contents.{countsFor, isAbsent, writtenNumber, asWritten}
-use Rattle.writer.specs.Written.{sceneBlocks, refusalOf, writtenBy}
+use Rattle.writer.specs.Written.{sceneBlocks, refusalOfContents, writtenUnless}
 use Rattle.writer.proofs.Puts.{bytes-length}
 use Rattle.rounds.specs.Rounds.{Typed, SameNumbers, WrittenAnew}
 use Rattle.rounds.proofs.Passed.{passed}
@@ -61,7 +61,7 @@ zero-single = tt
 wide-fits : (l h : ℕ) → l < 4294967296 → h < 4294967296 → wideOf l h < 18446744073709551616
 wide-fits l h a b = omega arith
 
-module _ (file : List ℕ) (small : (i : ℕ) → getD file i 0 < 256) (s : isScene file ≡ true) (z : refusalOf (contentsIn file) ≡ 0) where
+module _ (file : List ℕ) (small : (i : ℕ) → getD file i 0 < 256) (s : isScene file ≡ true) (z : refusalOfContents (contentsIn file) ≡ 0) where
   abbrev c : Contents
   c = contentsIn file
 
@@ -75,7 +75,7 @@ module _ (file : List ℕ) (small : (i : ℕ) → getD file i 0 < 256) (s : isSc
   fit p i = part-word-fits file small p i
 
   typed : Typed c
-  unfolding wordsOf singlesOf windowIn bodyFloat ageIn
+  unfolding wordsOf singlesOf windowIn bodyFloat bodyAge
   typed =
       let w = windowPart (n .states) (n .boxes) in
       record {
@@ -116,7 +116,7 @@ module _ (file : List ℕ) (small : (i : ℕ) → getD file i 0 < 256) (s : isSc
   few = subst (λ k. k ≤ 128) (sym (ap (λ m. blocksFor m) (counts-same file small s z))) (tells file s .few)
 
   pub same-numbers : SameNumbers file
-  unfolding writtenBy choose
+  unfolding writtenUnless choose
   same-numbers =
       let p = passed c z in
       record {

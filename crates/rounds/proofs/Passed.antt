@@ -20,7 +20,7 @@ use Rattle.bodies.specs.Numbers.{lengthsFit}
 use Rattle.bodies.specs.Limits.{numbersFit, motionFits, numberRefusal}
 use Rattle.bodies.specs.Lent.{motionAt, bodyAt, rulesAt, bodyRefusal}
 use Rattle.files.specs.Contents.{Contents}
-use Rattle.writer.specs.Written.{contentsRefusal, refusalOf}
+use Rattle.writer.specs.Written.{contentsRefusal, refusalOfContents}
 use Rattle.writer.proofs.Refusals.{neither, held}
 
 -- ---- the tables, the window and the body
@@ -115,7 +115,7 @@ pub record Passed (c : Contents) : Type 0 where
   pub numbers-fit : numbersFit (c .records) (rulesAt (c .numbers) (c .words)) (bodyAt (c .numbers) (c .words)) (motionAt (c .numbers) (c .words) .ground) ≡ true
   pub motion-fits : motionFits (motionAt (c .numbers) (c .words) .feet) (motionAt (c .numbers) (c .words) .velocity) ≡ true
 
-pub passed : (c : Contents) → refusalOf c ≡ 0 → Passed c
+pub passed : (c : Contents) → refusalOfContents c ≡ 0 → Passed c
 unfolding contentsRefusal lentRefusal
 passed c h =
     let n = neither (lentRefusal (c .records) (c .shapes) (c .cells) (c .window)) (bodyRefusal (c .records) (c .numbers) (c .words)) h in

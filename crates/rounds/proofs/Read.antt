@@ -24,12 +24,12 @@ use Rattle.files.specs.declared.Counts.{Counts}
 use Rattle.files.proofs.Told.{Told, tells}
 use Rattle.files.specs.Places.{numberPlace, wordPlace, statesPlace, boxesPlace, flapNumber, presentWord, airWord, capWord}
 use Rattle.files.specs.Files.{bodyWord, flapFits, windowIn, countsIn, countsOf, blocksFor, isScene}
-use Rattle.files.specs.Contents.{Contents, bodyFloat, lateWord, ageIn, wordsOf, singlesOf, contentsIn}
+use Rattle.files.specs.Contents.{Contents, bodyFloat, lateWord, bodyAge, wordsOf, singlesOf, contentsIn}
 use Rattle.part_writer.specs.Bytes.{partBytes, wordIn, bitsIn}
 use Rattle.base.proofs.Listed.{listed-length, listed-from}
 use Rattle.part_writer.proofs.Parts.{fits-holds, holds-next, part-same}
 use Rattle.writer.specs.Contents.{countsFor, isAbsent, writtenNumber}
-use Rattle.writer.specs.Written.{halfOf, bodyWordOf, bytesBy, sceneBytes, sceneBlocks, roomFor, roomRefusal, refusalOf, sceneRefusal, writtenBy, answerBy}
+use Rattle.writer.specs.Written.{wordOfWide, bodyWordOf, bytesBy, sceneBytes, sceneBlocks, roomFor, roomRefusal, refusalOfContents, sceneRefusal, writtenUnless, answerBy}
 use Rattle.scene_room.proofs.Rooms.{room-enough}
 use Rattle.rounds.specs.Rounds.{ComesOut, ReadThenWritten}
 use Rattle.rounds.proofs.Passed.{Passed, passed}
@@ -49,7 +49,7 @@ module _ (file : List ℕ) (small : (i : ℕ) → getD file i 0 < 256) where
       go false = omega arith
 
   -- ---- what the contents come to, word by word
-  module _ (s : isScene file ≡ true) (z : refusalOf (contentsIn file) ≡ 0) where
+  module _ (s : isScene file ≡ true) (z : refusalOfContents (contentsIn file) ≡ 0) where
     abbrev n : Counts
     n = countsOf file
 
@@ -124,8 +124,8 @@ module _ (file : List ℕ) (small : (i : ℕ) → getD file i 0 < 256) where
         (toBits-ofBits binary64 (wide k) (wide-fits _ _ (part-word-fits bodyPart (numberPlace k)) (part-word-fits bodyPart (numberPlace k + 1))) (known _ e))
 
     -- half j of a number's bits is its word
-    half-same : (k j : ℕ) → j < 2 → halfOf (wide k) j ≡ bodyWord file (k * 2 + j)
-    unfolding halfOf choose
+    half-same : (k j : ℕ) → j < 2 → wordOfWide (wide k) j ≡ bodyWord file (k * 2 + j)
+    unfolding wordOfWide choose
     half-same k zero h = let e : k * 2 + 0 ≡ k * 2 = omega arith in rw e (low-wide _ _ (part-word-fits bodyPart (k * 2)))
     half-same k (suc zero) h = high-wide _ _ (part-word-fits bodyPart (k * 2))
     half-same k (suc (suc j)) h = absurd (much j h)
@@ -177,7 +177,7 @@ module _ (file : List ℕ) (small : (i : ℕ) → getD file i 0 < 256) where
         rw (lt-ltb i 38 h, written-same (i / 2) k) (half-same (i / 2) (i % 2) (omega arith) ∙ ap (bodyWord file) e)
 
     age-word : (i : ℕ) → 38 ≤ i → i < 40 → bodyWordOf (c .numbers) (c .words) (c .age) n i ≡ bodyWord file i
-    unfolding bodyWordOf ageIn choose
+    unfolding bodyWordOf bodyAge choose
     age-word i g h =
         let e : 19 * 2 + (i - 38) ≡ i = omega arith in
         rw (le-ltb i 38 g, lt-ltb i 40 h) (half-same 19 (i - 38) (omega arith) ∙ ap (bodyWord file) e)
@@ -247,7 +247,7 @@ module _ (file : List ℕ) (small : (i : ℕ) → getD file i 0 < 256) where
     size-same = ap (λ m. blocksFor m * 512) counts-same ∙ sym (told .size)
 
     pub comes-out : isSecond file ≡ true → ComesOut file
-    unfolding writtenBy answerBy choose
+    unfolding writtenUnless answerBy choose
     comes-out new =
         record {
           bytes = bytes-same new;

@@ -28,13 +28,13 @@ use Rattle.blocks.specs.Blocks.{blockOf, isSecond, partWord, partFits, endOf, b
 use Rattle.files.specs.declared.Counts.{Counts}
 use Rattle.files.specs.Places.{numberPlace, agePlace, wordPlace, statesPlace, boxesPlace, flapNumber, presentWord, airWord, capWord}
 use Rattle.files.specs.Files.{bodyWord, flapFits, windowIn, sizesIn, countsIn, countsFit, countsOf, partsFit, blocksFor, blocksFit, isScene}
-use Rattle.files.specs.Contents.{Contents, bodyFloat, numbersIn, lateWord, lateWords, ageIn, wordsOf, singlesOf, contentsBehind, contentsIn}
+use Rattle.files.specs.Contents.{Contents, bodyFloat, numbersIn, lateWord, lateWords, bodyAge, wordsOf, singlesOf, contentsBehind, contentsIn}
 use Rattle.part_writer.specs.Bytes.{partBytes, wordIn, bitsIn}
 use Rattle.base.proofs.Listed.{listed-length, listed-from}
 use Rattle.base.proofs.Stored.{stored-front}
 use Rattle.part_writer.proofs.Parts.{Holds, holds-last, holds-more, holds-new, holds-fits, holds-word}
 use Rattle.writer.specs.Contents.{countsFor, isAbsent, writtenNumber, asWritten}
-use Rattle.writer.specs.Written.{halfOf, bodyWordOf, bytesBy, sceneBytes, sceneBlocks, roomFor, roomRefusal, refusalOf, sceneRefusal, writtenBy, answerBy, writtenScene, sceneAnswer}
+use Rattle.writer.specs.Written.{wordOfWide, bodyWordOf, bytesBy, sceneBytes, sceneBlocks, roomFor, roomRefusal, refusalOfContents, sceneRefusal, writtenUnless, answerBy, writtenScene, sceneAnswer}
 use Rattle.scene_room.proofs.Rooms.{room-fits}
 use Rattle.writer.proofs.Puts.{first, second, third, fourth, one-length, two-length, three-length, four-length, bytes-length}
 use Rattle.rounds.specs.Rounds.{Typed, fileOf, ReadsBack, WrittenThenRead}
@@ -48,8 +48,8 @@ unfolding choose
 chosen true x y k h g = h
 chosen false x y k h g = g
 
-half-fits : (n j : ℕ) → n < 18446744073709551616 → halfOf n j < 4294967296
-unfolding halfOf
+half-fits : (n j : ℕ) → n < 18446744073709551616 → wordOfWide n j < 4294967296
+unfolding wordOfWide
 half-fits n j h = chosen (eqb j 0) (lowOf n) (highOf n) 4294967296 (omega arith) (omega arith)
 
 -- a list is what stands at its places
@@ -184,14 +184,14 @@ module _ (c : Contents) (t : Typed c) (p : Passed c) (few : sceneBlocks c ≤ 12
       go (no l) = let e : k ≡ capWord = omega arith in rw e cap-read
 
   low-read : (k : ℕ) → k < 19 → bodyWord file (numberPlace k) ≡ lowOf (toBits binary64 (writtenNumber (c .numbers) (c .words) k))
-  unfolding bodyWordOf halfOf choose
+  unfolding bodyWordOf wordOfWide choose
   low-read k h =
       let q : k * 2 / 2 ≡ k = omega arith in
       let r : k * 2 % 2 ≡ 0 = omega arith in
       body-word (k * 2) (omega arith) ∙ rw (lt-ltb (k * 2) 38 (omega arith), q, r)
 
   high-read : (k : ℕ) → k < 19 → bodyWord file (numberPlace k + 1) ≡ highOf (toBits binary64 (writtenNumber (c .numbers) (c .words) k))
-  unfolding bodyWordOf halfOf choose
+  unfolding bodyWordOf wordOfWide choose
   high-read k h =
       let q : (k * 2 + 1) / 2 ≡ k = omega arith in
       let r : (k * 2 + 1) % 2 ≡ 1 = omega arith in
@@ -202,8 +202,8 @@ module _ (c : Contents) (t : Typed c) (p : Passed c) (few : sceneBlocks c ≤ 12
   number-read k h =
       rw (low-read k h, high-read k h, wide-halves (toBits binary64 (writtenNumber (c .numbers) (c .words) k))) (ofBits-toBits binary64 _ (number-fits k))
 
-  age-read : ageIn file ≡ c .age
-  unfolding ageIn bodyWordOf halfOf choose
+  age-read : bodyAge file ≡ c .age
+  unfolding bodyAge bodyWordOf wordOfWide choose
   age-read =
       let l : bodyWord file 38 ≡ lowOf (c .age) = body-word 38 (omega arith) in
       let h : bodyWord file 39 ≡ highOf (c .age) = body-word 39 (omega arith) in
@@ -290,7 +290,7 @@ module _ (out : List ℕ) (c : Contents) (z : sceneRefusal c (length out) ≡ 0)
   bytes-is = rw z
 
   written-is : writtenScene out c ≡ stored out 0 (sceneBytes c)
-  unfolding writtenBy choose
+  unfolding writtenUnless choose
   written-is = rw z
 
   module _ (long : sceneBlocks c * 512 ≤ length out) where
@@ -308,7 +308,7 @@ module _ (out : List ℕ) (c : Contents) (z : sceneRefusal c (length out) ≡ 0)
 pub written-then-read : WrittenThenRead
 unfolding sceneRefusal
 written-then-read out c t z =
-    let r = neither (refusalOf c) (roomRefusal c (length out)) z in
+    let r = neither (refusalOfContents c) (roomRefusal c (length out)) z in
     let p = passed c (r .first) in
     let f = room-fits (sceneBlocks c) (length out) (roomRefusal c (length out)) refl (r .second) in
     let e = file-is out c z (f .long) in

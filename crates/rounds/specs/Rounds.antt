@@ -13,7 +13,7 @@ use Rattle.blocks.specs.Blocks.{isSecond}
 use Rattle.files.specs.Files.{isScene}
 use Rattle.files.specs.Contents.{Contents, contentsIn}
 use Rattle.writer.specs.Contents.{asWritten}
-use Rattle.writer.specs.Written.{sceneBytes, refusalOf, sceneRefusal, writtenScene, sceneAnswer}
+use Rattle.writer.specs.Written.{sceneBytes, refusalOfContents, sceneRefusal, writtenScene, sceneAnswer}
 
 -- what the types of a program's parameters say of what it is handed: words of 32 bits, numbers of their format, an age of 64 bits
 pub record Typed (c : Contents) : Type 0 where
@@ -56,8 +56,8 @@ pub record SameNumbers (file : List ℕ) : Type 0 where
 
 -- a file is bytes; "request Four's file proof is of those" that have the new mark
 abbrev pub ReadThenWritten : Type 0
-ReadThenWritten = (file : List ℕ) → ((i : ℕ) → getD file i 0 < 256) → isScene file ≡ true → isSecond file ≡ true → refusalOf (contentsIn file) ≡ 0 → ComesOut file
+ReadThenWritten = (file : List ℕ) → ((i : ℕ) → getD file i 0 < 256) → isScene file ≡ true → isSecond file ≡ true → refusalOfContents (contentsIn file) ≡ 0 → ComesOut file
 
 -- what the writer makes of a file's contents, whichever mark that has: a scene of the new mark that holds the same numbers
 abbrev pub WrittenAnew : Type 0
-WrittenAnew = (file : List ℕ) → ((i : ℕ) → getD file i 0 < 256) → isScene file ≡ true → refusalOf (contentsIn file) ≡ 0 → SameNumbers file
+WrittenAnew = (file : List ℕ) → ((i : ℕ) → getD file i 0 < 256) → isScene file ≡ true → refusalOfContents (contentsIn file) ≡ 0 → SameNumbers file

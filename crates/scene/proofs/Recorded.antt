@@ -30,9 +30,9 @@ use Rattle.files.specs.Files.{isScene}
 use Rattle.files.specs.Contents.{Contents, contentsIn}
 use Rattle.part_writer.specs.Bytes.{wordIn}
 use Rattle.writer.specs.Contents.{isAbsent, writtenNumber, asWritten}
-use Rattle.writer.specs.Written.{contentsRefusal, refusalOf}
+use Rattle.writer.specs.Written.{contentsRefusal, refusalOfContents}
 use Rattle.writer.proofs.Refusals.{neither, held}
-use Rattle.scene.specs.Scene.{malformed, stepOf, stepIn, tickOf}
+use Rattle.scene.specs.Scene.{malformed, stepOfContents, stepIn, tickOf}
 
 -- ---- a body with another number for its flap
 
@@ -105,7 +105,7 @@ module _ (records : List ℕ) (shapes : List Float) (cells : List ℕ) (w : Wind
 
 -- ---- of what was handed over
 
-module _ (c : Contents) (pass : refusalOf c ≡ 0) where
+module _ (c : Contents) (pass : refusalOfContents c ≡ 0) where
   fits : numberRefusal (c .records) (rulesAt (c .numbers) (c .words)) (bodyAt (c .numbers) (c .words)) (motionAt (c .numbers) (c .words)) ≡ 0
   unfolding contentsRefusal bodyRefusal
   fits =
@@ -118,18 +118,18 @@ module _ (c : Contents) (pass : refusalOf c ≡ 0) where
       stepEntry (c .records) (c .shapes) (c .cells) (c .window) (rulesAt (c .numbers) (c .words))
       (flapped (bodyAt (c .numbers) (c .words)) (choose absent zero64 (numberAt (c .numbers) 12))) (motionAt (c .numbers) (c .words)) (c .age)
 
-  by-flap : (t : Bool) → eqb (wordIn (c .words) presentWord) 0 ≡ t → stepped t ≡ stepOf c
+  by-flap : (t : Bool) → eqb (wordIn (c .words) presentWord) 0 ≡ t → stepped t ≡ stepOfContents c
   unfolding choose
   by-flap true e =
       step-flapped (c .records) (c .shapes) (c .cells) (c .window) (rulesAt (c .numbers) (c .words)) (bodyAt (c .numbers) (c .words)) (motionAt (c .numbers) (c .words)) (c .age)
       (eqb-true _ _ e) fits
   by-flap false e = refl
 
-  step-written : stepOf (asWritten c) ≡ stepOf c
+  step-written : stepOfContents (asWritten c) ≡ stepOfContents c
   unfolding listed writtenNumber isAbsent choose
   step-written = step-airy (c .records) (c .shapes) (c .cells) (c .window) _ _ _ (c .age) _ ∙ by-flap (eqb (wordIn (c .words) presentWord) 0) refl
 
   -- what `written-then-read` says of a file is all that is asked of it
-  pub tick-recorded : (file : List ℕ) → isScene file ≡ true → contentsIn file ≡ asWritten c → tickOf file ≡ stepOf c
+  pub tick-recorded : (file : List ℕ) → isScene file ≡ true → contentsIn file ≡ asWritten c → tickOf file ≡ stepOfContents c
   unfolding tickOf stepIn choose
-  tick-recorded file s e = rw s (ap stepOf e ∙ step-written)
+  tick-recorded file s e = rw s (ap stepOfContents e ∙ step-written)

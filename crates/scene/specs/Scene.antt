@@ -27,13 +27,13 @@ malformed =
     }
 
 -- the step of these contents
-abbrev pub stepOf : Contents → StepAnswer
-stepOf c =
+abbrev pub stepOfContents : Contents → StepAnswer
+stepOfContents c =
     stepEntry (c .records) (c .shapes) (c .cells) (c .window)
     (rulesAt (c .numbers) (c .words)) (bodyAt (c .numbers) (c .words)) (motionAt (c .numbers) (c .words)) (c .age)
 
 unfoldable pub stepIn : List ℕ → Counts → StepAnswer
-stepIn file n = stepOf (contentsBehind file n)
+stepIn file n = stepOfContents (contentsBehind file n)
 
 unfoldable pub tickOf : List ℕ → StepAnswer
 tickOf file = choose (isScene file) (stepIn file (countsOf file)) malformed

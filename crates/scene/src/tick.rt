@@ -4,7 +4,7 @@ use boxes::Vec3;
 use drags::Support;
 use files::Counted;
 use files::Counts;
-use scene_held::age_in;
+use scene_held::body_age;
 use scene_held::held;
 use scene_held::numbers_in;
 use scene_held::put_all;
@@ -18,9 +18,9 @@ ghost use Rattle.bodies.specs.Lent.{motionAt, bodyAt, rulesAt};
 ghost use Rattle.step.specs.Answers.{stepEntry};
 ghost use Rattle.text.specs.Text.{written, writtenCount};
 ghost use Rattle.files.specs.Files.{blocksFor};
-ghost use Rattle.files.specs.Contents.{numbersIn, lateWords, ageIn};
+ghost use Rattle.files.specs.Contents.{numbersIn, lateWords, bodyAge};
 ghost use Rattle.scene_held.specs.Held.{heldContents};
-ghost use Rattle.scene.specs.Scene.{malformed, stepOf, stepIn, tickOf, answerText};
+ghost use Rattle.scene.specs.Scene.{malformed, stepOfContents, stepIn, tickOf, answerText};
 
 // 8: there is no motion to hand back.
 fn refused_scene() -> StepAnswer
@@ -48,20 +48,20 @@ fn refused_scene() -> StepAnswer
 
 // The step of a scene's body among these tables and cells, through the window's view.
 fn step_among(file: &[u8], records: &[u32], shapes: &[f32], cells: &[u32], w: Window) -> StepAnswer
-    ensures { λ r. ⌜ r ≡ stepEntry (now (records .entry)) (now (shapes .entry)) (now (cells .entry)) w (rulesAt (numbersIn (now (file .entry))) (lateWords (now (file .entry)))) (bodyAt (numbersIn (now (file .entry))) (lateWords (now (file .entry)))) (motionAt (numbersIn (now (file .entry))) (lateWords (now (file .entry)))) (ageIn (now (file .entry))) ⌝ }
+    ensures { λ r. ⌜ r ≡ stepEntry (now (records .entry)) (now (shapes .entry)) (now (cells .entry)) w (rulesAt (numbersIn (now (file .entry))) (lateWords (now (file .entry)))) (bodyAt (numbersIn (now (file .entry))) (lateWords (now (file .entry)))) (motionAt (numbersIn (now (file .entry))) (lateWords (now (file .entry)))) (bodyAge (now (file .entry))) ⌝ }
 {
     let numbers = numbers_in(file);
     let words = words_in(file);
     let rules = bodies::rules_from(&numbers, &words);
     let body = bodies::body_from(&numbers, &words);
     let given = bodies::motion_from(&numbers, &words);
-    let age = age_in(file);
+    let age = body_age(file);
     view::step_window(records, shapes, cells, w, rules, body, given, age)
 }
 
 // The same for a scene with these counts, whose records stand first among the words, and its cells behind them.
 fn step_held(file: &[u8], n: Counts, words: &[u32], singles: &[f32]) -> StepAnswer
-    ensures { λ r. ⌜ r ≡ stepOf (heldContents (now (file .entry)) n (now (words .entry)) (now (singles .entry))) ⌝ }
+    ensures { λ r. ⌜ r ≡ stepOfContents (heldContents (now (file .entry)) n (now (words .entry)) (now (singles .entry))) ⌝ }
 {
     let a = held(n.states as u32 * 20, words.len());
     let b = held(n.boxes as u32 * 6, singles.len());

@@ -1,7 +1,7 @@
 // A scene written anew, of its contents.
 use files::Counted;
 use files::Counts;
-use scene_held::age_in;
+use scene_held::body_age;
 use scene_held::held;
 use scene_held::numbers_in;
 use scene_held::put_all;
@@ -13,18 +13,18 @@ ghost use Prim.Native.Nat.{_≤_};
 ghost use lib.ListN.{length};
 ghost use Rattle.files.specs.Files.{blocksFor};
 ghost use Rattle.writer.specs.Written.{writtenScene, sceneAnswer};
-ghost use Rattle.files.specs.Contents.{contentsOf, numbersIn, lateWords, ageIn, contentsBehind};
+ghost use Rattle.files.specs.Contents.{contentsOf, numbersIn, lateWords, bodyAge, contentsBehind};
 ghost use Rattle.scene_held.specs.Held.{heldContents};
 ghost use Rattle.scene_anew.specs.Rewritten.{rewritten, rewriteAnswer};
 
 // A scene of a file's body among these tables and cells.
 fn write_among(file: &[u8], records: &[u32], shapes: &[f32], cells: &[u32], w: Window, out: &mut [u8]) -> Written
-    ensures { λ _. ⌜ now (out .exit) ≡ writtenScene (now (out .entry)) (contentsOf (now (records .entry)) (now (shapes .entry)) (now (cells .entry)) w (numbersIn (now (file .entry))) (lateWords (now (file .entry))) (ageIn (now (file .entry)))) ⌝ }
-    ensures { λ r. ⌜ r ≡ sceneAnswer (length (now (out .entry))) (contentsOf (now (records .entry)) (now (shapes .entry)) (now (cells .entry)) w (numbersIn (now (file .entry))) (lateWords (now (file .entry))) (ageIn (now (file .entry)))) ⌝ }
+    ensures { λ _. ⌜ now (out .exit) ≡ writtenScene (now (out .entry)) (contentsOf (now (records .entry)) (now (shapes .entry)) (now (cells .entry)) w (numbersIn (now (file .entry))) (lateWords (now (file .entry))) (bodyAge (now (file .entry)))) ⌝ }
+    ensures { λ r. ⌜ r ≡ sceneAnswer (length (now (out .entry))) (contentsOf (now (records .entry)) (now (shapes .entry)) (now (cells .entry)) w (numbersIn (now (file .entry))) (lateWords (now (file .entry))) (bodyAge (now (file .entry)))) ⌝ }
 {
     let numbers = numbers_in(file);
     let words = words_in(file);
-    let age = age_in(file);
+    let age = body_age(file);
     writer::write_scene(records, shapes, cells, w, &numbers, &words, age, out)
 }
 

@@ -14,7 +14,7 @@ use Rattle.blocks.specs.Blocks.{perBlock, blocksOf, endOf, partWord, recordPart
 use Rattle.blocks.proofs.Parts.{per-block, words-most}
 use Rattle.files.specs.declared.Counts.{Counts}
 use Rattle.files.specs.Files.{windowIn, blocksFor}
-use Rattle.files.specs.Contents.{contentsOf, numbersIn, lateWords, ageIn, wordsOf, singlesOf, contentsBehind}
+use Rattle.files.specs.Contents.{contentsOf, numbersIn, lateWords, bodyAge, wordsOf, singlesOf, contentsBehind}
 use Rattle.files.proofs.Scenes.{rooms}
 use Rattle.scene_held.specs.Held.{heldRecords, heldCells, heldShapes, heldContents}
 
@@ -43,7 +43,7 @@ put-behind g a b n w x y e h lx ly t =
 pub handed-on : (file : List ℕ) (n : Counts) (words : List ℕ) (singles : List Float) (a b c : ℕ) (w : Window)
     → a ≡ heldRecords n (length words) → b ≡ heldShapes n (length singles) → c ≡ min (n .cells) (length words - a)
     → w ≡ windowIn file (windowPart (n .states) (n .boxes))
-    → contentsOf (take a words) (take b singles) (take (a + c - a) (drop a words)) w (numbersIn file) (lateWords file) (ageIn file) ≡ heldContents file n words singles
+    → contentsOf (take a words) (take b singles) (take (a + c - a) (drop a words)) w (numbersIn file) (lateWords file) (bodyAge file) ≡ heldContents file n words singles
 handed-on file n words singles a b c w ea eb ec ew = let q : a + c - a ≡ c = omega arith in rw (q, ec, ea, eb, ew)
 
 -- 128 blocks hold no more than 15,744 words of two parts together, of which one is behind the other

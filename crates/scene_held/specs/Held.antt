@@ -8,7 +8,7 @@ use lib.Ieee.{Float}
 use Rattle.blocks.specs.Blocks.{windowPart}
 use Rattle.files.specs.declared.Counts.{Counts}
 use Rattle.files.specs.Files.{windowIn}
-use Rattle.files.specs.Contents.{Contents, contentsOf, numbersIn, lateWords, ageIn}
+use Rattle.files.specs.Contents.{Contents, contentsOf, numbersIn, lateWords, bodyAge}
 
 abbrev pub heldRecords : Counts → ℕ → ℕ
 heldRecords n room = min (n .states * 20) room
@@ -29,4 +29,4 @@ heldContents file n words singles =
     (windowIn file (windowPart (n .states) (n .boxes)))
     (numbersIn file)
     (lateWords file)
-    (ageIn file)
+    (bodyAge file)

@@ -2,11 +2,11 @@
 mod numbers;
 mod parts;
 
-pub use numbers::age_in;
+pub use numbers::body_age;
 pub use numbers::numbers_in;
 pub use numbers::words_in;
 pub use parts::held;
 pub use parts::put_all;
 pub use parts::put_apart;
-pub use parts::put_singles;
-pub use parts::put_words;
+pub use parts::take_singles;
+pub use parts::take_words;

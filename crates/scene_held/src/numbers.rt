@@ -3,7 +3,7 @@ use files::body_word;
 use files::places;
 use lent_words::join;
 ghost use mathlib.Core.Path.{_≡_};
-ghost use Rattle.files.specs.Contents.{numbersIn, bodyFloat, lateWords, ageIn};
+ghost use Rattle.files.specs.Contents.{numbersIn, bodyFloat, lateWords, bodyAge};
 
 // Number k of the body's f64.
 fn body_float(file: &[u8], k: u8) -> f64
@@ -41,8 +41,8 @@ pub fn words_in(file: &[u8]) -> [u32; 7]
     words
 }
 
-pub fn age_in(file: &[u8]) -> u64
-    ensures { λ r. ⌜ r ≡ ageIn (now (file .entry)) ⌝ }
+pub fn body_age(file: &[u8]) -> u64
+    ensures { λ r. ⌜ r ≡ bodyAge (now (file .entry)) ⌝ }
 {
     let low = body_word(file, places::AGE);
     let high = body_word(file, places::AGE + 1);

@@ -21,8 +21,8 @@ pub fn held(words: u32, room: usize) -> usize
     if n < room { n } else { room }
 }
 
-// Puts the words of a part one after the other, as many as there is room for.
-pub fn put_words(to: &mut [u32], file: &[u8], p: Part)
+// Takes the words of a part out of a file, one after the other, as many as there is room for.
+pub fn take_words(to: &mut [u32], file: &[u8], p: Part)
     ensures { λ _. ⌜ take (min (p .words) (length (now (to .entry)))) (now (to .exit)) ≡ listed (partWord (now (file .entry)) p) (min (p .words) (length (now (to .entry)))) 0 ⌝ }
 {
     let n = held(p.words, to.len());
@@ -40,7 +40,7 @@ fn single_at(file: &[u8], p: Part, i: u32) -> f32
 }
 
 // The same words as f32.
-pub fn put_singles(to: &mut [f32], file: &[u8], p: Part)
+pub fn take_singles(to: &mut [f32], file: &[u8], p: Part)
     ensures { λ _. ⌜ take (min (p .words) (length (now (to .entry)))) (now (to .exit)) ≡ listed (λ i. ofBits binary32 (partWord (now (file .entry)) p i)) (min (p .words) (length (now (to .entry)))) 0 ⌝ }
 {
     let n = held(p.words, to.len());
@@ -58,9 +58,9 @@ pub fn put_all(words: &mut [u32], singles: &mut [f32], file: &[u8], n: Counts)
     ensures { λ _. ⌜ take (heldShapes n (length (now (singles .entry)))) (now (singles .exit)) ≡ listed (λ i. ofBits binary32 (partWord (now (file .entry)) (boxPart (n .states) (n .boxes)) i)) (heldShapes n (length (now (singles .entry)))) 0 ⌝ }
 {
     let a = held(n.states as u32 * 20, words.len());
-    put_words(words, file, record_part(n.states));
-    put_words(&mut words[a..], file, cell_part(n.states, n.boxes, n.cells));
-    put_singles(singles, file, box_part(n.states, n.boxes));
+    take_words(words, file, record_part(n.states));
+    take_words(&mut words[a..], file, cell_part(n.states, n.boxes, n.cells));
+    take_singles(singles, file, box_part(n.states, n.boxes));
 }
 
 // Puts a scene's records, shapes and cells into places of their own, each as far as there is room.
@@ -69,7 +69,7 @@ pub fn put_apart(records: &mut [u32], singles: &mut [f32], words: &mut [u32], fi
     ensures { λ _. ⌜ take (min (n .boxes * 6) (length (now (singles .entry)))) (now (singles .exit)) ≡ listed (λ i. ofBits binary32 (partWord (now (file .entry)) (boxPart (n .states) (n .boxes)) i)) (min (n .boxes * 6) (length (now (singles .entry)))) 0 ⌝ }
     ensures { λ _. ⌜ take (min (n .cells) (length (now (words .entry)))) (now (words .exit)) ≡ listed (partWord (now (file .entry)) (cellPart (n .states) (n .boxes) (n .cells))) (min (n .cells) (length (now (words .entry)))) 0 ⌝ }
 {
-    put_words(records, file, record_part(n.states));
-    put_singles(singles, file, box_part(n.states, n.boxes));
-    put_words(words, file, cell_part(n.states, n.boxes, n.cells));
+    take_words(records, file, record_part(n.states));
+    take_singles(singles, file, box_part(n.states, n.boxes));
+    take_words(words, file, cell_part(n.states, n.boxes, n.cells));
 }

@@ -4,6 +4,7 @@ use lib.Ieee as I
 use Rattle.base.specs.Choose as C
 use Rattle.base.specs.Ask as A
 use Rattle.base.specs.Every as EV
+use Rattle.base.specs.Loop as LO
 use Rattle.floats.specs.Numbers as N
 use Rattle.wholes.specs.Whole as H
 use Rattle.roots.specs.Root as R
@@ -29,5 +30,5 @@ use Rattle.small_scenes.specs.Scenes as S
 use Rattle.small_scenes.proofs.Tables.{tables-pass}
 
 pub small-scenes : S.SmallScenes
-unfolding C.choose LS.isCap LS.capOf N.sizeOf M.clipAll M.clipSequence M.steppedUp M.moveOver L.areBoxes E.moveOverList T.listFor S.holds S.allHold S.scenes W.isVoid W.indexOf W.columnIndexOf W.heightsFit W.columnFits W.columnsFit EV.every W.sizesFit W.coordinateFits W.originFits W.windowFits W.windowRefusal K.lookAt B.isRegistered J.connectKind J.isFence J.isThinOrWall J.oppositeFace J.gateDecides J.gateJoins J.registeredConnects J.sideWord J.transition J.transitions J.postTransition J.straight J.raises J.raisedBy J.joins J.post J.besideNeighbours J.connectedState P.off P.on P.fence P.wall P.rows P.records Z.around Z.cellsAround Z.flat Z.upright Z.flowAmong A.asking A.turning H.floorSize H.floorInt H.cellOf R.hasRoot R.rootOf R.rootRaised R.rootFrom R.nearestFrom B.blocksMotion B.kindOf B.liquidOf B.liquidAt G.spanOf G.onFrom D.line D.layer D.walk X.normalised Q.alike Q.liquidHeld Q.blocksLiquidFlow F.stepBeside F.stepBelow F.stepAbove F.unitTo F.effectiveDepth F.differenceTo F.differenceBelow F.difference F.flowedBy F.walledBy F.sideFlow F.sideOf F.normalisedFlow F.liquidFlow U.surfaceAt Y.shrunk Y.cellsOf Y.surfaceOf Y.wetIn Y.livingTurn Y.livingLiquid I.toBits I.ofBits I.ofInt I.round I.add I.sub I.mul I.div I.neg I.lt I.le I.eq I.ne
+unfolding C.choose LS.isCap LS.capOf N.sizeOf M.clipAll M.clipSequence M.steppedUp M.moveOver L.areBoxes E.moveOverList T.listFor S.holds S.allHold S.scenes W.isVoid W.indexOf W.columnIndexOf W.heightsFit W.columnFits W.columnsFit EV.every W.sizesFit W.coordinateFits W.originFits W.windowFits W.windowRefusal K.lookAt B.isRegistered J.connectKind J.isFence J.isThinOrWall J.oppositeFace J.gateDecides J.gateJoins J.registeredConnects J.sideWord J.transition J.transitions J.postTransition J.straight J.raises J.raisedBy J.joins J.post J.besideNeighbours J.connectedState P.off P.on P.fence P.wall LO.appended P.records Z.around Z.cellsAround Z.flat Z.upright Z.flowAmong A.asking A.turning H.floorSize H.floorInt H.cellOf R.hasRoot R.rootOf R.rootRaised R.rootFrom R.nearestFrom B.blocksMotion B.kindOf B.liquidOf B.liquidAt G.spanOf G.onFrom D.line D.layer D.walk X.normalised Q.alike Q.liquidHeld Q.blocksLiquidFlow F.stepBeside F.stepBelow F.stepAbove F.unitTo F.effectiveDepth F.differenceTo F.differenceBelow F.difference F.flowedBy F.walledBy F.sideFlow F.sideOf F.normalisedFlow F.liquidFlow U.surfaceAt Y.shrunk Y.cellsOf Y.surfaceOf Y.wetIn Y.livingTurn Y.livingLiquid I.toBits I.ofBits I.ofInt I.round I.add I.sub I.mul I.div I.neg I.lt I.le I.eq I.ne
 small-scenes = record { tables = tables-pass; hold = refl }

@@ -11,6 +11,7 @@ use lib.Ieee.{Float}
 use lib.Ieee.Fits.{and-i, and-l, and-r}
 use Rattle.base.specs.Choose.{choose}
 use Rattle.base.specs.Every.{every, any}
+use Rattle.base.specs.Loop.{appended}
 use Rattle.base.proofs.Tests.{every-same}
 use Rattle.floats.specs.Numbers as N
 use Rattle.cover.specs.declared.Side.the-variants.{North, East, South, West}
@@ -70,7 +71,7 @@ tables-searched records shapes t =
     rw (every-same (K.recordFits records shapes) (recordSearched records shapes) (λ i. record-searched records shapes i t) (K.stateCount records))
 
 pub tables-fit : tablesFit P.records P.shapes ≡ true
-unfolding choose every any N.sizeOf allFit I.fits O.onFace O.uPlace G.spans G.hasPoint G.isInner G.gapAt G.gapPast G.anyGap G.gapOnLine G.gapOnFace G.coversBySearch B.isRegistered B.frictionAt B.boxesAt K.tableCountsFit K.wordsFit K.stateBoxesFit K.allZero K.leadsOn K.allLeadOn K.postsStay K.linksFit K.registeredOrZero K.sideFits K.boxFits P.off P.on P.fence P.wall P.rows P.records P.shapes I.isNan I.ofBits I.lt I.le I.eq
+unfolding choose every any N.sizeOf allFit I.fits O.onFace O.uPlace G.spansLine G.hasPoint G.isInner G.gapAt G.gapPast G.anyGap G.gapOnLine G.gapOnFace G.coversBySearch B.isRegistered B.frictionAt B.boxesAt K.tableCountsFit K.wordsFit K.stateBoxesFit K.allZero K.leadsOn K.allLeadOn K.postsStay K.linksFit K.registeredOrZero K.sideFits K.boxFits P.off P.on P.fence P.wall appended P.records P.shapes I.isNan I.ofBits I.lt I.le I.eq
 tables-fit = tables-searched P.records P.shapes tt ∙ refl
 
 pub tables-pass : tableRefusal P.records P.shapes ≡ 0

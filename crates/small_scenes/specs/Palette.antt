@@ -2,10 +2,11 @@
 -- 38 to 69 a wall. A fence or wall state is its base plus one bit for each joined side, north 1, east 2, south 4, west 8; a wall's post is 16.
 -- Fences and walls have no box here, and so no full face. `tables-pass` of proofs/Tables.antt says that the tables pass their check.
 use mathlib.Core.List.{List, [], _∷_, _++_}
-use Prim.Native.Nat.{ℕ, zero, suc, _+_, _-_, _/_, _%_}
+use Prim.Native.Nat.{ℕ, _+_, _-_, _/_, _%_}
 use lib.Dec.{eqb}
 use lib.Ieee.{Float, binary32, ofBits}
 use Rattle.base.specs.Choose.{choose}
+use Rattle.base.specs.Loop.{appended}
 use Rattle.cover.specs.Cover.{zero32, one32}
 
 -- ---- records, as document 01 lays out their 20 words
@@ -43,11 +44,6 @@ fence base kind i = firstWords 1 0 0 kind 0 0 ++ (sides base i ++ ((base + i) �
 
 unfoldable pub wall : ℕ → ℕ → List ℕ
 wall base i = firstWords 1 0 0 4 0 0 ++ (sides base i ++ ((base + off i 16) ∷ (base + on i 16) ∷ 0 ∷ []))
-
--- so many rows, from row i on
-unfoldable pub rows : (ℕ → List ℕ) → ℕ → ℕ → List ℕ
-rows f zero i = []
-rows f (suc n) i = f i ++ rows f n (i + 1)
 
 -- ---- the states
 
@@ -91,9 +87,9 @@ records =
     ++ (waterRow 0
     ++ (waterRow 1
     ++ (waterRow 4
-    ++ (rows (fence oakFence 1) 16 0
-    ++ (rows (fence netherBrickFence 2) 16 0
-    ++ rows (wall plainWall) 32 0)))))))
+    ++ (appended (fence oakFence 1) 16 0
+    ++ (appended (fence netherBrickFence 2) 16 0
+    ++ appended (wall plainWall) 32 0)))))))
 
 -- 0.5
 abbrev pub half32 : Float

@@ -23,7 +23,7 @@ use Rattle.connect.specs.Connect.{connectedState}
 use Rattle.liquids.specs.Living.{livingLiquid}
 use Rattle.small_scenes.specs.Moves.{ratio, whole, mover, MoveScene, listFor, p1, p2, p3, p4, p5, p6}
 use Rattle.small_scenes.specs.Palette.{records, shapes, air, fullCube, water0, water1, water4, oakFence, netherBrickFence, plainWall, unregistered}
-use Rattle.small_scenes.specs.Windows.{middle, around, cellsAround, columnsBut, flat, upright, flowAmong}
+use Rattle.small_scenes.specs.Windows.{middle, around, cellsAround, columnsButNorth, flat, upright, flowAmong}
 
 -- A fence or wall of the palette in the middle of a window: whether the column to the north is loaded, what lies north, east, south, west and above; then the state that it comes to.
 pub record JoinScene : Type 0 where
@@ -86,7 +86,7 @@ holds (join j) =
     let cells : List ℕ = cellsAround (j .column) (j .north) (j .east) (j .south) (j .west) (j .above) (j .it) in
     isFoundIn cells around (eqb (j .comes-to)) (connectedState (lookAt cells around) records middle (j .it))
 holds (flow f) =
-    let cells : List ℕ = f .cells ++ columnsBut 1 in
+    let cells : List ℕ = f .cells ++ columnsButNorth 1 in
     isFoundIn cells flat (sameVec (f .flows)) (flowAmong cells)
 holds (wade b) =
     let cells : List ℕ = water4 ∷ air ∷ 1 ∷ [] in

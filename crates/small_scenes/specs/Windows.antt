@@ -28,13 +28,13 @@ abbrev pub crossOf : ℕ → ℕ → ℕ → ℕ → ℕ → List ℕ
 crossOf north east south west it = air ∷ north ∷ air ∷ west ∷ it ∷ east ∷ air ∷ south ∷ air ∷ []
 
 -- the words of its columns: all loaded but perhaps that to the north
-abbrev pub columnsBut : ℕ → List ℕ
-columnsBut north = 1 ∷ north ∷ 1 ∷ 1 ∷ 1 ∷ 1 ∷ 1 ∷ 1 ∷ 1 ∷ []
+abbrev pub columnsButNorth : ℕ → List ℕ
+columnsButNorth north = 1 ∷ north ∷ 1 ∷ 1 ∷ 1 ∷ 1 ∷ 1 ∷ 1 ∷ 1 ∷ []
 
 -- its words, with these cells around the middle, air elsewhere, and the column to the north loaded (1) or not (0)
 unfoldable pub cellsAround : ℕ → ℕ → ℕ → ℕ → ℕ → ℕ → ℕ → List ℕ
 cellsAround column north east south west above it =
-    crossOf air air air air air ++ (crossOf north east south west it ++ (crossOf air air air air above ++ columnsBut column))
+    crossOf air air air air air ++ (crossOf north east south west it ++ (crossOf air air air air above ++ columnsButNorth column))
 
 -- the middle layer alone
 unfoldable pub flat : Window

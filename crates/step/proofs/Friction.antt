@@ -16,7 +16,7 @@ use Rattle.drags.specs.declared.Sample.{Sample}
 use Rattle.drags.specs.Cases.{sampleOr}
 use Rattle.samples.specs.Samples.{livingSample, livingBlockFriction}
 use Rattle.step_answers.specs.declared.FrictionAnswer.{FrictionAnswer}
-use Rattle.step.specs.Answers.{frictionAnswer, frictionEntry, numberAnswer, frictionNumber}
+use Rattle.step.specs.Answers.{frictionAnswer, frictionEntry, numberAnswer, frictionAlone}
 
 pub record Same (a : FrictionAnswer) (b : Answer) : Type 0 where
   pub value : a .value ≡ b .value
@@ -34,7 +34,7 @@ module _ (default : Float) where
   behind false n a b h = h
 
 pub number-kept : (records : List ℕ) (shapes : List Float) (cells : List ℕ) (w : Window) (rules : Rules) (feet : Vec3)
-    → Same (frictionEntry records shapes cells w rules feet) (frictionNumber records shapes cells w rules feet)
+    → Same (frictionEntry records shapes cells w rules feet) (frictionAlone records shapes cells w rules feet)
 unfolding frictionEntry livingBlockFriction
 number-kept records shapes cells w rules feet =
     let d = rules .friction in

@@ -12,7 +12,7 @@ use Rattle.window.specs.declared.Window.{Window}
 use Rattle.window.specs.Look.{lookAt}
 use Rattle.window.specs.Numbers.{withAir}
 use Rattle.lent.specs.Lent.{unless, sound}
-use Rattle.summary.specs.Calls.{plain, summed}
+use Rattle.summary.specs.Calls.{plainWords, summed}
 use Rattle.bodies.specs.declared.BodyNumbers.{BodyNumbers}
 use Rattle.bodies.specs.declared.Rules.{Rules}
 use Rattle.bodies.specs.declared.MotionNumbers.{MotionNumbers}
@@ -58,11 +58,11 @@ stepEntry records shapes cells w rules body given age = stepAnswer given (stepAs
 abbrev pub summedAsked : List ℕ → List Float → List ℕ → Window → Rules → BodyNumbers → MotionNumbers → ℕ → Ask Tick
 summedAsked records shapes words w rules body given age =
     fitting records rules body given
-    (summed records words (withAir w (rules .air)) (checkedAsked records shapes (plain words w) w rules body given age))
+    (summed records words (withAir w (rules .air)) (checkedAsked records shapes (plainWords words w) w rules body given age))
 
 unfoldable pub stepSummed : List ℕ → List Float → List ℕ → Window → Rules → BodyNumbers → MotionNumbers → ℕ → StepAnswer
 stepSummed records shapes words w rules body given age =
-    stepAnswer given (sound records shapes (plain words w) w (summedAsked records shapes words w rules body given age))
+    stepAnswer given (sound records shapes (plainWords words w) w (summedAsked records shapes words w rules body given age))
 
 -- step_body: the same without what was sensed
 abbrev pub motionAlone : StepAnswer → MotionAnswer
@@ -86,6 +86,6 @@ abbrev pub numberAnswer : Ask Float → Answer
 numberAnswer (refused n) = record { refusal = n; value = zero64 }
 numberAnswer (found x) = record { refusal = 0; value = x }
 
-abbrev pub frictionNumber : List ℕ → List Float → List ℕ → Window → Rules → Vec3 → Answer
-frictionNumber records shapes cells w rules feet =
+abbrev pub frictionAlone : List ℕ → List Float → List ℕ → Window → Rules → Vec3 → Answer
+frictionAlone records shapes cells w rules feet =
     numberAnswer (fittingFriction records shapes cells w rules feet (livingBlockFriction (lookAt cells (withAir w (rules .air))) records rules feet))

@@ -21,7 +21,7 @@ use Rattle.groups.specs.Groups.{groupCount, groupAt, groupWord}
 use Rattle.groups.specs.Summary.{wordsBefore, hasSummary, agreesAt, agrees, summaryRefusal}
 use Rattle.groups.proofs.Same.{column-before}
 use Rattle.groups.proofs.Sets.{Kept, Has, has}
-use Rattle.summary.specs.Calls.{plain}
+use Rattle.summary.specs.Calls.{plainWords}
 
 -- ---- by its check
 module _ (records words : List ℕ) (w : Window) where
@@ -36,41 +36,41 @@ module _ (records words : List ℕ) (w : Window) where
 
 -- ---- the look-up
 -- no air state tells which words are those of cells and columns
-pub plain-air : (words : List ℕ) (w : Window) (air : ℕ) → plain words (withAir w air) ≡ plain words w
-unfolding plain
+pub plain-air : (words : List ℕ) (w : Window) (air : ℕ) → plainWords words (withAir w air) ≡ plainWords words w
+unfolding plainWords
 plain-air words w air = refl
 
 module _ (words : List ℕ) (w : Window) (there : Has words w) where
-  is-part : plain words w ≡ take (wordsBefore (w .sizes)) words
-  unfolding plain choose
+  is-part : plainWords words w ≡ take (wordsBefore (w .sizes)) words
+  unfolding plainWords choose
   is-part = rw (there .sizes)
 
-  part-long : length (plain words w) ≡ wordsBefore (w .sizes)
+  part-long : length (plainWords words w) ≡ wordsBefore (w .sizes)
   part-long = let l = there .long in ap length is-part ∙ length-take-le (wordsBefore (w .sizes)) words (omega arith)
 
-  part-word : (i : ℕ) → i < wordsBefore (w .sizes) → getD (plain words w) i 0 ≡ getD words i 0
+  part-word : (i : ℕ) → i < wordsBefore (w .sizes) → getD (plainWords words w) i 0 ≡ getD words i 0
   part-word i h = ap (λ (l : List ℕ). getD l i 0) is-part ∙ getD-take (wordsBefore (w .sizes)) words i 0 h
 
   within-words : {i n : ℕ} (m : ℕ) → i < n → i < n + m
   within-words m h = omega arith
 
-  pub look-plain : (p : Pos) → lookAt words w p ≡ lookAt (plain words w) w p
+  pub look-plain : (p : Pos) → lookAt words w p ≡ lookAt (plainWords words w) w p
   unfolding lookAt choose
   look-plain p = go (columnInside w p) refl
     where
       lent : columnInside w p ≡ true → ltb (columnIndexOf w p) (length words) ≡ true
       lent c = let l = there .long in let h = column-before w p c in lt-ltb (columnIndexOf w p) (length words) (omega arith)
 
-      part-lent : columnInside w p ≡ true → ltb (columnIndexOf w p) (length (plain words w)) ≡ true
-      part-lent c = let l = part-long in let h = column-before w p c in lt-ltb (columnIndexOf w p) (length (plain words w)) (omega arith)
+      part-lent : columnInside w p ≡ true → ltb (columnIndexOf w p) (length (plainWords words w)) ≡ true
+      part-lent c = let l = part-long in let h = column-before w p c in lt-ltb (columnIndexOf w p) (length (plainWords words w)) (omega arith)
 
-      column : columnInside w p ≡ true → getD (plain words w) (columnIndexOf w p) 0 ≡ getD words (columnIndexOf w p) 0
+      column : columnInside w p ≡ true → getD (plainWords words w) (columnIndexOf w p) 0 ≡ getD words (columnIndexOf w p) 0
       column c = part-word (columnIndexOf w p) (column-before w p c)
 
-      high : (t : Bool) → columnInside w p ≡ true → heightInside w p ≡ t → lookAt words w p ≡ lookAt (plain words w) w p
+      high : (t : Bool) → columnInside w p ≡ true → heightInside w p ≡ t → lookAt words w p ≡ lookAt (plainWords words w) w p
       high true c h = rw (c, h, lent c, part-lent c, column c, part-word (indexOf w p) (within-words (columnCount (w .sizes)) (index-below w p (is-inside w p c h))))
       high false c h = rw (c, h, lent c, part-lent c, column c)
 
-      go : (t : Bool) → columnInside w p ≡ t → lookAt words w p ≡ lookAt (plain words w) w p
+      go : (t : Bool) → columnInside w p ≡ t → lookAt words w p ≡ lookAt (plainWords words w) w p
       go true c = high (heightInside w p) c refl
-      go false c = outside-refused words w p c ∙ sym (outside-refused (plain words w) w p c)
+      go false c = outside-refused words w p c ∙ sym (outside-refused (plainWords words w) w p c)

@@ -14,7 +14,7 @@ use Rattle.groups.specs.declared.Layout.{Layout}
 use Rattle.groups.specs.Groups.{groupsOn}
 use Rattle.groups.specs.Summary.{wordsBefore}
 use Rattle.groups.specs.Places.{layoutOf}
-use Rattle.summary.specs.Calls.{plain}
+use Rattle.summary.specs.Calls.{plainWords}
 
 -- what a layout says of the sizes
 record Laid (s : Sizes) (l : Layout) (t : Bool) : Type 0 where
@@ -33,8 +33,8 @@ laid s l t e f = go (sizesFit s) t refl (ap (λ (k : Layout). k .fits) (sym e) �
     go false false h f g = record { sizes = h; before = g ∙ (rw h) }
 
 module _ (words : List ℕ) (w : Window) (l : Layout) (e : l ≡ layoutOf (w .sizes)) where
-  pub cut-plain : l .fits ≡ true → (n : ℕ) → n ≡ l .before → take (n - 0) (drop 0 words) ≡ plain words w
-  unfolding plain choose
+  pub cut-plain : l .fits ≡ true → (n : ℕ) → n ≡ l .before → take (n - 0) (drop 0 words) ≡ plainWords words w
+  unfolding plainWords choose
   cut-plain f n h =
       let k = laid (w .sizes) l true e f in
       let m : n - 0 ≡ n = omega arith in
@@ -43,13 +43,13 @@ module _ (words : List ℕ) (w : Window) (l : Layout) (e : l ≡ layoutOf (w .si
   whole : take (length words - 0) (drop 0 words) ≡ words
   whole = take-all (length words - 0) words (omega arith)
 
-  pub short-plain : l .fits ≡ true → (n : ℕ) → n ≡ l .before → length words ≤ n → take (length words - 0) (drop 0 words) ≡ plain words w
-  unfolding plain choose
+  pub short-plain : l .fits ≡ true → (n : ℕ) → n ≡ l .before → length words ≤ n → take (length words - 0) (drop 0 words) ≡ plainWords words w
+  unfolding plainWords choose
   short-plain f n h g =
       let k = laid (w .sizes) l true e f in
       let b : n ≡ wordsBefore (w .sizes) = h ∙ k .before in
       whole ∙ sym (take-all (wordsBefore (w .sizes)) words (omega arith)) ∙ (rw (k .sizes))
 
-  pub no-plain : l .fits ≡ false → take (length words - 0) (drop 0 words) ≡ plain words w
-  unfolding plain choose
+  pub no-plain : l .fits ≡ false → take (length words - 0) (drop 0 words) ≡ plainWords words w
+  unfolding plainWords choose
   no-plain f = let k = laid (w .sizes) l false e f in whole ∙ (rw (k .sizes))

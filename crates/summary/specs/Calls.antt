@@ -15,12 +15,12 @@ use Rattle.window.specs.Window.{sizesFit}
 use Rattle.groups.specs.Summary.{wordsBefore, buildRefusal, built, summaryRefusal, setRefusal, afterSet}
 
 -- the words of cells and columns, without those of a summary
-unfoldable pub plain : List ℕ → Window → List ℕ
-plain words w = choose (sizesFit (w .sizes)) (take (wordsBefore (w .sizes)) words) words
+unfoldable pub plainWords : List ℕ → Window → List ℕ
+plainWords words w = choose (sizesFit (w .sizes)) (take (wordsBefore (w .sizes)) words) words
 
 -- 1, then 2, then 3
 abbrev pub plainRefusal : List ℕ → List Float → List ℕ → Window → ℕ
-plainRefusal records shapes words w = directRefusal records shapes (plain words w) w
+plainRefusal records shapes words w = directRefusal records shapes (plainWords words w) w
 
 -- then 11, then 13
 unfoldable pub summedRefusal : List ℕ → List Float → List ℕ → Window → ℕ

@@ -3,7 +3,7 @@
 use window::Pos;
 use window::Window;
 ghost use mathlib.Core.Path.{_≡_};
-ghost use Rattle.summary.specs.Calls.{plain, plainRefusal, summedRefusal, buildEntry, builtEntry, setEntry, afterSetEntry};
+ghost use Rattle.summary.specs.Calls.{plainWords, plainRefusal, summedRefusal, buildEntry, builtEntry, setEntry, afterSetEntry};
 
 fn wide(x: u32) -> usize
     ensures { λ r. ⌜ r ≡ x ⌝ }
@@ -13,7 +13,7 @@ fn wide(x: u32) -> usize
 
 // The words of cells and columns, without those of a summary.
 pub fn plain_words(words: &[u32], w: Window) -> &[u32]
-    ensures { λ r. ⌜ now r ≡ plain (now (words .entry)) w ⌝ }
+    ensures { λ r. ⌜ now r ≡ plainWords (now (words .entry)) w ⌝ }
 {
     let l = groups::layout_of(w.sizes);
     if l.fits {

@@ -21,8 +21,8 @@ abbrev pub few : ℕ
 few = 42
 
 -- how many boxes are collected where there is room for so many, under a cap of the rules
-abbrev pub within : ℕ → ℕ → ℕ
-within most cap = min (capOf cap) most
+abbrev pub capWithin : ℕ → ℕ → ℕ
+capWithin most cap = min (capOf cap) most
 
 unfoldable pub emptyFew : Few
 emptyFew = record { boxes = replicate few noBox; count = 0 }

@@ -13,7 +13,7 @@ ghost use Rattle.sweeps.specs.Lists.{capOf};
 ghost use Rattle.window.specs.Look.{lookAt};
 ghost use Rattle.passing.specs.Passing.{passes};
 ghost use Rattle.through.specs.Through.{movedAsked, moveAabbPast};
-ghost use Rattle.through.specs.Few.{within, emptyFew, moveFrom};
+ghost use Rattle.through.specs.Few.{capWithin, emptyFew, moveFrom};
 
 // A move, or the number of a refusal.
 pub enum AskedMove {
@@ -40,8 +40,8 @@ impl Few {
 }
 
 // How many boxes are collected where there is room for so many, under a cap of the rules.
-fn within(most: usize, cap: u32) -> usize
-    ensures { λ r. ⌜ r ≡ within most cap ⌝ }
+fn cap_within(most: usize, cap: u32) -> usize
+    ensures { λ r. ⌜ r ≡ capWithin most cap ⌝ }
 {
     let all = sweeps::cap_of(cap);
     if all < most { all } else { most }
@@ -68,7 +68,7 @@ fn many(cap: u32, records: &[u32], shapes: &[f32], cells: &[u32], w: Window, q: 
         return crowded(cap, records, shapes, cells, w, q, area, r); // one layer of ground is more than 128 boxes
     }
     let mut room = [0.0; 768];
-    let c = collection::collect_into(&mut room, within(128, cap), records, shapes, cells, w, area, r);
+    let c = collection::collect_into(&mut room, cap_within(128, cap), records, shapes, cells, w, area, r);
     if c.refusal == 0 {
         return AskedMove::To(lent_moves::moved_over(&room, c.count, q));
     }
@@ -83,7 +83,7 @@ fn many(cap: u32, records: &[u32], shapes: &[f32], cells: &[u32], w: Window, q: 
 fn swept_through(cap: u32, records: &[u32], shapes: &[f32], cells: &[u32], w: Window, q: Request, area: Aabb, r: Range) -> AskedMove
     ensures { λ m. ⌜ movedAsked m ≡ moveFrom (capOf cap) (passes (now (cells .entry)) w r) (lookAt (now (cells .entry)) w) (now (records .entry)) (now (shapes .entry)) q area r ⌝ }
 {
-    let most = within(42, cap);
+    let most = cap_within(42, cap);
     let over = passing::reach_in(cells, w, r);
     let mut layer = Stretch { until: 0, lines: 0 };
     let mut list = Few::new();
@@ -121,7 +121,7 @@ fn swept_through(cap: u32, records: &[u32], shapes: &[f32], cells: &[u32], w: Wi
             let b = list.boxes[i];
             d = sweeps::clip_along(axis, b, now.aabb, d);
         }
-        s = attempts::next(pass, q, s.first, attempts::gone(pass, axis, now, d));
+        s = attempts::next_sweep(pass, q, s.first, attempts::gone(pass, axis, now, d));
         if s.over {
             return AskedMove::To(sweeps::ended(q, s));
         }

@@ -24,7 +24,7 @@ use Rattle.lent_words.specs.Words.{windowWords}
 use Rattle.writer.specs.declared.Written.{Written}
 use Rattle.files.specs.Contents.{Contents}
 use Rattle.writer.specs.Contents.{countsFor}
-use Rattle.writer.specs.Written.{bodyWordOf, bytesBy, sceneBytes, sceneBlocks, contentsRefusal, roomFor, sceneRefusal, writtenBy, answerBy, writtenScene, sceneAnswer, writtenChecked, checkedAnswer}
+use Rattle.writer.specs.Written.{bodyWordOf, bytesBy, sceneBytes, sceneBlocks, contentsRefusal, roomFor, sceneRefusal, writtenUnless, answerBy, writtenScene, sceneAnswer, writtenChecked, checkedAnswer}
 
 -- ---- the parts
 
@@ -117,8 +117,8 @@ module _ (n : Counts) where
 -- ---- what is handed back
 
 module _ (c : Contents) (out : List ℕ) where
-  nothing : (r : ℕ) → eqb r 0 ≡ false → (out ≡ writtenBy r out c) × (record { refusal = r; bytes = 0 } ≡ answerBy r c)
-  unfolding writtenBy answerBy choose
+  nothing : (r : ℕ) → eqb r 0 ≡ false → (out ≡ writtenUnless r out c) × (record { refusal = r; bytes = 0 } ≡ answerBy r c)
+  unfolding writtenUnless answerBy choose
   nothing r e = (rw e, rw e)
 
   pub no-room : 128 < sceneBlocks c → (out ≡ writtenChecked out c) × (record { refusal = 12; bytes = 0 } ≡ checkedAnswer (length out) c)
@@ -133,7 +133,7 @@ module _ (c : Contents) (out : List ℕ) where
 
     pub room-written : (after : List ℕ) → r ≡ 0 → after ≡ stored out 0 (bytesBy c n)
         → (after ≡ writtenChecked out c) × (record { refusal = 0; bytes = blocks * 512 } ≡ checkedAnswer (length out) c)
-    unfolding writtenBy answerBy choose
+    unfolding writtenUnless answerBy choose
     room-written after z e = rw (← same, z) (e ∙ ap (λ (k : Counts). stored out 0 (bytesBy c k)) en, rw (eb, en))
 
   -- 1 to 4 come first
@@ -149,8 +149,8 @@ module _ (c : Contents) (out : List ℕ) where
 
 -- ---- the buffer keeps its length
 
-pub written-length : (r : ℕ) (out : List ℕ) (c : Contents) → length (writtenBy r out c) ≡ length out
-unfolding writtenBy choose
+pub written-length : (r : ℕ) (out : List ℕ) (c : Contents) → length (writtenUnless r out c) ≡ length out
+unfolding writtenUnless choose
 written-length r out c = go (eqb r 0)
   where
     go : (b : Bool) → length (choose b (stored out 0 (sceneBytes c)) out) ≡ length out

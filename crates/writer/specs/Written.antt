@@ -22,7 +22,7 @@ use Rattle.files.specs.declared.Counted.the-variants as counted
 use Rattle.writer.specs.declared.Written.{Written}
 use Rattle.files.specs.Contents.{Contents}
 use Rattle.writer.specs.Contents.{countsBy, countsFor}
-unfoldable pub use Rattle.body_words.specs.Words.{halfOf, bodyWordOf}
+unfoldable pub use Rattle.body_words.specs.Words.{wordOfWide, bodyWordOf}
 unfoldable pub use Rattle.scene_room.specs.Room.{roomFor}
 
 -- ---- the scene: "Kinds in order: one 1 (body), 2, 3, one 4, 5", by the table of parts that the reader goes by
@@ -51,35 +51,35 @@ orElse refusal next = choose (eqb refusal 0) next refusal
 unfoldable pub contentsRefusal : List ℕ → List Float → List ℕ → Window → List Float → List ℕ → ℕ
 contentsRefusal records shapes cells w numbers words = orElse (lentRefusal records shapes cells w) (bodyRefusal records numbers words)
 
-abbrev pub refusalOf : Contents → ℕ
-refusalOf c = contentsRefusal (c .records) (c .shapes) (c .cells) (c .window) (c .numbers) (c .words)
+abbrev pub refusalOfContents : Contents → ℕ
+refusalOfContents c = contentsRefusal (c .records) (c .shapes) (c .cells) (c .window) (c .numbers) (c .words)
 
 -- 12, then 11, or 0
 abbrev pub roomRefusal : Contents → ℕ → ℕ
 roomRefusal c size = roomFor (sceneBlocks c) size
 
 unfoldable pub sceneRefusal : Contents → ℕ → ℕ
-sceneRefusal c size = orElse (refusalOf c) (roomRefusal c size)
+sceneRefusal c size = orElse (refusalOfContents c) (roomRefusal c size)
 
 -- ---- what is handed back, by the refusal: the buffer, with "bytes past the scene" as they were, and how many bytes were written
 
 -- a refusal writes nothing
-unfoldable pub writtenBy : ℕ → List ℕ → Contents → List ℕ
-writtenBy refusal out c = choose (eqb refusal 0) (stored out 0 (sceneBytes c)) out
+unfoldable pub writtenUnless : ℕ → List ℕ → Contents → List ℕ
+writtenUnless refusal out c = choose (eqb refusal 0) (stored out 0 (sceneBytes c)) out
 
 unfoldable pub answerBy : ℕ → Contents → Written
 answerBy refusal c = record { refusal = refusal; bytes = choose (eqb refusal 0) (sceneBlocks c * 512) 0 }
 
 -- write_scene
 abbrev pub writtenScene : List ℕ → Contents → List ℕ
-writtenScene out c = writtenBy (sceneRefusal c (length out)) out c
+writtenScene out c = writtenUnless (sceneRefusal c (length out)) out c
 
 abbrev pub sceneAnswer : ℕ → Contents → Written
 sceneAnswer size c = answerBy (sceneRefusal c size) c
 
 -- write_checked: for contents that were looked at before
 abbrev pub writtenChecked : List ℕ → Contents → List ℕ
-writtenChecked out c = writtenBy (roomRefusal c (length out)) out c
+writtenChecked out c = writtenUnless (roomRefusal c (length out)) out c
 
 abbrev pub checkedAnswer : ℕ → Contents → Written
 checkedAnswer size c = answerBy (roomRefusal c size) c

@@ -18,8 +18,8 @@ loop-holds : tie.Need-loop-holds Inv-loop μ-loop
 unfolding sumOf
 loop-holds c = (search needs, refl)
 
-word-requires : tie.Need-word-requires Inv-loop μ-loop
-word-requires c κs = search needs
+file-word-requires : tie.Need-file-word-requires Inv-loop μ-loop
+file-word-requires c κs = search needs
 
 wrapping-add-u32-requires : tie.Need-wrapping-add-u32-requires Inv-loop μ-loop
 wrapping-add-u32-requires c κs = search needs
@@ -31,7 +31,7 @@ loop-less : tie.Need-loop-less Inv-loop μ-loop
 loop-less c = search needs
 
 loop-again : tie.Need-loop-again Inv-loop μ-loop
-loop-again c = (search needs, c .wrapping-add-u32 .ensures ∙ sum-turn _ (c .before .before .before .loop .k) _ _ (c .before .before .before .loop .inv .1) (ap (λ (w : ℕ). w % 4294967296) (c .before .word .ensures)))
+loop-again c = (search needs, c .wrapping-add-u32 .ensures ∙ sum-turn _ (c .before .before .before .loop .k) _ _ (c .before .before .before .loop .inv .1) (ap (λ (w : ℕ). w % 4294967296) (c .before .file-word .ensures)))
 
 returns : tie.Need-returns Inv-loop μ-loop
 unfolding checkOf
@@ -44,7 +44,7 @@ check-of-spec =
     Inv-loop
     μ-loop
     loop-holds
-    word-requires
+    file-word-requires
     wrapping-add-u32-requires
     add-k
     loop-less

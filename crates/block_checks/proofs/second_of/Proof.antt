@@ -18,11 +18,11 @@ loop-holds : tie.Need-loop-holds Inv-loop μ-loop
 unfolding sumOf
 loop-holds c = (search needs, refl)
 
-cast-word : tie.Need-cast-word Inv-loop μ-loop
-cast-word c = search needs
+cast-file-word : tie.Need-cast-file-word Inv-loop μ-loop
+cast-file-word c = search needs
 
-word-requires : tie.Need-word-requires Inv-loop μ-loop
-word-requires c κs = search needs
+file-word-requires : tie.Need-file-word-requires Inv-loop μ-loop
+file-word-requires c κs = search needs
 
 weighted-requires : tie.Need-weighted-requires Inv-loop μ-loop
 weighted-requires c κs = search needs
@@ -38,7 +38,7 @@ loop-less c = search needs
 
 loop-again : tie.Need-loop-again Inv-loop μ-loop
 loop-again c =
-    (search needs, c .wrapping-add-u32 .ensures ∙ sum-turn _ (c .before .before .before .before .loop .k) _ _ (c .before .before .before .before .loop .inv .1) (weighted-turn _ _ _ _ (c .before .before .word .ensures) (c .before .weighted .ensures)))
+    (search needs, c .wrapping-add-u32 .ensures ∙ sum-turn _ (c .before .before .before .before .loop .k) _ _ (c .before .before .before .before .loop .inv .1) (weighted-turn _ _ _ _ (c .before .before .file-word .ensures) (c .before .weighted .ensures)))
 
 returns : tie.Need-returns Inv-loop μ-loop
 unfolding secondOf
@@ -51,8 +51,8 @@ second-of-spec =
     Inv-loop
     μ-loop
     loop-holds
-    cast-word
-    word-requires
+    cast-file-word
+    file-word-requires
     weighted-requires
     wrapping-add-u32-requires
     add-k

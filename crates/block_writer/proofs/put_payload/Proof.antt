@@ -6,8 +6,8 @@ use borrow.Author.Needs.{needs}
 use mathlib.Core.Path.{_≡_, refl, ap, _∙_}
 use Prim.Native.Nat.{_+_, _-_, _≤_}
 use lib.ListN.{length}
-use Rattle.base.specs.Loop.{stored}
-use Rattle.block_writer.specs.Bytes.{joined, bytesOf, payloadWord, wordIn}
+use Rattle.base.specs.Loop.{appended, stored}
+use Rattle.block_writer.specs.Bytes.{bytesOf, payloadWord, wordIn}
 use Rattle.block_writer.proofs.put_payload.Statement.{statement}
 use Rattle.block_writer.proofs.put_payload.Tie as tie
 
@@ -19,7 +19,7 @@ abbrev μ-loop : tie.MeasureT-loop
 μ-loop block₀ words from used i₀ block i = 123 - i
 
 loop-holds : tie.Need-loop-holds Inv-loop μ-loop
-unfolding stored bytesOf joined
+unfolding stored bytesOf appended
 loop-holds c = (search needs, refl, refl)
 
 add-put-word : tie.Need-add-put-word Inv-loop μ-loop

@@ -12,24 +12,24 @@ written-number-requires c κs = search needs
 bits-of-float-requires : tie.Need-bits-of-float-requires
 bits-of-float-requires c κs = search needs
 
-half-of-requires : tie.Need-half-of-requires
-half-of-requires c κs = search needs
+word-of-wide-requires : tie.Need-word-of-wide-requires
+word-of-wide-requires c κs = search needs
 
 returns : tie.Need-returns
 unfolding bodyWordOf choose
 returns c =
     let at-written-number = c .before .before in
     let at-if1 = at-written-number .before in
-    rw (lt-ltb _ _ (at-if1 .if1 .taken), ← at-written-number .written-number .ensures, ← c .before .bits-of-float .ensures) (c .half-of .ensures)
+    rw (lt-ltb _ _ (at-if1 .if1 .taken), ← at-written-number .written-number .ensures, ← c .before .bits-of-float .ensures) (c .word-of-wide .ensures)
 
-half-of-requires-2 : tie.Need-half-of-requires-2
-half-of-requires-2 c κs = search needs
+word-of-wide-requires-2 : tie.Need-word-of-wide-requires-2
+word-of-wide-requires-2 c κs = search needs
 
 returns-2 : tie.Need-returns-2
 unfolding bodyWordOf choose
 returns-2 c =
     let at-if1 = c .before .before in
-    rw (le-ltb _ _ (at-if1 .if1 .left), lt-ltb _ _ (c .before .if2 .taken)) (c .half-of2 .ensures)
+    rw (le-ltb _ _ (at-if1 .if1 .left), lt-ltb _ _ (c .before .if2 .taken)) (c .word-of-wide2 .ensures)
 
 cast-word-in : tie.Need-cast-word-in
 cast-word-in c = search needs
@@ -88,9 +88,9 @@ body-word-of-spec =
     (tie.spec
     written-number-requires
     bits-of-float-requires
-    half-of-requires
+    word-of-wide-requires
     returns
-    half-of-requires-2
+    word-of-wide-requires-2
     returns-2
     cast-word-in
     word-in-requires

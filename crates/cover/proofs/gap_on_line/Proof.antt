@@ -6,13 +6,13 @@ use native.Mathlib.Omega.{arith}
 use borrow.Author.Count.{below-more, below-none}
 use borrow.Author.Needs.{needs}
 use Rattle.base.proofs.Every.{some-none, some-at}
-use Rattle.cover.specs.Gaps.{spans, gapPast, gapAt, anyGap, gapOnLine}
+use Rattle.cover.specs.Gaps.{spansLine, gapPast, gapAt, anyGap, gapOnLine}
 use Rattle.cover.specs.Cover.{v1}
 use Rattle.cover.proofs.gap_on_line.Statement.{statement}
 use Rattle.cover.proofs.gap_on_line.Tie as tie
 
 abbrev Inv-loop : tie.InvT-loop
-Inv-loop shape face u n k₀ k = (k ≤ n) × ((j : ℕ) → j < k → gapPast (spans shape face u) (v1 shape) (gapAt shape face u) j ≡ false)
+Inv-loop shape face u n k₀ k = (k ≤ n) × ((j : ℕ) → j < k → gapPast (spansLine shape face u) (v1 shape) (gapAt shape face u) j ≡ false)
 
 abbrev μ-loop : tie.MeasureT-loop
 μ-loop shape face u n k₀ k = n - k

@@ -23,8 +23,8 @@ returns : tie.Need-returns Inv-loop μ-loop
 unfolding itemCurrent choose
 returns c = rw (← c .before .is-beyond .ensures, c .if1 .taken)
 
-reach-of-requires : tie.Need-reach-of-requires Inv-loop μ-loop
-reach-of-requires c κs = search needs
+current-range-requires : tie.Need-current-range-requires Inv-loop μ-loop
+current-range-requires c κs = search needs
 
 no-streams-requires : tie.Need-no-streams-requires Inv-loop μ-loop
 no-streams-requires c κs = search needs
@@ -50,7 +50,7 @@ returns-2 c =
     let turn = c .before .before .before in
     let went = turn .before .before .before .before .before in
     let start = went .before .before in
-    rw (← start .before .before .before .is-beyond .ensures, start .before .before .if1 .left, ← start .before .reach-of .ensures, ← start .no-streams .ensures, walked-stop (went .loop .inv) (turn .before .before .if2 .taken) (turn .before .place .ensures) (turn .current-turn .ensures) _ (ap gatheredAsked (c .before .n .given .1)))
+    rw (← start .before .before .before .is-beyond .ensures, start .before .before .if1 .left, ← start .before .current-range .ensures, ← start .no-streams .ensures, walked-stop (went .loop .inv) (turn .before .before .if2 .taken) (turn .before .place .ensures) (turn .current-turn .ensures) _ (ap gatheredAsked (c .before .n .given .1)))
 
 enum-known-g : tie.Need-enum-known-g Inv-loop μ-loop
 enum-known-g c = search needs
@@ -76,7 +76,7 @@ unfolding itemCurrent choose
 returns-3 c =
     let went = c .before .before .before .before in
     let start = went .before .before in
-    rw (← start .before .before .before .is-beyond .ensures, start .before .before .if1 .left, ← start .before .reach-of .ensures, ← start .no-streams .ensures, walked-end (went .loop .inv) (c .before .if2 .left), c .current-of .ensures)
+    rw (← start .before .before .before .is-beyond .ensures, start .before .before .if1 .left, ← start .before .current-range .ensures, ← start .no-streams .ensures, walked-end (went .loop .inv) (c .before .if2 .left), c .current-of .ensures)
 
 pub item-current-spec : {M : Type 1} → statement M
 item-current-spec =
@@ -86,7 +86,7 @@ item-current-spec =
     μ-loop
     is-beyond-requires
     returns
-    reach-of-requires
+    current-range-requires
     no-streams-requires
     start-requires
     loop-holds

@@ -20,11 +20,11 @@ abbrev μ-loop : tie.MeasureT-loop
 loop-holds : tie.Need-loop-holds Inv-loop μ-loop
 loop-holds c = rw sub-zero
 
-mul-box-at : tie.Need-mul-box-at Inv-loop μ-loop
-mul-box-at c = omega arith
+mul-aabb-at : tie.Need-mul-aabb-at Inv-loop μ-loop
+mul-aabb-at c = omega arith
 
-box-at-requires : tie.Need-box-at-requires Inv-loop μ-loop
-box-at-requires c κs = search needs
+aabb-at-requires : tie.Need-aabb-at-requires Inv-loop μ-loop
+aabb-at-requires c κs = search needs
 
 is-box-requires : tie.Need-is-box-requires Inv-loop μ-loop
 is-box-requires c κs = search needs
@@ -38,12 +38,12 @@ loop-less c = omega arith
 loop-again : tie.Need-loop-again Inv-loop μ-loop
 loop-again c =
     let l = c .before .before .before .before in
-    sound-turn (boxOf (l .before .before .args .numbers .now)) _ (l .loop .i) _ (l .loop .inv) _ _ (c .before .before .before .loop-test .taken) (c .before .before .box-at .ensures) (c .before .is-box .ensures) (c .if1 .taken)
+    sound-turn (boxOf (l .before .before .args .numbers .now)) _ (l .loop .i) _ (l .loop .inv) _ _ (c .before .before .before .loop-test .taken) (c .before .before .aabb-at .ensures) (c .before .is-box .ensures) (c .if1 .taken)
 
 returns : tie.Need-returns Inv-loop μ-loop
 returns c =
     let l = c .before .before .before .before in
-    sound-stop (boxOf (l .before .before .args .numbers .now)) _ (l .loop .i) _ (l .loop .inv) _ _ (c .before .before .before .loop-test .taken) (c .before .before .box-at .ensures) (c .before .is-box .ensures) (c .if1 .left)
+    sound-stop (boxOf (l .before .before .args .numbers .now)) _ (l .loop .i) _ (l .loop .inv) _ _ (c .before .before .before .loop-test .taken) (c .before .before .aabb-at .ensures) (c .before .is-box .ensures) (c .if1 .left)
 
 returns-2 : tie.Need-returns-2 Inv-loop μ-loop
 returns-2 c = let l = c .before in sound-end (boxOf (l .before .before .args .numbers .now)) _ (l .loop .i) _ (l .loop .inv) (c .loop-test .left)
@@ -55,8 +55,8 @@ are-boxes-spec =
     Inv-loop
     μ-loop
     loop-holds
-    mul-box-at
-    box-at-requires
+    mul-aabb-at
+    aabb-at-requires
     is-box-requires
     add-i
     loop-less

@@ -67,12 +67,12 @@ loop2-again c =
 gone-requires : tie.Need-gone-requires Inv-loop2 μ-loop2 Inv-loop μ-loop
 gone-requires c κs = search needs
 
-next-requires : tie.Need-next-requires Inv-loop2 μ-loop2 Inv-loop μ-loop
-next-requires c κs = search needs
+next-sweep-requires : tie.Need-next-sweep-requires Inv-loop2 μ-loop2 Inv-loop μ-loop
+next-sweep-requires c κs = search needs
 
 returns : tie.Need-returns Inv-loop2 μ-loop2 Inv-loop μ-loop
 returns c =
-    pass-over _ _ (c .before .before .before .before .before .before .before .before .before .before .before .loop .pass) (c .before .before .before .before .before .before .before .before .before .before .before .loop .s) (c .before .next .result) _ (made (c .before .before .before .before .before .before .before .before .before .before .before .before .before .before .args .t1 .boxes) (c .before .before .before .before .before .before .before .before .before .before .before .before .before .before .args .t1 .count) room (whole (c .before .before .before .before .before .before .before .before .before .before .before .before .before .before)) _ _ (c .before .before .before .before .before .before .before .before .before .before .before .before .before .counted .ensures) _ (c .before .before .before .before .before .before .before .before .before .before .before .loop .pass) (c .before .before .before .before .before .before .before .before .before .before .before .loop .s) _ _ _ _ (c .before .before .before .before .before .loop2 .d) (c .before .before .before .before .before .before .before .before .before .axis-of .ensures) (c .before .before .before .before .before .before .wanted .ensures) (c .before .before .before .before .loop2-test .left) (c .before .before .before .before .before .loop2 .inv) (c .before .before .gone .ensures) (c .before .next .ensures)) (c .before .before .before .before .before .before .before .before .before .before .loop-test .taken) (c .if1 .taken) (c .before .before .before .before .before .before .before .before .before .before .before .loop .inv)
+    pass-over _ _ (c .before .before .before .before .before .before .before .before .before .before .before .loop .pass) (c .before .before .before .before .before .before .before .before .before .before .before .loop .s) (c .before .next-sweep .result) _ (made (c .before .before .before .before .before .before .before .before .before .before .before .before .before .before .args .t1 .boxes) (c .before .before .before .before .before .before .before .before .before .before .before .before .before .before .args .t1 .count) room (whole (c .before .before .before .before .before .before .before .before .before .before .before .before .before .before)) _ _ (c .before .before .before .before .before .before .before .before .before .before .before .before .before .counted .ensures) _ (c .before .before .before .before .before .before .before .before .before .before .before .loop .pass) (c .before .before .before .before .before .before .before .before .before .before .before .loop .s) _ _ _ _ (c .before .before .before .before .before .loop2 .d) (c .before .before .before .before .before .before .before .before .before .axis-of .ensures) (c .before .before .before .before .before .before .wanted .ensures) (c .before .before .before .before .loop2-test .left) (c .before .before .before .before .before .loop2 .inv) (c .before .before .gone .ensures) (c .before .next-sweep .ensures)) (c .before .before .before .before .before .before .before .before .before .before .loop-test .taken) (c .if1 .taken) (c .before .before .before .before .before .before .before .before .before .before .before .loop .inv)
 
 add-pass : tie.Need-add-pass Inv-loop2 μ-loop2 Inv-loop μ-loop
 add-pass c = omega arith
@@ -82,7 +82,7 @@ loop-less c = omega arith
 
 loop-again : tie.Need-loop-again Inv-loop2 μ-loop2 Inv-loop μ-loop
 loop-again c =
-    pass-on _ _ (c .before .before .before .before .before .before .before .before .before .before .before .loop .pass) (c .before .before .before .before .before .before .before .before .before .before .before .loop .s) (c .before .next .result) _ (made (c .before .before .before .before .before .before .before .before .before .before .before .before .before .before .args .t1 .boxes) (c .before .before .before .before .before .before .before .before .before .before .before .before .before .before .args .t1 .count) room (whole (c .before .before .before .before .before .before .before .before .before .before .before .before .before .before)) _ _ (c .before .before .before .before .before .before .before .before .before .before .before .before .before .counted .ensures) _ (c .before .before .before .before .before .before .before .before .before .before .before .loop .pass) (c .before .before .before .before .before .before .before .before .before .before .before .loop .s) _ _ _ _ (c .before .before .before .before .before .loop2 .d) (c .before .before .before .before .before .before .before .before .before .axis-of .ensures) (c .before .before .before .before .before .before .wanted .ensures) (c .before .before .before .before .loop2-test .left) (c .before .before .before .before .before .loop2 .inv) (c .before .before .gone .ensures) (c .before .next .ensures)) (c .before .before .before .before .before .before .before .before .before .before .loop-test .taken) (c .if1 .left) (c .before .before .before .before .before .before .before .before .before .before .before .loop .inv)
+    pass-on _ _ (c .before .before .before .before .before .before .before .before .before .before .before .loop .pass) (c .before .before .before .before .before .before .before .before .before .before .before .loop .s) (c .before .next-sweep .result) _ (made (c .before .before .before .before .before .before .before .before .before .before .before .before .before .before .args .t1 .boxes) (c .before .before .before .before .before .before .before .before .before .before .before .before .before .before .args .t1 .count) room (whole (c .before .before .before .before .before .before .before .before .before .before .before .before .before .before)) _ _ (c .before .before .before .before .before .before .before .before .before .before .before .before .before .counted .ensures) _ (c .before .before .before .before .before .before .before .before .before .before .before .loop .pass) (c .before .before .before .before .before .before .before .before .before .before .before .loop .s) _ _ _ _ (c .before .before .before .before .before .loop2 .d) (c .before .before .before .before .before .before .before .before .before .axis-of .ensures) (c .before .before .before .before .before .before .wanted .ensures) (c .before .before .before .before .loop2-test .left) (c .before .before .before .before .before .loop2 .inv) (c .before .before .gone .ensures) (c .before .next-sweep .ensures)) (c .before .before .before .before .before .before .before .before .before .before .loop-test .taken) (c .if1 .left) (c .before .before .before .before .before .before .before .before .before .before .before .loop .inv)
 
 returns-2 : tie.Need-returns-2 Inv-loop2 μ-loop2 Inv-loop μ-loop
 returns-2 c = passes-end _ _ (c .before .loop .pass) (c .before .loop .s) _ (c .loop-test .left) (c .before .loop .inv)
@@ -108,7 +108,7 @@ swept-over-spec =
     loop2-less
     loop2-again
     gone-requires
-    next-requires
+    next-sweep-requires
     returns
     add-pass
     loop-less

@@ -9,21 +9,21 @@ use Rattle.log_writer.proofs.log_refusal.Tie as tie
 scene-there-requires : tie.Need-scene-there-requires
 scene-there-requires c κs = search needs
 
-lent-fit-requires : tie.Need-lent-fit-requires
-lent-fit-requires c κs = search needs
+lent-events-fit-requires : tie.Need-lent-events-fit-requires
+lent-events-fit-requires c κs = search needs
 
-scene-blocks-requires : tie.Need-scene-blocks-requires
-scene-blocks-requires c κs = search needs
+scene-blocks-in-requires : tie.Need-scene-blocks-in-requires
+scene-blocks-in-requires c κs = search needs
 
 log-blocks-requires : tie.Need-log-blocks-requires
 log-blocks-requires c κs = search needs
 
 add-room-for : tie.Need-add-room-for
 add-room-for c = 
-    let at-scene-blocks = c .before in
-    let at-start = at-scene-blocks .before .before .before .before .before .before .before in
+    let at-scene-blocks-in = c .before in
+    let at-start = at-scene-blocks-in .before .before .before .before .before .before .before in
     let m = scene-most (at-start .args .out .now) in
-    let s = at-scene-blocks .scene-blocks .ensures in
+    let s = at-scene-blocks-in .scene-blocks-in .ensures in
     let l = c .log-blocks .ensures in
     search needs
 
@@ -32,11 +32,11 @@ room-for-requires c κs = search needs
 
 returns : tie.Need-returns
 unfolding logRefusal choose
-returns c = rw (← c .before .before .before .before .before .before .scene-there .ensures, c .before .before .before .before .before .if1 .taken, ← c .before .before .before .before .lent-fit .ensures, c .before .before .before .if2 .taken, ← c .before .before .scene-blocks .ensures, ← c .before .log-blocks .ensures, ← c .room-for .ensures)
+returns c = rw (← c .before .before .before .before .before .before .scene-there .ensures, c .before .before .before .before .before .if1 .taken, ← c .before .before .before .before .lent-events-fit .ensures, c .before .before .before .if2 .taken, ← c .before .before .scene-blocks-in .ensures, ← c .before .log-blocks .ensures, ← c .room-for .ensures)
 
 returns-2 : tie.Need-returns-2
 unfolding logRefusal choose
-returns-2 c = rw (← c .before .before .before .scene-there .ensures, c .before .before .if1 .taken, ← c .before .lent-fit .ensures, c .if2 .left)
+returns-2 c = rw (← c .before .before .before .scene-there .ensures, c .before .before .if1 .taken, ← c .before .lent-events-fit .ensures, c .if2 .left)
 
 returns-3 : tie.Need-returns-3
 unfolding logRefusal choose
@@ -47,8 +47,8 @@ log-refusal-spec =
     tie.close
     (tie.spec
     scene-there-requires
-    lent-fit-requires
-    scene-blocks-requires
+    lent-events-fit-requires
+    scene-blocks-in-requires
     log-blocks-requires
     add-room-for
     room-for-requires

@@ -10,8 +10,8 @@ end-fits-requires c κs = search needs
 all-fit-requires : tie.Need-all-fit-requires
 all-fit-requires c κs = search needs
 
-rest-zero-requires : tie.Need-rest-zero-requires
-rest-zero-requires c κs = search needs
+rest-of-log-zero-requires : tie.Need-rest-of-log-zero-requires
+rest-of-log-zero-requires c κs = search needs
 
 returns : tie.Need-returns
 unfolding eventsFit
@@ -20,7 +20,7 @@ returns c =
     let at-all-fit = at-if2 .before in
     let at-if1 = at-all-fit .before in
     let at-end-fits = at-if1 .before in
-    rw (← at-end-fits .end-fits .ensures, at-if1 .if1 .taken, ← at-all-fit .all-fit .ensures, at-if2 .if2 .taken, ← c .rest-zero .ensures)
+    rw (← at-end-fits .end-fits .ensures, at-if1 .if1 .taken, ← at-all-fit .all-fit .ensures, at-if2 .if2 .taken, ← c .rest-of-log-zero .ensures)
 
 returns-2 : tie.Need-returns-2
 unfolding eventsFit
@@ -40,7 +40,7 @@ events-fit-spec =
     (tie.spec
     end-fits-requires
     all-fit-requires
-    rest-zero-requires
+    rest-of-log-zero-requires
     returns
     returns-2
     returns-3)

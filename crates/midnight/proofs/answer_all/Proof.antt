@@ -7,7 +7,7 @@ use lib.ListN.{length}
 use Rattle.base.specs.Loop.{listed, stored}
 use Rattle.night_rows.specs.Rows.{Row, rowWith, rowAt}
 use Rattle.answer_rows.specs.Answers.{answerWidth}
-use Rattle.night_answers.specs.Answers.{Lent, lentWith}
+use Rattle.night_answers.specs.Answers.{NightLent, lentWith}
 use Rattle.midnight.specs.Run.{bodiesOf, rowsOf}
 use Rattle.base.proofs.Stored.{stored-length}
 use Rattle.base.proofs.Listed.{listed-length}
@@ -36,11 +36,11 @@ numbers-at-requires c κs = search needs
 words-at-requires : tie.Need-words-at-requires Inv-loop μ-loop
 words-at-requires c κs = search needs
 
-slice-aggregate-answer-of : tie.Need-slice-aggregate-answer-of Inv-loop μ-loop
-slice-aggregate-answer-of c = sym (ap (λ (l : List ℕ). length l) (c .before .before .before .before .before .check-all .ensures) ∙ listed-length _ 16 0)
+slice-aggregate-row-answer : tie.Need-slice-aggregate-row-answer Inv-loop μ-loop
+slice-aggregate-row-answer c = sym (ap (λ (l : List ℕ). length l) (c .before .before .before .before .before .check-all .ensures) ∙ listed-length _ 16 0)
 
-answer-of-requires : tie.Need-answer-of-requires Inv-loop μ-loop
-answer-of-requires c κs = search needs
+row-answer-requires : tie.Need-row-answer-requires Inv-loop μ-loop
+row-answer-requires c κs = search needs
 
 put-row-requires : tie.Need-put-row-requires Inv-loop μ-loop
 put-row-requires c κs = search needs
@@ -55,12 +55,12 @@ loop-again : tie.Need-loop-again Inv-loop μ-loop
 loop-again c =
     let at-loop = c .before .before .before .before .before .before .before .before .before .loop in
     let a = c .before .before .before .before .before .before .before .before .before .before .before .before .before .before .before .before .before .before .args in
-    let lent : Lent = lentWith (a .records .now) (a .shapes .now) (a .windows .now) (a .count) (a .cells .now) in
+    let lent : NightLent = lentWith (a .records .now) (a .shapes .now) (a .windows .now) (a .count) (a .cells .now) in
     let rows : ℕ → Row = rowAt (a .older) (a .numbers .now) (a .words .now) in
-    let said = rw (c .before .before .before .before .before .before .words-at .ensures, c .before .before .before .before .before .before .before .numbers-at .ensures) at (c .before .before .before .before .answer-of .ensures) in (
+    let said = rw (c .before .before .before .before .before .before .words-at .ensures, c .before .before .before .before .before .before .before .numbers-at .ensures) at (c .before .before .before .before .row-answer .ensures) in (
       search needs,
       rw (c .before .before .put-row .ensures) (stored-length (at-loop .out) _ _ ∙ at-loop .inv .1),
-      rows-turn lent rows (a .bodies) (at-loop .i) (at-loop .out) _ (c .before .before .before .before .before .before .before .before .before .before .check-all .result) (c .before .before .before .before .before .before .before .before .before .before .before .before .before .before .before .before .before .before .pre) (c .before .before .before .before .before .before .before .before .before .before .check-all .ensures) _ (c .before .before .before .before .answer-of .result) said (c .before .before .put-row .ensures) (c .before .before .before .before .before .before .before .before .loop-test .taken) (at-loop .inv .2),
+      rows-turn lent rows (a .bodies) (at-loop .i) (at-loop .out) _ (c .before .before .before .before .before .before .before .before .before .before .check-all .result) (c .before .before .before .before .before .before .before .before .before .before .before .before .before .before .before .before .before .before .pre) (c .before .before .before .before .before .before .before .before .before .before .check-all .ensures) _ (c .before .before .before .before .row-answer .result) said (c .before .before .put-row .ensures) (c .before .before .before .before .before .before .before .before .loop-test .taken) (at-loop .inv .2),
     )
 
 same-length : tie.Need-same-length Inv-loop μ-loop
@@ -79,8 +79,8 @@ answer-all-spec =
     loop-holds
     numbers-at-requires
     words-at-requires
-    slice-aggregate-answer-of
-    answer-of-requires
+    slice-aggregate-row-answer
+    row-answer-requires
     put-row-requires
     add-i
     loop-less

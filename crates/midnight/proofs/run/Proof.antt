@@ -1,7 +1,7 @@
 -- `midnight::run` meets its contract. Assumes nothing.
 use mathlib.Core.Path.{_≡_, sym, _∙_}
 use Rattle.table_check.specs.Check.{tableRefusal}
-use Rattle.night_answers.specs.Answers.{Lent, lentWith}
+use Rattle.night_answers.specs.Answers.{NightLent, lentWith}
 use Rattle.midnight.proofs.Orders.{counts-alone, checked-run, tables-refused, tables-unwritten}
 use borrow.Author.Needs.{needs}
 use Rattle.midnight.proofs.run.Statement.{statement}
@@ -13,7 +13,7 @@ check-tables-requires c κs = search needs
 returns : tie.Need-returns
 returns c =
     let a = c .before .before .before .before .before .before .before .before .before .args in
-    let lent : Lent = lentWith (a .records .now) (a .shapes .now) (a .windows .now) (a .count) (a .cells .now) in
+    let lent : NightLent = lentWith (a .records .now) (a .shapes .now) (a .windows .now) (a .count) (a .cells .now) in
     let bad : tableRefusal (lent .records) (lent .shapes) ≡ 0 → ⊥ = λ z. c .if1 .taken (c .before .check-tables .ensures ∙ z) in
     (tables-refused (a .older) lent (a .numbers .now) (a .words .now) (a .bodies) (a .out .now) bad, tables-unwritten (a .older) lent (a .numbers .now) (a .words .now) (a .bodies) (a .out .now) bad)
 
@@ -26,7 +26,7 @@ same-length c = search needs
 returns-2 : tie.Need-returns-2
 returns-2 c =
     let a = c .before .before .before .before .before .before .before .before .before .before .before .before .before .args in
-    let lent : Lent = lentWith (a .records .now) (a .shapes .now) (a .windows .now) (a .count) (a .cells .now) in
+    let lent : NightLent = lentWith (a .records .now) (a .shapes .now) (a .windows .now) (a .count) (a .cells .now) in
     let sound : tableRefusal (lent .records) (lent .shapes) ≡ 0 = sym (c .before .before .before .before .before .check-tables .ensures) ∙ c .before .before .before .before .if1 .left in
     let done = c .before .before .run-checked .ensures in (
       done .0 ∙ counts-alone (a .older) lent (a .numbers .now) (a .words .now) (a .bodies) (a .out .now) sound,

@@ -5,7 +5,7 @@ use Rattle.base.specs.Choose.{choose}
 use Rattle.base.specs.Loop.{stored}
 use Rattle.logs.specs.Logs.{eventsBy}
 use Rattle.minute_state.specs.declared.Minute.{Minute}
-use Rattle.minute_state.specs.Minute.{minute, numbersOf}
+use Rattle.minute_state.specs.Minute.{minute, linesAsNumbers}
 use borrow.Author.Needs.{needs}
 use Rattle.minute.proofs.run.Statement.{statement}
 use Rattle.minute.proofs.run.Tie as tie
@@ -20,7 +20,7 @@ same-length : tie.Need-same-length
 same-length c = search needs
 
 returns : tie.Need-returns
-unfolding minute numbersOf stored choose
+unfolding minute linesAsNumbers stored choose
 returns c = rw (← c .before .before .start-refusal .ensures, ne-eqb _ _ (c .before .if1 .taken)) (c .begin .ensures, (refl, refl))
 
 with-air-requires : tie.Need-with-air-requires

@@ -21,8 +21,8 @@ enum-told c = search needs
 enum-known-l : tie.Need-enum-known-l
 enum-known-l c = search needs
 
-whole-body-requires : tie.Need-whole-body-requires
-whole-body-requires c κs = search needs
+whole-minute-requires : tie.Need-whole-minute-requires
+whole-minute-requires c κs = search needs
 
 run-body-requires : tie.Need-run-body-requires
 run-body-requires c κs = search needs
@@ -48,7 +48,7 @@ returns c =
     let w = rw (toZ-ofZ w32 (a .ox) (s .fits .ox), toZ-ofZ w32 (a .oy) (s .fits .oy), toZ-ofZ w32 (a .oz) (s .fits .oz), toZ-ofZ w32 (a .lowest) (s .fits .lowest), toZ-ofZ w32 (a .highest) (s .fits .highest)) at (at-window-of .window-of .ensures) in
     let at-run-body = c .before .before .before .before .before .before .before .before in
     let at-minute-into = c .before .before in
-    ran (a .records .now) (a .shapes .now) (a .cells .now) (windowOf (a .ox) (a .oy) (a .oz) (a .sx) (a .sy) (a .sz) (a .lowest) (a .highest) 0) (a .numbers .now) (a .words .now) (a .age) (a .log .now) (length (a .out .now)) (a .feet .now) (a .out .now) _ _ _ _ _ _ (rw (c .before .before .before .before .before .before .before .before .before .before .before .before .before .before .l .given .1) at (at-log-of .log-of .ensures)) (sym (c .before .before .before .before .before .before .before .before .before .before .before .before .whole-body .ensures) ∙ c .before .before .before .before .before .before .before .before .before .before .before .if1 .taken) (rw w at (at-run-body .run-body .ensures)) (at-minute-into .minute-into .ensures)
+    ran (a .records .now) (a .shapes .now) (a .cells .now) (windowOf (a .ox) (a .oy) (a .oz) (a .sx) (a .sy) (a .sz) (a .lowest) (a .highest) 0) (a .numbers .now) (a .words .now) (a .age) (a .log .now) (length (a .out .now)) (a .feet .now) (a .out .now) _ _ _ _ _ _ (rw (c .before .before .before .before .before .before .before .before .before .before .before .before .before .before .l .given .1) at (at-log-of .log-of .ensures)) (sym (c .before .before .before .before .before .before .before .before .before .before .before .before .whole-minute .ensures) ∙ c .before .before .before .before .before .before .before .before .before .before .before .if1 .taken) (rw w at (at-run-body .run-body .ensures)) (at-minute-into .minute-into .ensures)
 
 short-at-requires : tie.Need-short-at-requires
 short-at-requires c κs = search needs
@@ -72,7 +72,7 @@ returns-3 c =
     let s = at-window-of .before .before .before .before .before .before .before .before .before in
     let a = s .args in
     let w = rw (toZ-ofZ w32 (a .ox) (s .fits .ox), toZ-ofZ w32 (a .oy) (s .fits .oy), toZ-ofZ w32 (a .oz) (s .fits .oz), toZ-ofZ w32 (a .lowest) (s .fits .lowest), toZ-ofZ w32 (a .highest) (s .fits .highest)) at (at-window-of .window-of .ensures) in
-    short (a .records .now) (a .shapes .now) (a .cells .now) (windowOf (a .ox) (a .oy) (a .oz) (a .sx) (a .sy) (a .sz) (a .lowest) (a .highest) 0) (a .numbers .now) (a .words .now) (a .age) (a .log .now) (length (a .out .now)) (a .feet .now) (a .out .now) _ _ (rw (c .before .before .before .before .before .l .given .1) at (at-log-of .log-of .ensures)) (sym (c .before .before .before .whole-body .ensures) ∙ c .before .before .if1 .left) (rw w at (c .short-at .ensures))
+    short (a .records .now) (a .shapes .now) (a .cells .now) (windowOf (a .ox) (a .oy) (a .oz) (a .sx) (a .sy) (a .sz) (a .lowest) (a .highest) 0) (a .numbers .now) (a .words .now) (a .age) (a .log .now) (length (a .out .now)) (a .feet .now) (a .out .now) _ _ (rw (c .before .before .before .before .before .l .given .1) at (at-log-of .log-of .ensures)) (sym (c .before .before .before .whole-minute .ensures) ∙ c .before .before .if1 .left) (rw w at (c .short-at .ensures))
 
 pub boltjuniper-minute-spec : {M : Type 1} → statement M
 boltjuniper-minute-spec =
@@ -82,7 +82,7 @@ boltjuniper-minute-spec =
     log-of-requires
     enum-told
     enum-known-l
-    whole-body-requires
+    whole-minute-requires
     run-body-requires
     minute-into-requires
     same-length

@@ -8,12 +8,12 @@ use lib.ListN.{length, take, length-set}
 use lib.Seq.{take-all}
 use Rattle.base.specs.Loop.{listed}
 use Rattle.base.proofs.Fill.{turn, whole}
-use Rattle.night_windows.specs.Windows.{checkedAt}
+use Rattle.night_windows.specs.Windows.{refusalWithin}
 use Rattle.night_windows.proofs.check_all.Statement.{statement}
 use Rattle.night_windows.proofs.check_all.Tie as tie
 
 abbrev Inv-loop : tie.InvT-loop
-Inv-loop records windows count cells checked₀ j₀ checked j = (j ≤ 16) × (length checked ≡ 16) × (take j checked ++ listed (checkedAt records windows cells count) (16 - j) j ≡ listed (checkedAt records windows cells count) 16 0)
+Inv-loop records windows count cells checked₀ j₀ checked j = (j ≤ 16) × (length checked ≡ 16) × (take j checked ++ listed (refusalWithin records windows cells count) (16 - j) j ≡ listed (refusalWithin records windows cells count) 16 0)
 
 abbrev μ-loop : tie.MeasureT-loop
 μ-loop records windows count cells checked₀ j₀ checked j = 16 - j
@@ -21,8 +21,8 @@ abbrev μ-loop : tie.MeasureT-loop
 loop-holds : tie.Need-loop-holds Inv-loop μ-loop
 loop-holds c = (search needs, refl, refl)
 
-checked-at-requires : tie.Need-checked-at-requires Inv-loop μ-loop
-checked-at-requires c κs = search needs
+refusal-within-requires : tie.Need-refusal-within-requires Inv-loop μ-loop
+refusal-within-requires c κs = search needs
 
 cast-checked : tie.Need-cast-checked Inv-loop μ-loop
 cast-checked c = search needs
@@ -43,14 +43,14 @@ loop-again : tie.Need-loop-again Inv-loop μ-loop
 loop-again c =
     let at-loop = c .before .before in
     let a = at-loop .before .before .before .before .args in
-    let f : ℕ → ℕ = checkedAt (a .records .now) (a .windows .now) (a .cells .now) (a .count) in
-    (search needs, simp length-set (at-loop .loop .inv .1), turn f 16 (at-loop .loop .j) (at-loop .loop .checked) _ (c .checked-at .result) (c .checked-at .ensures) (search needs) (search needs) (at-loop .loop .inv .2))
+    let f : ℕ → ℕ = refusalWithin (a .records .now) (a .windows .now) (a .cells .now) (a .count) in
+    (search needs, simp length-set (at-loop .loop .inv .1), turn f 16 (at-loop .loop .j) (at-loop .loop .checked) _ (c .refusal-within .result) (c .refusal-within .ensures) (search needs) (search needs) (at-loop .loop .inv .2))
 
 returns : tie.Need-returns Inv-loop μ-loop
 returns c =
     let at-loop = c .before in
     let a = at-loop .before .before .before .before .args in
-    let f : ℕ → ℕ = checkedAt (a .records .now) (a .windows .now) (a .cells .now) (a .count) in
+    let f : ℕ → ℕ = refusalWithin (a .records .now) (a .windows .now) (a .cells .now) (a .count) in
     let l : List ℕ = at-loop .loop .checked in
     let all : length l ≤ 16 = let e = at-loop .loop .inv .1 in omega (arith, e) in
     sym (take-all 16 l all) ∙ whole f 16 (at-loop .loop .j) l (listed f 16 0) (search needs) (at-loop .loop .inv .0) (at-loop .loop .inv .2)
@@ -62,7 +62,7 @@ check-all-spec =
     Inv-loop
     μ-loop
     loop-holds
-    checked-at-requires
+    refusal-within-requires
     cast-checked
     mul-checked
     array-write-checked

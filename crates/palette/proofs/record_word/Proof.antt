@@ -31,12 +31,12 @@ returns-4 : tie.Need-returns-4
 unfolding recordWord choose
 returns-4 c = rw (ne-eqb _ _ (c .before .before .before .before .if1 .left), ne-eqb _ _ (c .before .before .before .if2 .left), ne-eqb _ _ (c .before .before .if3 .left), eq-eqb _ _ (c .before .if4 .taken), ← c .post-digit .ensures)
 
-first-box-requires : tie.Need-first-box-requires
-first-box-requires c κs = search needs
+first-box-of-requires : tie.Need-first-box-of-requires
+first-box-of-requires c κs = search needs
 
 returns-5 : tie.Need-returns-5
 unfolding recordWord choose
-returns-5 c = rw (ne-eqb _ _ (c .before .before .before .before .before .if1 .left), ne-eqb _ _ (c .before .before .before .before .if2 .left), ne-eqb _ _ (c .before .before .before .if3 .left), ne-eqb _ _ (c .before .before .if4 .left), eq-eqb _ _ (c .before .if5 .taken), ← c .first-box .ensures)
+returns-5 c = rw (ne-eqb _ _ (c .before .before .before .before .before .if1 .left), ne-eqb _ _ (c .before .before .before .before .if2 .left), ne-eqb _ _ (c .before .before .before .if3 .left), ne-eqb _ _ (c .before .before .if4 .left), eq-eqb _ _ (c .before .if5 .taken), ← c .first-box-of .ensures)
 
 box-count-requires : tie.Need-box-count-requires
 box-count-requires c κs = search needs
@@ -78,7 +78,7 @@ record-word-spec =
     returns-3
     post-digit-requires
     returns-4
-    first-box-requires
+    first-box-of-requires
     returns-5
     box-count-requires
     returns-6

@@ -13,16 +13,16 @@ returns : tie.Need-returns
 unfolding hasPart choose
 returns c = rw (eq-eqb _ _ (c .before .if1 .taken), ← c .has-post .ensures)
 
-sub-side-of : tie.Need-sub-side-of
-sub-side-of c = search needs
+sub-side-digit : tie.Need-sub-side-digit
+sub-side-digit c = search needs
 
-side-of-requires : tie.Need-side-of-requires
-side-of-requires c κs = search needs
+side-digit-requires : tie.Need-side-digit-requires
+side-digit-requires c κs = search needs
 
 returns-2 : tie.Need-returns-2
 unfolding hasPart choose
-returns-2 c = rw (ne-eqb _ _ (c .before .if1 .left), ← c .side-of .ensures)
+returns-2 c = rw (ne-eqb _ _ (c .before .if1 .left), ← c .side-digit .ensures)
 
 pub has-part-spec : {M : Type 1} → statement M
 has-part-spec =
-    tie.close (tie.spec has-post-requires returns sub-side-of side-of-requires returns-2)
+    tie.close (tie.spec has-post-requires returns sub-side-digit side-digit-requires returns-2)

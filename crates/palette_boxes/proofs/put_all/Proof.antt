@@ -3,9 +3,9 @@ use mathlib.Core.Path.{_≡_, refl}
 use Prim.Native.Nat.{_-_, _*_, _≤_}
 use native.Mathlib.Omega.{arith}
 use lib.ListN.{length}
-use Rattle.base.specs.Loop.{stored}
-use Rattle.palette_boxes.specs.Shapes.{joined, boxesOf, paletteShapes}
-use Rattle.palette_boxes.proofs.Joins.{joined-turn, joined-end}
+use Rattle.base.specs.Loop.{stored, appended}
+use Rattle.palette_boxes.specs.Shapes.{boxesOfState, paletteShapes}
+use Rattle.base.proofs.Appended.{appended-turn, appended-end}
 use Rattle.base.proofs.Stored.{stored-length}
 use Rattle.palette_boxes.proofs.Boxes.{boxes-short}
 use borrow.Author.Needs.{needs}
@@ -13,7 +13,7 @@ use Rattle.palette_boxes.proofs.put_all.Statement.{statement}
 use Rattle.palette_boxes.proofs.put_all.Tie as tie
 
 abbrev Inv-loop : tie.InvT-loop
-Inv-loop out₀ at₀ state₀ out at state = (state ≤ 212) × (at ≤ state * 30) × (length out ≡ length out₀) × (stored out at (joined boxesOf (212 - state) state) ≡ stored out₀ 0 paletteShapes)
+Inv-loop out₀ at₀ state₀ out at state = (state ≤ 212) × (at ≤ state * 30) × (length out ≡ length out₀) × (stored out at (appended boxesOfState (212 - state) state) ≡ stored out₀ 0 paletteShapes)
 
 abbrev μ-loop : tie.MeasureT-loop
 μ-loop out₀ at₀ state₀ out at state = 212 - state
@@ -32,13 +32,13 @@ loop-less : tie.Need-loop-less Inv-loop μ-loop
 loop-less c = search needs
 
 loop-again : tie.Need-loop-again Inv-loop μ-loop
-loop-again c = (search needs, omega (arith, c .before .before .put-boxes .ensures .0, boxes-short (c .before .before .before .before .before .loop .state)), rw (c .before .before .put-boxes .ensures .1, stored-length) (c .before .before .before .before .before .loop .inv .2), joined-turn boxesOf 212 (c .before .before .before .before .before .loop .state) (c .before .before .before .before .before .loop .out) _ (c .before .before .before .before .before .loop .at) _ (c .before .before .put-boxes .result) (c .before .before .put-boxes .ensures .1) (c .before .before .put-boxes .ensures .0) (c .before .before .before .before .loop-test .taken) (c .before .before .before .before .before .loop .inv .3))
+loop-again c = (search needs, omega (arith, c .before .before .put-boxes .ensures .0, boxes-short (c .before .before .before .before .before .loop .state)), rw (c .before .before .put-boxes .ensures .1, stored-length) (c .before .before .before .before .before .loop .inv .2), appended-turn boxesOfState 212 (c .before .before .before .before .before .loop .state) (c .before .before .before .before .before .loop .out) _ (c .before .before .before .before .before .loop .at) _ (c .before .before .put-boxes .result) (c .before .before .put-boxes .ensures .1) (c .before .before .put-boxes .ensures .0) (c .before .before .before .before .loop-test .taken) (c .before .before .before .before .before .loop .inv .3))
 
 same-length : tie.Need-same-length Inv-loop μ-loop
 same-length c = c .before .loop .inv .2
 
 returns : tie.Need-returns Inv-loop μ-loop
-returns c = joined-end boxesOf 212 (c .before .loop .state) (c .before .loop .out) _ (c .before .loop .at) (c .loop-test .left) (c .before .loop .inv .3)
+returns c = appended-end boxesOfState 212 (c .before .loop .state) (c .before .loop .out) _ (c .before .loop .at) (c .loop-test .left) (c .before .loop .inv .3)
 
 pub put-all-spec : {M : Type 1} → statement M
 put-all-spec =

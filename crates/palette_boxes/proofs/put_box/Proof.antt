@@ -17,11 +17,11 @@ Inv-loop out₀ at kind part b first c₀ out c = (c ≤ 6) × (length out ≡ l
 abbrev μ-loop : tie.MeasureT-loop
 μ-loop out₀ at kind part b first c₀ out c = 6 - c
 
-box-of-requires : tie.Need-box-of-requires Inv-loop μ-loop
-box-of-requires c κs = search needs
+box-of-part-requires : tie.Need-box-of-part-requires Inv-loop μ-loop
+box-of-part-requires c κs = search needs
 
 loop-holds : tie.Need-loop-holds Inv-loop μ-loop
-loop-holds c = (search needs, refl, ap (λ (k : ℕ). stored (c .before .before .args .out .now) k (map sixteenths (c .box-of .result))) (add-zero (c .before .before .args .at)))
+loop-holds c = (search needs, refl, ap (λ (k : ℕ). stored (c .before .before .args .out .now) k (map sixteenths (c .box-of-part .result))) (add-zero (c .before .before .args .at)))
 
 add-put : tie.Need-add-put Inv-loop μ-loop
 add-put c = search needs
@@ -42,13 +42,13 @@ loop-less : tie.Need-loop-less Inv-loop μ-loop
 loop-less c = search needs
 
 loop-again : tie.Need-loop-again Inv-loop μ-loop
-loop-again c = (search needs, rw (c .before .before .put .ensures, length-set) (c .before .before .before .before .before .before .loop .inv .1), box-turn (c .before .before .before .before .before .before .before .box-of .result) (c .before .before .before .before .before .before .before .before .before .args .at) (c .before .before .before .before .before .before .loop .c) (c .before .before .before .before .before .before .loop .out) _ (ap length (c .before .before .before .before .before .before .before .box-of .ensures) ∙ box-six _ _) _ (c .before .before .before .in-blocks .result) (c .before .before .before .before .before .loop-test .taken) (c .before .before .before .in-blocks .ensures) (c .before .before .put .ensures) (c .before .before .before .before .before .before .loop .inv .2))
+loop-again c = (search needs, rw (c .before .before .put .ensures, length-set) (c .before .before .before .before .before .before .loop .inv .1), box-turn (c .before .before .before .before .before .before .before .box-of-part .result) (c .before .before .before .before .before .before .before .before .before .args .at) (c .before .before .before .before .before .before .loop .c) (c .before .before .before .before .before .before .loop .out) _ (ap length (c .before .before .before .before .before .before .before .box-of-part .ensures) ∙ box-six _ _) _ (c .before .before .before .in-blocks .result) (c .before .before .before .before .before .loop-test .taken) (c .before .before .before .in-blocks .ensures) (c .before .before .put .ensures) (c .before .before .before .before .before .before .loop .inv .2))
 
 same-length : tie.Need-same-length Inv-loop μ-loop
 same-length c = c .before .loop .inv .1
 
 returns : tie.Need-returns Inv-loop μ-loop
-returns c = box-end (c .before .before .box-of .result) (c .before .before .before .before .args .at) (c .before .loop .c) (c .before .loop .out) _ (ap length (c .before .before .box-of .ensures) ∙ box-six _ _) (c .loop-test .left) (c .before .loop .inv .2) ∙ ap (λ b. stored (c .before .before .before .before .args .out .now) (c .before .before .before .before .args .at) (map sixteenths b)) (c .before .before .box-of .ensures)
+returns c = box-end (c .before .before .box-of-part .result) (c .before .before .before .before .args .at) (c .before .loop .c) (c .before .loop .out) _ (ap length (c .before .before .box-of-part .ensures) ∙ box-six _ _) (c .loop-test .left) (c .before .loop .inv .2) ∙ ap (λ b. stored (c .before .before .before .before .args .out .now) (c .before .before .before .before .args .at) (map sixteenths b)) (c .before .before .box-of-part .ensures)
 
 pub put-box-spec : {M : Type 1} → statement M
 put-box-spec =
@@ -56,7 +56,7 @@ put-box-spec =
     (tie.spec
     Inv-loop
     μ-loop
-    box-of-requires
+    box-of-part-requires
     loop-holds
     add-put
     array-read-in-blocks

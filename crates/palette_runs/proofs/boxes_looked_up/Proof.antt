@@ -19,8 +19,8 @@ loop-holds c = search needs
 mul-loop : tie.Need-mul-loop Inv-loop μ-loop
 mul-loop c = search needs
 
-box-at-requires : tie.Need-box-at-requires Inv-loop μ-loop
-box-at-requires c κs = search needs
+palette-box-requires : tie.Need-palette-box-requires Inv-loop μ-loop
+palette-box-requires c κs = search needs
 
 with-box-requires : tie.Need-with-box-requires Inv-loop μ-loop
 with-box-requires c κs = search needs
@@ -46,7 +46,7 @@ boxes-looked-up-spec =
     none-requires
     loop-holds
     mul-loop
-    box-at-requires
+    palette-box-requires
     with-box-requires
     add-i
     loop-less

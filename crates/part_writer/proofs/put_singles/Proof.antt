@@ -4,9 +4,9 @@ use Prim.Native.Nat.{_+_, _-_, _*_, _≤_}
 use native.Mathlib.Nat.{mul-le-mul}
 use native.Mathlib.Omega.{arith}
 use lib.ListN.{length}
-use Rattle.base.specs.Loop.{stored}
+use Rattle.base.specs.Loop.{appended, stored}
 use Rattle.blocks.proofs.Parts.{per-found}
-use Rattle.part_writer.specs.Bytes.{joined, partBlock, bitsIn}
+use Rattle.part_writer.specs.Bytes.{partBlock, bitsIn}
 use Rattle.part_writer.proofs.Singles.{single-block}
 use Rattle.part_writer.proofs.Parts.{roomy, turn-size, turn-stored, all-written, none-written}
 use borrow.Author.Needs.{needs}
@@ -15,7 +15,7 @@ use Rattle.part_writer.proofs.put_singles.Tie as tie
 
 abbrev Inv-loop : tie.InvT-loop
 Inv-loop out₀ p numbers n per j₀ out j =
-    (j ≤ n) × (length out ≡ length out₀) × (out ≡ stored out₀ (p .first * 512) (joined (partBlock p (bitsIn numbers)) j))
+    (j ≤ n) × (length out ≡ length out₀) × (out ≡ stored out₀ (p .first * 512) (appended (partBlock p (bitsIn numbers)) j 0))
 
 abbrev μ-loop : tie.MeasureT-loop
 μ-loop out₀ p numbers n per j₀ out j = n - j
@@ -30,7 +30,7 @@ per-block-requires : tie.Need-per-block-requires Inv-loop μ-loop
 per-block-requires c κs = search needs
 
 loop-holds : tie.Need-loop-holds Inv-loop μ-loop
-unfolding stored joined
+unfolding stored appended
 loop-holds c = (search needs, refl, refl)
 
 cast-bits-from : tie.Need-cast-bits-from Inv-loop μ-loop

@@ -1,5 +1,5 @@
 -- `passing::is_all_marked` meets its contract. Assumes nothing.
-use Rattle.passing.specs.Passing.{marked, allMarked}
+use Rattle.passing.specs.Passing.{rowMarked, allMarked}
 use native.Mathlib.Omega.{arith}
 use Rattle.base.proofs.Every.{every-from, every-not}
 use borrow.Author.Needs.{needs}
@@ -11,7 +11,7 @@ use Rattle.passing.proofs.is_all_marked.Statement.{statement}
 use Rattle.passing.proofs.is_all_marked.Tie as tie
 
 abbrev Inv-loop : tie.InvT-loop
-Inv-loop words k y deep across j₀ j = (j ≤ deep) × ((i : ℕ) → i < j → marked words (k .before + k .x + (y / 4 * k .layer + k .z + i) * k .row) across ≡ true)
+Inv-loop words k y deep across j₀ j = (j ≤ deep) × ((i : ℕ) → i < j → rowMarked words (k .before + k .x + (y / 4 * k .layer + k .z + i) * k .row) across ≡ true)
 
 abbrev μ-loop : tie.MeasureT-loop
 μ-loop words k y deep across j₀ j = deep - j

@@ -1,5 +1,5 @@
 -- `passing::is_marked` meets its contract. Assumes nothing.
-use Rattle.passing.specs.Passing.{marked}
+use Rattle.passing.specs.Passing.{rowMarked}
 use lib.ListN.{getD}
 use lib.Dec.{eqb}
 use native.Mathlib.Omega.{arith}
@@ -37,11 +37,11 @@ loop-again : tie.Need-loop-again Inv-loop μ-loop
 loop-again c = (search needs, below-more _ _ (c .before .before .before .loop .inv .1) (sym (c .before .is-clear .ensures) ∙ c .if1 .taken))
 
 returns : tie.Need-returns Inv-loop μ-loop
-unfolding marked
+unfolding rowMarked
 returns c = sym (every-not _ _ (c .before .before .before .loop .i) (omega arith) (sym (c .before .is-clear .ensures) ∙ c .if1 .left))
 
 returns-2 : tie.Need-returns-2 Inv-loop μ-loop
-unfolding marked
+unfolding rowMarked
 returns-2 c = sym (every-from _ _ (λ j h. c .before .loop .inv .1 j (omega arith)))
 
 pub is-marked-spec : {M : Type 1} → statement M

@@ -9,8 +9,8 @@ numbers-in-requires c κs = search needs
 words-in-requires : tie.Need-words-in-requires
 words-in-requires c κs = search needs
 
-age-in-requires : tie.Need-age-in-requires
-age-in-requires c κs = search needs
+body-age-requires : tie.Need-body-age-requires
+body-age-requires c κs = search needs
 
 slice-aggregate-write-scene : tie.Need-slice-aggregate-write-scene
 slice-aggregate-write-scene c = search needs
@@ -30,7 +30,7 @@ returns c =
     let at-age = at-write .before .before .before .before in
     let at-words = at-age .before in
     let at-numbers = at-words .before in
-    rw (at-numbers .numbers-in .ensures, at-words .words-in .ensures, at-age .age-in .ensures) at (at-write .write-scene .ensures)
+    rw (at-numbers .numbers-in .ensures, at-words .words-in .ensures, at-age .body-age .ensures) at (at-write .write-scene .ensures)
 
 pub write-among-spec : {M : Type 1} → statement M
 write-among-spec =
@@ -38,7 +38,7 @@ write-among-spec =
     (tie.spec
     numbers-in-requires
     words-in-requires
-    age-in-requires
+    body-age-requires
     slice-aggregate-write-scene
     slice-aggregate-write-scene-2
     write-scene-requires

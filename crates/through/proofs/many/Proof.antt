@@ -15,8 +15,8 @@ returns c = search needs
 slice-aggregate-collect-into : tie.Need-slice-aggregate-collect-into
 slice-aggregate-collect-into c = search needs
 
-within-requires : tie.Need-within-requires
-within-requires c κs = search needs
+cap-within-requires : tie.Need-cap-within-requires
+cap-within-requires c κs = search needs
 
 collect-into-requires : tie.Need-collect-into-requires
 collect-into-requires c κs = search needs
@@ -28,7 +28,7 @@ moved-over-requires : tie.Need-moved-over-requires
 moved-over-requires c κs = search needs
 
 returns-2 : tie.Need-returns-2
-returns-2 c = let k = c .before .before .before .before .before .collect-into .ensures .1 in let n = c .before .before .before .before .before .before .within .ensures in moved-over _ _ _ _ _ _ _ _ _ _ (omega arith) _ (c .before .before .before .before .before .collect-into .ensures .0) (c .before .before .if2 .taken) _ (c .before .before .before .before .before .collect-into .last .0) refl _ (c .moved-over .ensures) (omega arith)
+returns-2 c = let k = c .before .before .before .before .before .collect-into .ensures .1 in let n = c .before .before .before .before .before .before .cap-within .ensures in moved-over _ _ _ _ _ _ _ _ _ _ (omega arith) _ (c .before .before .before .before .before .collect-into .ensures .0) (c .before .before .if2 .taken) _ (c .before .before .before .before .before .collect-into .last .0) refl _ (c .moved-over .ensures) (omega arith)
 
 crowded-requires-2 : tie.Need-crowded-requires-2
 crowded-requires-2 c κs = search needs
@@ -37,7 +37,7 @@ returns-3 : tie.Need-returns-3
 returns-3 c = search needs
 
 returns-4 : tie.Need-returns-4
-returns-4 c = let n = c .before .before .before .before .before .before .within .ensures in told-refused _ _ _ _ _ _ _ _ _ _ (omega arith) _ (c .before .before .before .before .before .collect-into .ensures .0) (c .before .before .if2 .left) (c .if3 .left)
+returns-4 c = let n = c .before .before .before .before .before .before .cap-within .ensures in told-refused _ _ _ _ _ _ _ _ _ _ (omega arith) _ (c .before .before .before .before .before .collect-into .ensures .0) (c .before .before .if2 .left) (c .if3 .left)
 
 pub many-spec : {M : Type 1} → statement M
 many-spec =
@@ -46,7 +46,7 @@ many-spec =
     crowded-requires
     returns
     slice-aggregate-collect-into
-    within-requires
+    cap-within-requires
     collect-into-requires
     slice-aggregate-moved-over
     moved-over-requires

@@ -9,7 +9,7 @@ use lib.ListN.{take, drop}
 use Rattle.boxes.specs.declared.Aabb.{Aabb}
 use Rattle.sweeps.specs.Lists.{capOf}
 use Rattle.through.specs.declared.Few.{Few}
-use Rattle.through.specs.Few.{few, within}
+use Rattle.through.specs.Few.{few, capWithin}
 use Rattle.sweeps.specs.Move.{clipAll}
 use Rattle.sweeps.specs.Passes.{clipAlong, passesFrom, sweepOf}
 use Rattle.sweeps.proofs.Turns.{clip-turn, made, pass-on, pass-over, passes-end}
@@ -66,8 +66,8 @@ Inv-loop5 cap records shapes cells q most list s₀ pass₀ s pass =
 abbrev μ-loop5 : tie.MeasureT-loop5
 μ-loop5 cap records shapes cells q most list s₀ pass₀ s pass = 7 - pass
 
-within-requires : tie.Need-within-requires Inv-loop4 μ-loop4 Inv-loop3 μ-loop3 Inv-loop2 μ-loop2 Inv-loop μ-loop Inv-loop6 μ-loop6 Inv-loop5 μ-loop5
-within-requires c κs = search needs
+cap-within-requires : tie.Need-cap-within-requires Inv-loop4 μ-loop4 Inv-loop3 μ-loop3 Inv-loop2 μ-loop2 Inv-loop μ-loop Inv-loop6 μ-loop6 Inv-loop5 μ-loop5
+cap-within-requires c κs = search needs
 
 reach-in-requires :
     tie.Need-reach-in-requires Inv-loop4 μ-loop4 Inv-loop3 μ-loop3 Inv-loop2 μ-loop2 Inv-loop μ-loop Inv-loop6 μ-loop6 Inv-loop5 μ-loop5
@@ -145,14 +145,14 @@ returns-2 : tie.Need-returns-2 Inv-loop4 μ-loop4 Inv-loop3 μ-loop3 Inv-loop2 �
 returns-2 c = c .many .ensures
 
 mul-b : tie.Need-mul-b Inv-loop4 μ-loop4 Inv-loop3 μ-loop3 Inv-loop2 μ-loop2 Inv-loop μ-loop Inv-loop6 μ-loop6 Inv-loop5 μ-loop5
-mul-b c = let i = c .before .before .before .before .before .loop4 .inv .0 .whole in let m = c .before .before .before .before .before .before .before .before .before .before .before .before .before .before .before .before .before .before .before .before .before .before .within .ensures in omega arith
+mul-b c = let i = c .before .before .before .before .before .loop4 .inv .0 .whole in let m = c .before .before .before .before .before .before .before .before .before .before .before .before .before .before .before .before .before .before .before .before .before .before .cap-within .ensures in omega arith
 
 element-set-from-b :
     tie.Need-element-set-from-b Inv-loop4 μ-loop4 Inv-loop3 μ-loop3 Inv-loop2 μ-loop2 Inv-loop μ-loop Inv-loop6 μ-loop6 Inv-loop5 μ-loop5
-element-set-from-b c = let i = c .before .before .before .before .before .loop4 .inv .0 .whole in let m = c .before .before .before .before .before .before .before .before .before .before .before .before .before .before .before .before .before .before .before .before .before .before .within .ensures in omega arith
+element-set-from-b c = let i = c .before .before .before .before .before .loop4 .inv .0 .whole in let m = c .before .before .before .before .before .before .before .before .before .before .before .before .before .before .before .before .before .before .before .before .before .before .cap-within .ensures in omega arith
 
 add-list : tie.Need-add-list Inv-loop4 μ-loop4 Inv-loop3 μ-loop3 Inv-loop2 μ-loop2 Inv-loop μ-loop Inv-loop6 μ-loop6 Inv-loop5 μ-loop5
-add-list c = let i = c .before .before .before .before .before .loop4 .inv .0 .whole in let m = c .before .before .before .before .before .before .before .before .before .before .before .before .before .before .before .before .before .before .before .before .before .before .within .ensures in omega arith
+add-list c = let i = c .before .before .before .before .before .loop4 .inv .0 .whole in let m = c .before .before .before .before .before .before .before .before .before .before .before .before .before .before .before .before .before .before .before .before .before .before .cap-within .ensures in omega arith
 
 add-k : tie.Need-add-k Inv-loop4 μ-loop4 Inv-loop3 μ-loop3 Inv-loop2 μ-loop2 Inv-loop μ-loop Inv-loop6 μ-loop6 Inv-loop5 μ-loop5
 add-k c = omega arith
@@ -168,7 +168,7 @@ loop4-again c =
     let o = sym (c .before .intersects .ensures) in
     let boxes-in : Few → List Aabb = λ x. x .boxes in
     let count-in : Few → ℕ = λ x. x .count in
-    let m = ⊎-elim (λ w. let b : l .count < within few cap = rw (c .before .before .before .before .before .before .before .before .before .before .before .before .before .before .before .before .before .before .before .before .before .within .ensures) at (w .1 .left) in kept few (capOf cap) _ _ (l .boxes) (c .if1 .list .boxes) (l .count) (c .if1 .list .count) (i .0) (ap boxes-in (w .2)) (ap count-in (w .2)) (omega arith) (omega arith) (o ∙ w .0 .taken)) (λ w. passed few (capOf cap) _ _ (l .boxes) (c .if1 .list .boxes) (l .count) (c .if1 .list .count) (i .0) (ap boxes-in (w .1)) (ap count-in (w .1)) (o ∙ w .0 .left)) (c .if1 .came) in
+    let m = ⊎-elim (λ w. let b : l .count < capWithin few cap = rw (c .before .before .before .before .before .before .before .before .before .before .before .before .before .before .before .before .before .before .before .before .before .cap-within .ensures) at (w .1 .left) in kept few (capOf cap) _ _ (l .boxes) (c .if1 .list .boxes) (l .count) (c .if1 .list .count) (i .0) (ap boxes-in (w .2)) (ap count-in (w .2)) (omega arith) (omega arith) (o ∙ w .0 .taken)) (λ w. passed few (capOf cap) _ _ (l .boxes) (c .if1 .list .boxes) (l .count) (c .if1 .list .count) (i .0) (ap boxes-in (w .1)) (ap count-in (w .1)) (o ∙ w .0 .left)) (c .if1 .came) in
     (m .0, sym (box-next (push _) _ _ _ _ _ _ _ (c .before .before .before .loop4-test .taken) (c .before .before .quick-aabb .ensures) _ (m .1)) ∙ i .1)
 
 add-z : tie.Need-add-z Inv-loop4 μ-loop4 Inv-loop3 μ-loop3 Inv-loop2 μ-loop2 Inv-loop μ-loop Inv-loop6 μ-loop6 Inv-loop5 μ-loop5
@@ -243,16 +243,16 @@ loop6-again c =
 gone-requires : tie.Need-gone-requires Inv-loop4 μ-loop4 Inv-loop3 μ-loop3 Inv-loop2 μ-loop2 Inv-loop μ-loop Inv-loop6 μ-loop6 Inv-loop5 μ-loop5
 gone-requires c κs = search needs
 
-next-requires : tie.Need-next-requires Inv-loop4 μ-loop4 Inv-loop3 μ-loop3 Inv-loop2 μ-loop2 Inv-loop μ-loop Inv-loop6 μ-loop6 Inv-loop5 μ-loop5
-next-requires c κs = search needs
+next-sweep-requires : tie.Need-next-sweep-requires Inv-loop4 μ-loop4 Inv-loop3 μ-loop3 Inv-loop2 μ-loop2 Inv-loop μ-loop Inv-loop6 μ-loop6 Inv-loop5 μ-loop5
+next-sweep-requires c κs = search needs
 
 ended-requires : tie.Need-ended-requires Inv-loop4 μ-loop4 Inv-loop3 μ-loop3 Inv-loop2 μ-loop2 Inv-loop μ-loop Inv-loop6 μ-loop6 Inv-loop5 μ-loop5
 ended-requires c κs = search needs
 
 returns-3 : tie.Need-returns-3 Inv-loop4 μ-loop4 Inv-loop3 μ-loop3 Inv-loop2 μ-loop2 Inv-loop μ-loop Inv-loop6 μ-loop6 Inv-loop5 μ-loop5
 returns-3 c =
-    let at-next = c .before .before in
-    let at-gone = at-next .before in
+    let at-next-sweep = c .before .before in
+    let at-gone = at-next-sweep .before in
     let at-loop6-test = at-gone .before in
     let at-loop6 = at-loop6-test .before in
     let at-wanted = at-loop6 .before in
@@ -261,7 +261,7 @@ returns-3 c =
     let at-loop5 = at-loop5-test .before in
     let at-loop-test = at-loop5 .before .before in
     let at-loop = at-loop-test .before in
-    moved _ _ _ _ _ _ _ _ _ _ (sym (layers-end (push _) _ _ _ _ _ _ _ _ (at-loop-test .loop-test .left)) ∙ at-loop .loop .inv .2) _ (pass-over _ _ (at-loop5 .loop5 .pass) (at-loop5 .loop5 .s) (at-next .next .result) _ (made (at-loop .loop .list .boxes) (at-loop .loop .list .count) few (at-loop .loop .inv .0 .whole) _ _ (fully few _ _ (at-loop .loop .inv .0)) _ (at-loop5 .loop5 .pass) (at-loop5 .loop5 .s) _ _ _ _ (at-loop6 .loop6 .d) (at-axis-of .axis-of .ensures) (at-wanted .wanted .ensures) (at-loop6-test .loop6-test .left) (at-loop6 .loop6 .inv) (at-gone .gone .ensures) (at-next .next .ensures)) (at-loop5-test .loop5-test .taken) (c .before .if3 .taken) (at-loop5 .loop5 .inv)) _ (c .ended .ensures)
+    moved _ _ _ _ _ _ _ _ _ _ (sym (layers-end (push _) _ _ _ _ _ _ _ _ (at-loop-test .loop-test .left)) ∙ at-loop .loop .inv .2) _ (pass-over _ _ (at-loop5 .loop5 .pass) (at-loop5 .loop5 .s) (at-next-sweep .next-sweep .result) _ (made (at-loop .loop .list .boxes) (at-loop .loop .list .count) few (at-loop .loop .inv .0 .whole) _ _ (fully few _ _ (at-loop .loop .inv .0)) _ (at-loop5 .loop5 .pass) (at-loop5 .loop5 .s) _ _ _ _ (at-loop6 .loop6 .d) (at-axis-of .axis-of .ensures) (at-wanted .wanted .ensures) (at-loop6-test .loop6-test .left) (at-loop6 .loop6 .inv) (at-gone .gone .ensures) (at-next-sweep .next-sweep .ensures)) (at-loop5-test .loop5-test .taken) (c .before .if3 .taken) (at-loop5 .loop5 .inv)) _ (c .ended .ensures)
 
 add-pass : tie.Need-add-pass Inv-loop4 μ-loop4 Inv-loop3 μ-loop3 Inv-loop2 μ-loop2 Inv-loop μ-loop Inv-loop6 μ-loop6 Inv-loop5 μ-loop5
 add-pass c = omega arith
@@ -279,7 +279,7 @@ loop5-again c =
     let at-loop5-test = at-axis-of .before in
     let at-loop5 = at-loop5-test .before in
     let at-loop = at-loop5 .before .before .before in
-    pass-on _ _ (at-loop5 .loop5 .pass) (at-loop5 .loop5 .s) (c .before .next .result) _ (made (at-loop .loop .list .boxes) (at-loop .loop .list .count) few (at-loop .loop .inv .0 .whole) _ _ (fully few _ _ (at-loop .loop .inv .0)) _ (at-loop5 .loop5 .pass) (at-loop5 .loop5 .s) _ _ _ _ (at-loop6 .loop6 .d) (at-axis-of .axis-of .ensures) (at-wanted .wanted .ensures) (at-loop6-test .loop6-test .left) (at-loop6 .loop6 .inv) (at-gone .gone .ensures) (c .before .next .ensures)) (at-loop5-test .loop5-test .taken) (c .if3 .left) (at-loop5 .loop5 .inv)
+    pass-on _ _ (at-loop5 .loop5 .pass) (at-loop5 .loop5 .s) (c .before .next-sweep .result) _ (made (at-loop .loop .list .boxes) (at-loop .loop .list .count) few (at-loop .loop .inv .0 .whole) _ _ (fully few _ _ (at-loop .loop .inv .0)) _ (at-loop5 .loop5 .pass) (at-loop5 .loop5 .s) _ _ _ _ (at-loop6 .loop6 .d) (at-axis-of .axis-of .ensures) (at-wanted .wanted .ensures) (at-loop6-test .loop6-test .left) (at-loop6 .loop6 .inv) (at-gone .gone .ensures) (c .before .next-sweep .ensures)) (at-loop5-test .loop5-test .taken) (c .if3 .left) (at-loop5 .loop5 .inv)
 
 ended-requires-2 :
     tie.Need-ended-requires-2 Inv-loop4 μ-loop4 Inv-loop3 μ-loop3 Inv-loop2 μ-loop2 Inv-loop μ-loop Inv-loop6 μ-loop6 Inv-loop5 μ-loop5
@@ -308,7 +308,7 @@ swept-through-spec =
     μ-loop6
     Inv-loop5
     μ-loop5
-    within-requires
+    cap-within-requires
     reach-in-requires
     new-requires
     loop-holds
@@ -354,7 +354,7 @@ swept-through-spec =
     loop6-less
     loop6-again
     gone-requires
-    next-requires
+    next-sweep-requires
     ended-requires
     returns-3
     add-pass

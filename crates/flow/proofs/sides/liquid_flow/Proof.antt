@@ -3,7 +3,8 @@ use mathlib.Core.Path.{sym, ap, _∙_}
 use Prim.Native.Nat.{_-_, _<_}
 use native.Mathlib.Omega.{arith}
 use Rattle.window.specs.Look.{lookAt}
-use Rattle.flow.specs.Answers.{gapAsked, boolAsked}
+use Rattle.base.specs.Answers.{boolAsked}
+use Rattle.flow.specs.Answers.{gapAsked}
 use Rattle.flow.proofs.FourSides.{Sides, sides-start, sides-end, sides-next, no-difference, no-wall}
 use borrow.Author.Needs.{needs}
 use Rattle.flow.proofs.sides.liquid_flow.Statement.{statement}

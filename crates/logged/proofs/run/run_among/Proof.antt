@@ -2,7 +2,7 @@
 use mathlib.Core.Path.{ap, _∙_}
 use Rattle.base.specs.Loop.{stored}
 use Rattle.logs.specs.Logs.{eventsBy}
-use Rattle.minute_state.specs.Minute.{State, numbersOf}
+use Rattle.minute_state.specs.Minute.{State, linesAsNumbers}
 use Rattle.minute_state.specs.Turns.{minuteOf}
 use Rattle.logged.proofs.Scenes.{among}
 use borrow.Author.Needs.{needs}
@@ -42,8 +42,8 @@ slice-aggregate-motion-from-2 c = search needs
 motion-from-requires : tie.Need-motion-from-requires
 motion-from-requires c κs = search needs
 
-age-in-requires : tie.Need-age-in-requires
-age-in-requires c κs = search needs
+body-age-requires : tie.Need-body-age-requires
+body-age-requires c κs = search needs
 
 run-requires : tie.Need-run-requires
 run-requires c κs = search needs
@@ -57,16 +57,16 @@ same-length-2 c = search needs
 returns : tie.Need-returns
 returns c =
     let at-run = c .before .before .before .before in
-    let at-age-in = at-run .before .before .before in
-    let at-motion-from = at-age-in .before in
+    let at-body-age = at-run .before .before .before in
+    let at-motion-from = at-body-age .before in
     let at-body-from = at-motion-from .before .before .before in
     let at-rules-from = at-body-from .before .before .before in
     let at-words-in = at-rules-from .before .before .before in
     let at-numbers-in = at-words-in .before in
     let start = at-numbers-in .before .before .before .before .before .before .before in
     let a = start .args in
-    let same = among (a .records .now) (a .shapes .now) (a .words .now) (a .w) (eventsBy (a .file .now) (a .log)) _ _ _ _ _ _ _ _ _ (at-rules-from .rules-from .ensures) (at-body-from .body-from .ensures) (at-motion-from .motion-from .ensures) (at-age-in .age-in .ensures) (at-numbers-in .numbers-in .ensures) (at-words-in .words-in .ensures) in
-    (at-run .run .ensures .0 ∙ ap minuteOf same, at-run .run .ensures .1 .1 ∙ ap (λ (k : State). stored (a .feet .now) 0 (numbersOf (k .lines))) same)
+    let same = among (a .records .now) (a .shapes .now) (a .words .now) (a .w) (eventsBy (a .file .now) (a .log)) _ _ _ _ _ _ _ _ _ (at-rules-from .rules-from .ensures) (at-body-from .body-from .ensures) (at-motion-from .motion-from .ensures) (at-body-age .body-age .ensures) (at-numbers-in .numbers-in .ensures) (at-words-in .words-in .ensures) in
+    (at-run .run .ensures .0 ∙ ap minuteOf same, at-run .run .ensures .1 .1 ∙ ap (λ (k : State). stored (a .feet .now) 0 (linesAsNumbers (k .lines))) same)
 
 pub run-among-spec : {M : Type 1} → statement M
 run-among-spec =
@@ -83,7 +83,7 @@ run-among-spec =
     slice-aggregate-motion-from
     slice-aggregate-motion-from-2
     motion-from-requires
-    age-in-requires
+    body-age-requires
     run-requires
     same-length
     same-length-2

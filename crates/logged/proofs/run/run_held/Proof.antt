@@ -5,7 +5,7 @@ use lib.ListN.{length-take}
 use Rattle.base.specs.Loop.{stored}
 use Rattle.files.specs.Contents.{Contents}
 use Rattle.logs.specs.Logs.{eventsBy}
-use Rattle.minute_state.specs.Minute.{numbersOf}
+use Rattle.minute_state.specs.Minute.{linesAsNumbers}
 use Rattle.minute_state.specs.Turns.{minuteOf}
 use Rattle.logged.specs.Held.{heldMinute}
 use Rattle.logged.proofs.Scenes.{handed-on}
@@ -73,7 +73,7 @@ returns c =
     let a = start .args in
     let same = handed-on (a .scene .now) (a .n) (a .records .now) (a .singles .now) (a .words .now) (at-held .held .result) (at-held2 .held2 .result) (at-held3 .held3 .result) (at-summed-words .summed-words .result) (at-window-in .window-in .result) (at-held .held .ensures) (at-held2 .held2 .ensures) (at-held3 .held3 .ensures) (at-summed-words .summed-words .ensures) (at-window-in .window-in .ensures) in
     (at-run-among .run-among .ensures .0 ∙ ap (λ (k : Contents). minuteOf (heldMinute k (eventsBy (a .file .now) (a .log)))) same,
-     at-run-among .run-among .ensures .1 ∙ ap (λ (k : Contents). stored (a .feet .now) 0 (numbersOf (heldMinute k (eventsBy (a .file .now) (a .log)) .lines))) same)
+     at-run-among .run-among .ensures .1 ∙ ap (λ (k : Contents). stored (a .feet .now) 0 (linesAsNumbers (heldMinute k (eventsBy (a .file .now) (a .log)) .lines))) same)
 
 pub run-held-spec : {M : Type 1} → statement M
 run-held-spec =

@@ -7,7 +7,7 @@ use lib.ListN.{length-replicate}
 use Rattle.base.specs.Loop.{stored}
 use Rattle.boxes.specs.declared.Vec3.{Vec3}
 use Rattle.logs.specs.Logs.{eventsBy}
-use Rattle.minute_state.specs.Minute.{numbersOf}
+use Rattle.minute_state.specs.Minute.{linesAsNumbers}
 use Rattle.logged.proofs.Scenes.{held-by}
 use borrow.Author.Needs.{needs}
 use Rattle.logged.proofs.run.run_in.Statement.{statement}
@@ -50,7 +50,7 @@ returns c =
     let same = held-by (a .scene .now) (a .n) (eventsBy (a .file .now) (a .log)) (at-put-apart .put-apart .last .0) (at-put-apart .put-apart .last .1 .0) (at-put-apart .put-apart .last .1 .1 .0) _ _ _ (length-replicate {0} {A = ℕ} 15744 0) (length-replicate {0} {A = Float} 15744 (ofBits binary32 0)) (length-replicate {0} {A = ℕ} 19840 0)
         (search needs) (search needs) (search needs) (put .0) (put .1 .0) (put .1 .1) in
     (λ s e. at-run-held .run-held .ensures .0 ∙ same s e .is,
-     λ s e. at-run-held .run-held .ensures .1 ∙ ap (λ (l : List Vec3). stored (a .feet .now) 0 (numbersOf l)) (same s e .lines))
+     λ s e. at-run-held .run-held .ensures .1 ∙ ap (λ (l : List Vec3). stored (a .feet .now) 0 (linesAsNumbers l)) (same s e .lines))
 
 pub run-in-spec : {M : Type 1} → statement M
 run-in-spec =

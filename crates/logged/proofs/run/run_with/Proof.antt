@@ -4,7 +4,7 @@ use Rattle.base.specs.Loop.{stored}
 use Rattle.files.specs.Files.{countsAsked}
 use Rattle.files.proofs.Scenes.{scene}
 use Rattle.logs.specs.Logs.{eventsBy}
-use Rattle.minute_state.specs.Minute.{State, numbersOf}
+use Rattle.minute_state.specs.Minute.{State, linesAsNumbers}
 use Rattle.minute_state.specs.Turns.{minuteOf}
 use Rattle.logged.proofs.Files.{no-counts, minute-by}
 use borrow.Author.Needs.{needs}
@@ -52,7 +52,7 @@ returns-2 c =
     let s = scene (at-scene-in .scene-in .result .now) _ (ap countsAsked (sym (at-n .n .given .1)) ∙ at-counts-of .counts-of .ensures) in
     let same = minute-by (a .file .now) (at-scene-in .scene-in .result .now) (at-scene-in .scene-in .ensures) _ (eventsBy (a .file .now) (a .log)) (s .same) in
     (λ t. at-run-in .run-in .ensures .0 (s .test) (s .same) ∙ ap minuteOf same,
-     λ t. at-run-in .run-in .ensures .1 (s .test) (s .same) ∙ ap (λ (k : State). stored (a .feet .now) 0 (numbersOf (k .lines))) same)
+     λ t. at-run-in .run-in .ensures .1 (s .test) (s .same) ∙ ap (λ (k : State). stored (a .feet .now) 0 (linesAsNumbers (k .lines))) same)
 
 pub run-with-spec : {M : Type 1} → statement M
 run-with-spec =

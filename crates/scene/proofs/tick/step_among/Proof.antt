@@ -36,8 +36,8 @@ slice-aggregate-motion-from-2 c = search needs
 motion-from-requires : tie.Need-motion-from-requires
 motion-from-requires c κs = search needs
 
-age-in-requires : tie.Need-age-in-requires
-age-in-requires c κs = search needs
+body-age-requires : tie.Need-body-age-requires
+body-age-requires c κs = search needs
 
 step-window-requires : tie.Need-step-window-requires
 step-window-requires c κs = search needs
@@ -48,7 +48,7 @@ returns c =
     let at-body = at-motion .before .before .before in
     let at-rules = at-body .before .before .before in
     let at-words = at-rules .before .before .before in
-    rw (at-rules .rules-from .ensures, at-body .body-from .ensures, at-motion .motion-from .ensures, c .before .age-in .ensures, at-words .before .numbers-in .ensures, at-words .words-in .ensures) at (c .step-window .ensures)
+    rw (at-rules .rules-from .ensures, at-body .body-from .ensures, at-motion .motion-from .ensures, c .before .body-age .ensures, at-words .before .numbers-in .ensures, at-words .words-in .ensures) at (c .step-window .ensures)
 
 pub step-among-spec : {M : Type 1} → statement M
 step-among-spec =
@@ -65,6 +65,6 @@ step-among-spec =
     slice-aggregate-motion-from
     slice-aggregate-motion-from-2
     motion-from-requires
-    age-in-requires
+    body-age-requires
     step-window-requires
     returns)

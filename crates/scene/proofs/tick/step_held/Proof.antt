@@ -3,7 +3,7 @@ use mathlib.Core.Path.{ap, _∙_}
 use lib.ListN.{length-take}
 use native.Mathlib.Omega.{arith}
 use Rattle.scene_held.proofs.Arrays.{handed-on}
-use Rattle.scene.specs.Scene.{stepOf}
+use Rattle.scene.specs.Scene.{stepOfContents}
 use borrow.Author.Needs.{needs}
 use Rattle.scene.proofs.tick.step_held.Statement.{statement}
 use Rattle.scene.proofs.tick.step_held.Tie as tie
@@ -67,7 +67,7 @@ returns c =
     let at-held = at-held2 .before .before in
     let start = c .before .before .before .before .before .before .before .before .before .before .before .before .before in
     c .step-among .ensures
-    ∙ ap stepOf (handed-on (start .args .file .now) (start .args .n) (start .args .words .now) (start .args .singles .now) (at-held .held .result) (at-held2 .held2 .result) (at-held3 .held3 .result) (at-window .window-in .result) (at-held .held .ensures) (at-held2 .held2 .ensures) (at-held3 .held3 .ensures) (at-window .window-in .ensures))
+    ∙ ap stepOfContents (handed-on (start .args .file .now) (start .args .n) (start .args .words .now) (start .args .singles .now) (at-held .held .result) (at-held2 .held2 .result) (at-held3 .held3 .result) (at-window .window-in .result) (at-held .held .ensures) (at-held2 .held2 .ensures) (at-held3 .held3 .ensures) (at-window .window-in .ensures))
 
 pub step-held-spec : {M : Type 1} → statement M
 step-held-spec =

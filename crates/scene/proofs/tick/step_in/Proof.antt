@@ -4,7 +4,7 @@ use lib.ListN.{length-replicate}
 use Prim.Native.Nat.{ℕ}
 use lib.Ieee.{Float, ofBits, binary32}
 use Rattle.scene_held.proofs.Arrays.{all-held}
-use Rattle.scene.specs.Scene.{stepOf, stepIn}
+use Rattle.scene.specs.Scene.{stepOfContents, stepIn}
 use borrow.Author.Needs.{needs}
 use Rattle.scene.proofs.tick.step_in.Statement.{statement}
 use Rattle.scene.proofs.tick.step_in.Tie as tie
@@ -35,7 +35,7 @@ returns c =
     let all = at-all .put-all .ensures in
     λ few.
     c .step-held .ensures
-    ∙ ap stepOf (all-held (start .args .file .now) (start .args .n) (at-all .put-all .last .0) (at-all .put-all .last .1 .0) _ _ (length-replicate {0} {A = ℕ} 15744 0) (length-replicate {0} {A = Float} 15744 (ofBits binary32 0)) (search needs) (search needs) (all .0) (all .1 .0) (all .1 .1) few)
+    ∙ ap stepOfContents (all-held (start .args .file .now) (start .args .n) (at-all .put-all .last .0) (at-all .put-all .last .1 .0) _ _ (length-replicate {0} {A = ℕ} 15744 0) (length-replicate {0} {A = Float} 15744 (ofBits binary32 0)) (search needs) (search needs) (all .0) (all .1 .0) (all .1 .1) few)
 
 pub step-in-spec : {M : Type 1} → statement M
 step-in-spec =

@@ -19,32 +19,32 @@ held-requires c κs = search needs
 record-part-requires : tie.Need-record-part-requires
 record-part-requires c κs = search needs
 
-put-words-requires : tie.Need-put-words-requires
-put-words-requires c κs = search needs
+take-words-requires : tie.Need-take-words-requires
+take-words-requires c κs = search needs
 
-mul-put-words : tie.Need-mul-put-words
-mul-put-words c = search needs
+mul-take-words : tie.Need-mul-take-words
+mul-take-words c = search needs
 
-sub-put-words : tie.Need-sub-put-words
-sub-put-words c = search needs
+sub-take-words : tie.Need-sub-take-words
+sub-take-words c = search needs
 
-part-put-words-start : tie.Need-part-put-words-start
-part-put-words-start c = search needs
+part-take-words-start : tie.Need-part-take-words-start
+part-take-words-start c = search needs
 
-part-put-words-end : tie.Need-part-put-words-end
-part-put-words-end c = search needs
+part-take-words-end : tie.Need-part-take-words-end
+part-take-words-end c = search needs
 
 cell-part-requires : tie.Need-cell-part-requires
 cell-part-requires c κs = search needs
 
-put-words-requires-2 : tie.Need-put-words-requires-2
-put-words-requires-2 c κs = search needs
+take-words-requires-2 : tie.Need-take-words-requires-2
+take-words-requires-2 c κs = search needs
 
 box-part-requires : tie.Need-box-part-requires
 box-part-requires c κs = search needs
 
-put-singles-requires : tie.Need-put-singles-requires
-put-singles-requires c κs = search needs
+take-singles-requires : tie.Need-take-singles-requires
+take-singles-requires c κs = search needs
 
 same-length : tie.Need-same-length
 same-length c = search needs
@@ -62,9 +62,9 @@ returns c =
     let at-records = at-front .before in
     let at-held = c .before .before .before .before .before .before .before .before .before .before .before .before .before .before .before in
     let held-is = at-held .held .ensures in
-    let words = at-front .put-words .last .0 in
-    let behind = at-behind .put-words2 .last .0 in
-    (put-front _ _ (at-held .held .result) (length words - at-held .held .result) words behind held-is (search needs) (rw (at-records .record-part .ensures) at (at-front .put-words .ensures)), (put-behind _ _ (at-held .held .result) _ _ words behind held-is (omega arith) (search needs) (search needs) (rw (at-cells .cell-part .ensures) at (at-behind .put-words2 .ensures)), rw (at-boxes .box-part .ensures) at (at-singles .put-singles .ensures)))
+    let words = at-front .take-words .last .0 in
+    let behind = at-behind .take-words2 .last .0 in
+    (put-front _ _ (at-held .held .result) (length words - at-held .held .result) words behind held-is (search needs) (rw (at-records .record-part .ensures) at (at-front .take-words .ensures)), (put-behind _ _ (at-held .held .result) _ _ words behind held-is (omega arith) (search needs) (search needs) (rw (at-cells .cell-part .ensures) at (at-behind .take-words2 .ensures)), rw (at-boxes .box-part .ensures) at (at-singles .take-singles .ensures)))
 
 pub put-all-spec : {M : Type 1} → statement M
 put-all-spec =
@@ -74,15 +74,15 @@ put-all-spec =
     mul-held
     held-requires
     record-part-requires
-    put-words-requires
-    mul-put-words
-    sub-put-words
-    part-put-words-start
-    part-put-words-end
+    take-words-requires
+    mul-take-words
+    sub-take-words
+    part-take-words-start
+    part-take-words-end
     cell-part-requires
-    put-words-requires-2
+    take-words-requires-2
     box-part-requires
-    put-singles-requires
+    take-singles-requires
     same-length
     same-length-2
     returns)

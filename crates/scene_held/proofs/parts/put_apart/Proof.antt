@@ -6,20 +6,20 @@ use Rattle.scene_held.proofs.parts.put_apart.Tie as tie
 record-part-requires : tie.Need-record-part-requires
 record-part-requires c κs = search needs
 
-put-words-requires : tie.Need-put-words-requires
-put-words-requires c κs = search needs
+take-words-requires : tie.Need-take-words-requires
+take-words-requires c κs = search needs
 
 box-part-requires : tie.Need-box-part-requires
 box-part-requires c κs = search needs
 
-put-singles-requires : tie.Need-put-singles-requires
-put-singles-requires c κs = search needs
+take-singles-requires : tie.Need-take-singles-requires
+take-singles-requires c κs = search needs
 
 cell-part-requires : tie.Need-cell-part-requires
 cell-part-requires c κs = search needs
 
-put-words-requires-2 : tie.Need-put-words-requires-2
-put-words-requires-2 c κs = search needs
+take-words-requires-2 : tie.Need-take-words-requires-2
+take-words-requires-2 c κs = search needs
 
 same-length : tie.Need-same-length
 same-length c = search needs
@@ -32,24 +32,24 @@ same-length-3 c = search needs
 
 returns : tie.Need-returns
 returns c =
-    let at-put-words2 = c .before .before in
-    let at-cell-part = at-put-words2 .before in
-    let at-put-singles = at-cell-part .before .before .before .before in
-    let at-box-part = at-put-singles .before in
-    let at-put-words = at-box-part .before .before .before .before in
-    let at-record-part = at-put-words .before in
-    (rw (at-record-part .record-part .ensures) at (at-put-words .put-words .ensures), (rw (at-box-part .box-part .ensures) at (at-put-singles .put-singles .ensures), rw (at-cell-part .cell-part .ensures) at (at-put-words2 .put-words2 .ensures)))
+    let at-take-words2 = c .before .before in
+    let at-cell-part = at-take-words2 .before in
+    let at-take-singles = at-cell-part .before .before .before .before in
+    let at-box-part = at-take-singles .before in
+    let at-take-words = at-box-part .before .before .before .before in
+    let at-record-part = at-take-words .before in
+    (rw (at-record-part .record-part .ensures) at (at-take-words .take-words .ensures), (rw (at-box-part .box-part .ensures) at (at-take-singles .take-singles .ensures), rw (at-cell-part .cell-part .ensures) at (at-take-words2 .take-words2 .ensures)))
 
 pub put-apart-spec : {M : Type 1} → statement M
 put-apart-spec =
     tie.close
     (tie.spec
     record-part-requires
-    put-words-requires
+    take-words-requires
     box-part-requires
-    put-singles-requires
+    take-singles-requires
     cell-part-requires
-    put-words-requires-2
+    take-words-requires-2
     same-length
     same-length-2
     same-length-3
