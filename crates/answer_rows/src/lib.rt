@@ -1,4 +1,6 @@
 // Answers of the midnight run: each is written into its own row, one row behind the other in a lent slice; and how many rows there may be.
+#![tactic(auto)]
+
 ghost use Rattle.std.specs.Prelude.{◌≡◌, ◌≤◌, length};
 ghost use Rattle.base.specs.Loop.{stored};
 ghost use Rattle.answer_rows.specs.Answers.{answer_numbers, row_written, count_refusal};

@@ -1,5 +1,7 @@
 // The attempts of a move, from pass to pass: what a pass starts with and comes to, whether a step-up is tried, and which attempt is kept. The moves
 // over a capped list, through a window and over lent boxes make their passes where their boxes lie, and call these between.
+#![tactic(auto)]
+
 ghost use Rattle.std.specs.Prelude.{◌≡◌};
 ghost use Rattle.sweeps.specs.Move.{flat_square, longer, blocked_horizontally};
 ghost use Rattle.sweeps.specs.Passes.{wanted_of, gone_of, tries, next_sweep, first_sweep};

@@ -1,4 +1,6 @@
 // A block of a scene file: its words, its mark and its two checks. A byte that is not there is 0.
+#![tactic(auto)]
+
 ghost use Rattle.std.specs.Prelude.{◌≡◌, ◌+◌, ◌*◌, ◌%◌, slice_index};
 ghost use Rattle.block_checks.specs.Checks.{file_word, new_mark, marked, check_of, second_of, word126};
 

@@ -1,4 +1,6 @@
 // What binds in every block of a scene file: mark, kind, number, unused words and checks. A look-up past the end of a file answers nothing.
+#![tactic(auto)]
+
 ghost use Rattle.std.specs.Prelude.{◌≡◌, true, ◌||◌, ◌+◌, eqb, ltb};
 ghost use Rattle.block_checks.specs.Checks.{file_word, marked};
 ghost use Rattle.block_rules.specs.Rules.{block_of, rest_zero, block_fits};

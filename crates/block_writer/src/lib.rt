@@ -1,4 +1,6 @@
 // Writes a block of a scene, byte for byte what `block_bytes` has.
+#![tactic(auto)]
+
 ghost use Rattle.std.specs.Prelude.{◌≡◌, ◌+◌, ◌*◌, ◌≤◌, length};
 ghost use Rattle.base.specs.Loop.{stored};
 ghost use Rattle.block_writer.specs.Bytes.{word_bytes, bytes_of, head_bytes, payload_word, word_in, filled_block};

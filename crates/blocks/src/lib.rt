@@ -1,4 +1,6 @@
 // How a scene file is laid out: the parts that its blocks are of. A look-up past the end of a file answers 0.
+#![tactic(auto)]
+
 ghost use Rattle.std.specs.Prelude.{◌≡◌};
 ghost use Rattle.blocks.specs.Blocks.{per_block, blocks_of, end_of, used_in, part_fits, part_word, body_part, record_part, box_part, window_part, cell_part, log_part};
 
@@ -6,7 +8,7 @@ use block_checks::file_word;
 use block_rules::{block_fits, block_of, has_new_mark};
 
 // The blocks of one kind, one after the other: the first of them, the kind, and how many payload words there are in all.
-#[derive(Drop)]
+#[derive(Clone, Copy)]
 pub struct Part {
     pub first: u32,
     pub kind: u32,

@@ -1,5 +1,7 @@
 // Bodies: what a body, its motion and the rules are, the numbers that a host hands in for them, and the limits on those. numbers.rt reads them
 // out of lent numbers, and limits.rt has what is refused.
+#![tactic(auto)]
+
 ghost use Rattle.std.specs.Prelude.{◌≡◌};
 ghost use Rattle.bodies.specs.Body.{model_of, stage_of, friction_of, is_yes, yes_number, flap_of, body_of, motion_of, with_cap, is_item, is_living, is_falling_block};
 
@@ -14,7 +16,7 @@ pub use numbers::{
 };
 
 // Motion rules that are no parameters.
-#[derive(Drop)]
+#[derive(Clone, Copy)]
 pub enum Model {
     Item,
     Living,
@@ -23,7 +25,7 @@ pub enum Model {
 }
 
 // When gravity comes, beside the move and the drag.
-#[derive(Drop)]
+#[derive(Clone, Copy)]
 pub enum Stage {
     BeforeMove,
     AfterMove,
@@ -31,21 +33,21 @@ pub enum Stage {
 }
 
 // Extra friction on the ground: none, or that of the block below.
-#[derive(Drop)]
+#[derive(Clone, Copy)]
 pub enum Ground {
     None,
     Block,
 }
 
 // The wing flap drag of a living body.
-#[derive(Drop)]
+#[derive(Clone, Copy)]
 pub enum Flap {
     None,
     Drag(f64),
 }
 
 // A body. `offset` is the network offset, `vertical` and `horizontal` are the drags, `step` is the step height.
-#[derive(Drop)]
+#[derive(Clone, Copy)]
 pub struct Body {
     pub width: f64,
     pub height: f64,
@@ -61,7 +63,7 @@ pub struct Body {
 }
 
 // A body as a host hands it in: model, stage and friction by number, `flaps` 1 where the flap is present.
-#[derive(Drop)]
+#[derive(Clone, Copy)]
 pub struct BodyNumbers {
     pub width: f64,
     pub height: f64,
@@ -79,7 +81,7 @@ pub struct BodyNumbers {
 
 // What holds for every body: a living body's default friction and sample depth, gravity and drags in liquids, the air state, and
 // how many boxes a move may collect, 0 for as many as its list has room for.
-#[derive(Drop)]
+#[derive(Clone, Copy)]
 pub struct Rules {
     pub friction: f64,
     pub depth: f64,
@@ -90,7 +92,7 @@ pub struct Rules {
     pub cap: u32,
 }
 
-#[derive(Drop)]
+#[derive(Clone, Copy)]
 pub struct Motion {
     pub feet: Vec3,
     pub velocity: Vec3,
@@ -98,7 +100,7 @@ pub struct Motion {
 }
 
 // A motion as a host hands it in: ground 1 or 0.
-#[derive(Drop)]
+#[derive(Clone, Copy)]
 pub struct MotionNumbers {
     pub feet: Vec3,
     pub velocity: Vec3,

@@ -1,4 +1,6 @@
 // The words of a body as they are written, in the places that `files` has for them.
+#![tactic(auto)]
+
 ghost use Rattle.std.specs.Prelude.{◌≡◌};
 ghost use Rattle.base.specs.Loop.{listed};
 ghost use Rattle.body_words.specs.Words.{is_absent, written_number, word_of_wide, body_word_of};

@@ -1,5 +1,7 @@
 // Vectors and boxes by value. This file has the records, overlap and clipping, from collision.rs: every function takes any numbers. vectors.rt has
 // the sums and products of vectors, and limits.rt the limits on what is handed in.
+#![tactic(auto)]
+
 mod limits;
 pub mod vectors;
 
@@ -11,21 +13,21 @@ ghost use Rattle.std.specs.Float.{inf};
 
 pub use limits::{are_within, is_box, is_delta, is_step};
 
-#[derive(Drop)]
+#[derive(Clone, Copy)]
 pub struct Vec3 {
     pub x: f64,
     pub y: f64,
     pub z: f64,
 }
 
-#[derive(Drop)]
+#[derive(Clone, Copy)]
 pub struct Aabb {
     pub min: Vec3,
     pub max: Vec3,
 }
 
 // A box and a mover on one axis: the box from lo to hi, the mover from `from` to `to`.
-#[derive(Drop)]
+#[derive(Clone, Copy)]
 struct Sides {
     lo: f64,
     hi: f64,

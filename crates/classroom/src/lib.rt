@@ -1,4 +1,6 @@
 // The classroom palette for a host in another language: its records and its boxes, each into a buffer that the host lends.
+#![tactic(auto)]
+
 ghost use Rattle.std.specs.Prelude.{◌≡◌};
 ghost use Rattle.palette_boxes.specs.Fill.{fill_refusal, filled};
 ghost use Rattle.palette_boxes.specs.Shapes.{shape_numbers, palette_shapes};

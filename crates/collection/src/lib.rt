@@ -1,4 +1,6 @@
 // Module 6: collection of block boxes from a window.
+#![tactic(auto)]
+
 ghost use Rattle.std.specs.Prelude.{◌≡◌, ◌≤◌, min};
 ghost use Rattle.base.specs.Answers.{bool_asked};
 ghost use Rattle.sweeps.specs.Lists.{room, cap_of, held_in};
@@ -21,7 +23,7 @@ use sweeps::{BoxList, Collected};
 use window::{Pos, Window};
 
 // How many boxes were collected into lent numbers, or the number of a refusal and none.
-#[derive(Drop)]
+#[derive(Clone, Copy)]
 pub struct CountedBoxes {
     pub count: usize,
     pub refusal: u32,

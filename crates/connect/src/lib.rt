@@ -1,4 +1,6 @@
 // Module 5, connections: the state that a fence, pane, bars or wall has beside its neighbours.
+#![tactic(auto)]
+
 ghost use Rattle.std.specs.Prelude.{◌≡◌};
 ghost use Rattle.base.specs.Answers.{bool_asked};
 ghost use Rattle.window.specs.Look.{look_at};
@@ -11,14 +13,14 @@ use joining::Joined;
 use window::{Cell, CellStep, Pos, Window};
 
 // A state, or the number of a refusal.
-#[derive(Drop)]
+#[derive(Clone, Copy)]
 pub enum AskedState {
     State(u32),
     Refused(u32),
 }
 
 // What a host is handed: refusal 0 and the state, or a refusal and 0.
-#[derive(Drop)]
+#[derive(Clone, Copy)]
 pub struct StateAnswer {
     pub refusal: u32,
     pub state: u32,

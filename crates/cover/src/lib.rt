@@ -1,4 +1,6 @@
 // Module 4, face cover: whether the boxes of a state cover a whole face of the unit block.
+#![tactic(auto)]
+
 ghost use Rattle.std.specs.Prelude.{◌≡◌, ◌<◌, ◌≤◌};
 ghost use Rattle.std.specs.Float.Ieee.{is_nan};
 ghost use Rattle.base.specs.Choose.{choose};
@@ -7,7 +9,7 @@ ghost use Rattle.cover.specs.Cover.{box_count, box_number, on_face, u_place, u1,
 ghost use Rattle.cover.specs.Gaps.{spans_line, has_point, is_inner, has_gap_at, gap_past, gap_on_line, gap_on_face};
 
 // A horizontal side of a block, in the order of word 19's bits.
-#[derive(Drop)]
+#[derive(Clone, Copy)]
 pub enum Side {
     North,
     East,

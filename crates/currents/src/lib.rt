@@ -1,4 +1,6 @@
 // Module 7: what the flows of the cells that an item's box reaches do to its velocity.
+#![tactic(auto)]
+
 ghost use Rattle.std.specs.Prelude.{◌≡◌};
 ghost use Rattle.window.specs.Look.{look_at};
 ghost use Rattle.currents.specs.Current.{beyond_reach, cells_up_to, current_range, same_number, same_pos, liquid_known, no_streams, one_more_than, stream_with, gathered, current_turn, direction_of, carried_by, current_of, item_current};
@@ -13,33 +15,33 @@ use tables::{LiquidKind, LiquidState};
 use window::{Pos, Window};
 
 // The flows of one kind of liquid, summed, and how many there were: 0, 1, or 2 for more.
-#[derive(Drop)]
+#[derive(Clone, Copy)]
 pub struct Stream {
     pub flow: Vec3,
     pub count: u32,
 }
 
-#[derive(Drop)]
+#[derive(Clone, Copy)]
 pub struct Streams {
     pub water: Stream,
     pub lava: Stream,
 }
 
-#[derive(Drop)]
+#[derive(Clone, Copy)]
 enum Gathered {
     On(Streams),
     Refused(u32),
 }
 
 // What the flows add to an item's velocity, and whether there is water among them.
-#[derive(Drop)]
+#[derive(Clone, Copy)]
 pub struct Current {
     pub flow: Vec3,
     pub water: bool,
 }
 
 // A current, or the number of a refusal.
-#[derive(Drop)]
+#[derive(Clone, Copy)]
 pub enum AskedCurrent {
     Is(Current),
     Refused(u32),

@@ -1,5 +1,7 @@
 // What a step does to a body's velocity, from the friction sampled under it on; no cell is asked for here. cases.rt has what a host is handed
 // for a sample.
+#![tactic(auto)]
+
 ghost use Rattle.std.specs.Prelude.{◌≡◌};
 ghost use Rattle.drags.specs.Cases.{sample_or};
 ghost use Rattle.drags.specs.Drags.{grip, sunk, flapped, fallen, damped, living_velocity, living_in_liquid, living_in_air, apply_living_drag, afloat, floated, rests_now, is_before_move, is_dry, pulled, unless_stopped, kept_after, vertical_after, dragged};
@@ -13,7 +15,7 @@ mod cases;
 pub use cases::{case_number, sampled_number};
 
 // What a sample of the block under a body tells: its friction, or why there is none.
-#[derive(Drop)]
+#[derive(Clone, Copy)]
 pub enum Sample {
     Friction(f64),
     Air,
@@ -22,7 +24,7 @@ pub enum Sample {
 }
 
 // What a step tells of the block under a body: the sample that it took, or that none was asked for.
-#[derive(Drop)]
+#[derive(Clone, Copy)]
 pub enum Support {
     Asked(Sample),
     NotAsked,

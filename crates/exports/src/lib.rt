@@ -1,13 +1,15 @@
 // What a host in another language links: functions on numbers and lent slices of them. Here is the order of their parameters; what is refused of
 // these, how an answer is written, and what they do stands in the crates below.
+#![tactic(auto)]
+
 mod drift;
 mod falling;
 mod file;
 mod night;
 mod over;
 mod summed;
-mod through;
 mod tick;
+mod window_moves;
 
 ghost use Rattle.std.specs.Prelude.{◌≡◌};
 ghost use Rattle.floats.specs.Numbers.{is_finite, answer_where};
@@ -24,8 +26,8 @@ pub use summed::{
     boltjuniper_build_summary, boltjuniper_check_summary, boltjuniper_move_summed,
     boltjuniper_set_block, boltjuniper_step_falling_summed, boltjuniper_step_summed,
 };
-pub use through::boltjuniper_move;
 pub use tick::{boltjuniper_step, boltjuniper_step_checked};
+pub use window_moves::boltjuniper_move;
 
 // Floor, ceiling, root and cell, to be timed alone: a refusal hands back zero, as module 1 has it.
 

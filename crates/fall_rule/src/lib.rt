@@ -1,4 +1,6 @@
 // The fall record: how far a body has fallen, and how far it fell to its last landing. Its rule for each move, and which records are no 3.
+#![tactic(auto)]
+
 ghost use Rattle.std.specs.Prelude.{◌≡◌};
 ghost use Rattle.fall_rule.specs.Rule.{deeper, landing, fall_by, fall_after, is_fallen, fall_fits};
 
@@ -6,7 +8,7 @@ use flow::is_water;
 use tables::LiquidKind;
 
 // The falling sum, since the last reset; and the landed number, of the last landing.
-#[derive(Drop)]
+#[derive(Clone, Copy)]
 pub struct Fall {
     pub sum: f64,
     pub landed: f64,

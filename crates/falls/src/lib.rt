@@ -1,5 +1,7 @@
 // The step with a fall record beside the body; crates/fall_rule has the record's rule. From a fresh record, any list of such steps leaves the drops
 // since the last reset (proofs/Steps.antt, `steps-fallen`).
+#![tactic(auto)]
+
 ghost use Rattle.std.specs.Prelude.{◌≡◌};
 ghost use Rattle.falls.specs.Answers.{falling_checked, falling_entry, falling_summed};
 

@@ -1,4 +1,6 @@
 // Which files are scenes, and what a scene says of its own parts: its counts, and its window. places.rt says where a body's words stand.
+#![tactic(auto)]
+
 pub mod places;
 
 ghost use Rattle.std.specs.Prelude.{◌≡◌, ◌&&◌};
@@ -13,7 +15,7 @@ use blocks::{
 use window::{Sizes, Window};
 
 // How many states, boxes and cells a scene has.
-#[derive(Drop)]
+#[derive(Clone, Copy)]
 pub struct Counts {
     pub states: u16,
     pub boxes: u16,
@@ -21,7 +23,7 @@ pub struct Counts {
 }
 
 // The counts, or none where one is beyond its limit or the file is no scene.
-#[derive(Drop)]
+#[derive(Clone, Copy)]
 pub enum Counted {
     Are(Counts),
     Unfit,

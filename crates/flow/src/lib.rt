@@ -1,4 +1,6 @@
 // Module 7, below: what liquid a cell holds, whether it stops a flow, and how a liquid flows by what is around it (sides.rt).
+#![tactic(auto)]
+
 mod sides;
 
 ghost use Rattle.std.specs.Prelude.{◌≡◌};
@@ -14,21 +16,21 @@ use tables::{LiquidKind, LiquidState};
 use window::{Cell, CellStep, Pos, Window};
 
 // The liquid of a cell, or the number of a refusal. Its kind is None where there is none.
-#[derive(Drop)]
+#[derive(Clone, Copy)]
 pub enum AskedLiquid {
     Is(LiquidState),
     Refused(u32),
 }
 
 // By how much the liquid on a side is deeper, or the number of a refusal.
-#[derive(Drop)]
+#[derive(Clone, Copy)]
 enum AskedGap {
     Is(Gap),
     Refused(u32),
 }
 
 // A flow, or the number of a refusal.
-#[derive(Drop)]
+#[derive(Clone, Copy)]
 pub enum AskedVec {
     Is(boxes::Vec3),
     Refused(u32),

@@ -1,4 +1,6 @@
 // Module 7, without asking for a cell: the four sides of a liquid's cell, by how much the liquid on a side is deeper, and what the sides add to a flow.
+#![tactic(auto)]
+
 ghost use Rattle.std.specs.Prelude.{◌≡◌, ◌&&◌, not, leb};
 ghost use Rattle.flow_sides.specs.Sides.{step_beside, step_below, step_above, unit_to, effective_depth, difference_to, difference_below, flowed_by, side_of, normalised_flow};
 
@@ -8,7 +10,7 @@ use cover::Side;
 use window::CellStep;
 
 // By how much the liquid on a side is deeper.
-#[derive(Drop)]
+#[derive(Clone, Copy)]
 pub enum Gap {
     By(f64),
     Nothing,

@@ -1,4 +1,6 @@
 // The word of a group: 0 where collection may pass over its 4 by 4 by 4 cells. All of them that lie in the window are looked up.
+#![tactic(auto)]
+
 ghost use Rattle.std.specs.Prelude.{◌≡◌, ◌+◌, ◌<◌, ◌≤◌, pos};
 ghost use Rattle.window.specs.Look.{look_at};
 ghost use Rattle.group_words.specs.Groups.{cut, cell_at, is_empty_state, is_empty, is_empty_line, is_empty_layer, is_group, word_of_group};
@@ -6,7 +8,7 @@ ghost use Rattle.group_words.specs.Groups.{cut, cell_at, is_empty_state, is_empt
 use window::{Cell, CellStep, Window};
 
 // A group, counted from the origin on each axis.
-#[derive(Drop)]
+#[derive(Clone, Copy)]
 pub struct Group {
     pub x: u32,
     pub y: u32,

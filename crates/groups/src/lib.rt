@@ -1,5 +1,7 @@
 // The summary of a window: one word for each group of 4 by 4 by 4 cells (`group_words`), which tells whether collection may pass over it. The words
 // stand behind those of cells and columns, in the one slice that a host lends.
+#![tactic(auto)]
+
 ghost use Rattle.std.specs.Prelude.{◌≡◌, true, ◌+◌, ◌<◌, ◌≤◌, get_or, set};
 ghost use Rattle.base.specs.Loop.{stored};
 ghost use Rattle.window.specs.Window.{sizes_fit, index_at};
@@ -41,7 +43,7 @@ fn words_before(s: Sizes) -> u32
 }
 
 // Where the words of groups stand among all that are lent, and how many groups there are along x and z; nothing where the sizes break their limit.
-#[derive(Drop)]
+#[derive(Clone, Copy)]
 pub struct Layout {
     pub fits: bool,
     pub before: u32,
@@ -206,7 +208,7 @@ fn offset_in(c: i32, origin: i32, size: u32) -> u32
 }
 
 // How far a cell lies from the origin on each axis; as far as the window's size where it lies outside.
-#[derive(Drop)]
+#[derive(Clone, Copy)]
 pub struct Place {
     pub x: u32,
     pub y: u32,

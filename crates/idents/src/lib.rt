@@ -1,5 +1,7 @@
 // Module 3, identifiers: what a block connects as, and whether it raises the post of a wall below it, from the bytes of its identifier and
 // its properties. A host that fills tables asks these once for a state.
+#![tactic(auto)]
+
 ghost use Rattle.std.specs.Prelude.{◌≡◌};
 ghost use Rattle.base.specs.Choose.{choose};
 ghost use Rattle.idents.specs.Connects.{connects_number, connects_as};
@@ -7,7 +9,7 @@ ghost use Rattle.idents.specs.Posts.{post_number, raised, facing, is_wooden_trap
 
 use suffixes::{contains, ends_with, equals};
 
-#[derive(Drop)]
+#[derive(Clone, Copy)]
 pub enum Connects {
     Nothing,
     Fence,
@@ -16,7 +18,7 @@ pub enum Connects {
     Wall,
 }
 
-#[derive(Drop)]
+#[derive(Clone, Copy)]
 pub enum Post {
     Never,
     Always,
@@ -30,7 +32,7 @@ pub enum Post {
 
 // A state's properties as the wall post rule reads them: the presence of the two north properties, and values, 255 where a property is absent.
 // A torch's facing is 1 for top and 0 for another.
-#[derive(Drop)]
+#[derive(Clone, Copy)]
 pub struct Properties {
     pub wall_north: bool,
     pub fence_north: bool,

@@ -1,4 +1,6 @@
 // Module 5, without asking for a cell: what a record joins on a side, the states that it turns to, and the post of a wall.
+#![tactic(auto)]
+
 ghost use Rattle.std.specs.Prelude.{◌≡◌, ◌&&◌};
 ghost use Rattle.window.specs.Look.{some};
 ghost use Rattle.joining.specs.Joining.{along_x, connect_kind, is_fence, is_thin_or_wall, opposite_face, gate_decides, gate_joins, registered_connects, side_word, transition, transitions, straight, raises, raised_by, post_transition};
@@ -6,7 +8,7 @@ ghost use Rattle.joining.specs.Joining.{along_x, connect_kind, is_fence, is_thin
 use cover::Side;
 
 // Which sides join.
-#[derive(Drop)]
+#[derive(Clone, Copy)]
 pub struct Joined {
     pub north: bool,
     pub east: bool,

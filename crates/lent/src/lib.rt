@@ -1,4 +1,6 @@
 // The check of lent tables and of a lent window, which every entry makes before any other.
+#![tactic(auto)]
+
 ghost use Rattle.std.specs.Prelude.{◌≡◌};
 ghost use Rattle.lent.specs.Lent.{lent_refusal, direct_refusal};
 

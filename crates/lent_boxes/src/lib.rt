@@ -1,4 +1,6 @@
 // Boxes in lent numbers, six to a box: they are read where they lie; and what is refused of a move over them.
+#![tactic(auto)]
+
 ghost use Rattle.std.specs.Prelude.{◌≡◌, ◌+◌, ◌/◌, ◌<◌, min, length};
 ghost use Rattle.boxes.specs.Limits.{are_boxes};
 ghost use Rattle.sweeps.specs.Move.{clip_all};

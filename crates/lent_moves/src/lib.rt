@@ -1,4 +1,6 @@
 // The move over boxes in lent numbers.
+#![tactic(auto)]
+
 ghost use Rattle.std.specs.Prelude.{◌≡◌, length};
 ghost use Rattle.sweeps.specs.Move.{move_over};
 ghost use Rattle.lent_numbers.specs.Written.{written_by};

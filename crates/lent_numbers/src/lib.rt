@@ -1,4 +1,6 @@
 // Numbers written into lent places, and what a move comes to among them. A number whose place is not there is dropped.
+#![tactic(auto)]
+
 ghost use Rattle.std.specs.Prelude.{◌≡◌, [], ◌∷◌, set};
 ghost use Rattle.base.specs.Loop.{stored};
 ghost use Rattle.lent_numbers.specs.Written.{flag_of, flagged, numbers_of, written_by};

@@ -1,4 +1,6 @@
 // Lengths of what a host hands over in lent numbers, and room for what is written to it.
+#![tactic(auto)]
+
 ghost use Rattle.std.specs.Prelude.{◌≡◌};
 ghost use Rattle.lent_room.specs.Room.{short_of, whole_body, whole_falling, answer_written};
 

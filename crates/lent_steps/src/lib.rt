@@ -1,4 +1,6 @@
 // What a step comes to, written into lent numbers; falling.rt has the same for a step with a fall record.
+#![tactic(auto)]
+
 mod falling;
 
 ghost use Rattle.std.specs.Prelude.{◌≡◌, pos, length};

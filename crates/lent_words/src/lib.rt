@@ -1,4 +1,6 @@
 // Words that are lent or stand in a file: one as a signed number, two as one number, and eight as a window's numbers; and such words of these.
+#![tactic(auto)]
+
 ghost use Rattle.std.specs.Prelude.{◌≡◌};
 ghost use Rattle.window.specs.Numbers.{window_of};
 ghost use Rattle.lent_words.specs.Words.{signed_word, unsigned_word, wide_of, low_of, high_of, window_words};

@@ -1,5 +1,7 @@
 // The move over a capped list. All passes of a move stand in one loop of one function: a list goes by value, and each call that takes it may
 // copy it.
+#![tactic(auto)]
+
 ghost use Rattle.std.specs.Prelude.{◌≡◌};
 ghost use Rattle.boxes.specs.Limits.{are_boxes};
 ghost use Rattle.sweeps.specs.Lists.{list_of};

@@ -1,5 +1,7 @@
 // Writes the log of a minute behind the scene that a lent buffer begins with: a recorder writes the scene when the minute begins, and its events
 // when it is over.
+#![tactic(auto)]
+
 ghost use Rattle.std.specs.Prelude.{◌≡◌, ◌+◌, ◌*◌, ◌/◌, ◌≤◌, length};
 ghost use Rattle.base.specs.Every.{every};
 ghost use Rattle.part_writer.specs.Bytes.{word_in};

@@ -1,4 +1,6 @@
 // Which files are logs of a minute, a scene and the blocks of events behind it, and the events that they hold.
+#![tactic(auto)]
+
 ghost use Rattle.std.specs.Prelude.{◌≡◌, ◌+◌, ◌-◌, ◌*◌, ◌≤◌, length};
 ghost use Rattle.base.specs.Choose.{choose};
 ghost use Rattle.base.specs.Every.{every};
@@ -10,7 +12,7 @@ use blocks::{Part, log_part, part_fits, part_word};
 use files::Counted;
 
 // A cell that is set: how far it lies from the window's origin, and the state that it becomes.
-#[derive(Drop)]
+#[derive(Clone, Copy)]
 pub struct CellSet {
     pub x: u32,
     pub y: u32,
@@ -18,14 +20,14 @@ pub struct CellSet {
     pub state: u32,
 }
 
-#[derive(Drop)]
+#[derive(Clone, Copy)]
 pub enum Event {
     Tick,
     Set(CellSet),
 }
 
 // How many blocks the scene has, how many the log behind it, and how many events come before the end.
-#[derive(Drop)]
+#[derive(Clone, Copy)]
 pub struct Log {
     pub scene: u32,
     pub blocks: u16,
@@ -33,7 +35,7 @@ pub struct Log {
 }
 
 // The log in a file, or none where the file is no log.
-#[derive(Drop)]
+#[derive(Clone, Copy)]
 pub enum Logged {
     Is(Log),
     Unfit,

@@ -2,6 +2,8 @@
 // name it. `night_rows` and `answer_rows` have what stands where, `night_windows` the check of a window, `night_answers` one body's
 // answer; here is the call whole.
 // Each answer is the single step's, and follows its body in any order (proofs/Orders.antt).
+#![tactic(auto)]
+
 ghost use Rattle.std.specs.Prelude.{◌≡◌, ◌≤◌, length};
 ghost use Rattle.base.specs.Loop.{stored};
 ghost use Rattle.answer_rows.specs.Answers.{count_refusal};

@@ -1,11 +1,14 @@
 // The midnight run, run: bad rows among good ones, the same rows in reverse, and calls that are refused whole. A line for each body has its
 // refusal, and whether its row has the bits of the single step, or of what was given. The buffer holds 7s before each call. two.rt runs the call
 // for two parties.
+#![tactic(auto)]
+
 mod rows;
 mod two;
 
 use fall_rule::Fall;
 use rows::{fill_numbers, fill_words};
+use std::io;
 use step_answers::FallingAnswer;
 
 // States: 0 air, 1 a cube, 2 a cell of 16 small boxes, 3 water.
@@ -43,12 +46,12 @@ const CELLS: [u32; 156] = [
     1, 1, 9, 1, 1, 3, 1, 1, 1, 1, 1, 1, 1, 1, 1, 1, 1, 1, 1, 1, 1, 1, 1, 1, 1, 1, 1, 1,
 ];
 
-fn say(what: &[u8]) {
-    io::write_all(1, what);
+fn say(rt: &impl Print, what: &str) -> io::Result<()> {
+    print!(rt; "{what}")
 }
 
-fn count(n: u32) {
-    io::print_decimal(1, n as u64);
+fn count(rt: &impl Print, n: u32) -> io::Result<()> {
+    print!(rt; "{n}")
 }
 
 // ---- lent numbers
@@ -177,34 +180,34 @@ fn is_given(row: &[f64], numbers: &[f64], words: &[u32]) -> bool {
     false
 }
 
-fn tell(i: u32, row: &[f64], numbers: &[f64], words: &[u32]) {
-    say(b"body ");
-    count(i);
-    say(b": refusal ");
-    count(refusal_of(bodies::number_at(row, 0)));
+fn tell(rt: &impl Print, i: u32, row: &[f64], numbers: &[f64], words: &[u32]) -> io::Result<()> {
+    say(rt, "body ")?;
+    count(rt, i)?;
+    say(rt, ": refusal ")?;
+    count(rt, refusal_of(bodies::number_at(row, 0)))?;
     if is_alone(row, numbers, words) {
-        say(b", as alone");
+        say(rt, ", as alone")?;
     }
     if is_given(row, numbers, words) {
-        say(b", as given");
+        say(rt, ", as given")?;
     }
-    say(b"\n");
+    say(rt, "\n")
 }
 
 // ---- 13 bodies, of which the last lacks its last number
 
-fn tell_all(out: &[f64], numbers: &[f64], words: &[u32]) {
-    let mut i = 0u32;
-    while i < 13 {
+fn tell_all(rt: &impl Print, out: &[f64], numbers: &[f64], words: &[u32]) -> io::Result<()> {
+    for i in 0..13u32 {
         let k = i as usize;
         tell(
+            rt,
             i,
             part(out, k * 13, 13),
             part(numbers, k * 21, 21),
             words_part(words, k * 9, 9),
-        );
-        i += 1;
+        )?;
     }
+    Ok(())
 }
 
 // Whether each of the first twelve bodies has the same answer in the reverse of their order.
@@ -221,11 +224,11 @@ fn all_follow(out: &[f64], back: &[f64]) -> bool {
     true
 }
 
-fn tell_reversed(out: &[f64], back: &[f64]) {
+fn tell_reversed(rt: &impl Print, out: &[f64], back: &[f64]) -> io::Result<()> {
     if all_follow(out, back) {
-        say(b"in reverse: the first 12 follow\n");
+        say(rt, "in reverse: the first 12 follow\n")
     } else {
-        say(b"in reverse: not all follow\n");
+        say(rt, "in reverse: not all follow\n")
     }
 }
 
@@ -254,15 +257,15 @@ fn call(
     )
 }
 
-fn tell_written(out: &[f64]) {
+fn tell_written(rt: &impl Print, out: &[f64]) -> io::Result<()> {
     if all_seven(out) {
-        say(b"nothing written\n");
+        say(rt, "nothing written\n")
     } else {
-        say(b"written\n");
+        say(rt, "written\n")
     }
 }
 
-fn thirteen() {
+fn thirteen(rt: &impl Print) -> io::Result<()> {
     let records = RECORDS;
     let mut numbers = [0.0; 273];
     let mut words = [0; 117];
@@ -270,19 +273,19 @@ fn thirteen() {
     fill_words(&mut words, false);
     let mut out = [7.0; 172];
     let refusal = call(&records, 6, part(&numbers, 0, 272), &words, 13, &mut out);
-    say(b"13 bodies over 6 windows: refusal ");
-    count(refusal);
-    say(b"\n");
-    tell_all(&out, &numbers, &words);
-    say(b"beyond the last row: ");
-    tell_written(part(&out, 169, 3));
+    say(rt, "13 bodies over 6 windows: refusal ")?;
+    count(rt, refusal)?;
+    say(rt, "\n")?;
+    tell_all(rt, &out, &numbers, &words)?;
+    say(rt, "beyond the last row: ")?;
+    tell_written(rt, part(&out, 169, 3))?;
     let mut back_numbers = [0.0; 273];
     let mut back_words = [0; 117];
     fill_numbers(&mut back_numbers, true);
     fill_words(&mut back_words, true);
     let mut back = [7.0; 169];
     call(&records, 6, &back_numbers, &back_words, 13, &mut back);
-    tell_reversed(&out, &back);
+    tell_reversed(rt, &out, &back)
 }
 
 // ---- calls that are refused whole
@@ -311,7 +314,14 @@ fn held(
 }
 
 // Word 19 of the cube is `faces`: 15 are right.
-fn whole(what: &[u8], windows_count: u32, bodies_count: u32, faces: u32, room: usize) {
+fn whole(
+    rt: &impl Print,
+    what: &str,
+    windows_count: u32,
+    bodies_count: u32,
+    faces: u32,
+    room: usize,
+) -> io::Result<()> {
     let mut records = RECORDS;
     records[39] = faces;
     let mut numbers = [0.0; 86037];
@@ -328,22 +338,29 @@ fn whole(what: &[u8], windows_count: u32, bodies_count: u32, faces: u32, room: u
         &mut out,
         room,
     );
-    say(what);
-    say(b": refusal ");
-    count(refusal);
-    say(b", ");
-    tell_written(&out);
+    say(rt, what)?;
+    say(rt, ": refusal ")?;
+    count(rt, refusal)?;
+    say(rt, ", ")?;
+    tell_written(rt, &out)
 }
 
-fn main() {
-    thirteen();
-    whole(b"4,096 bodies over 16 windows", 16, 4096, 15, 53248);
-    whole(b"a buffer one number short", 16, 4096, 15, 53247);
-    whole(b"4,097 bodies", 16, 4097, 15, 53261);
-    whole(b"17 windows", 17, 4096, 15, 53248);
-    whole(b"17 windows, and no room", 17, 4096, 15, 0);
-    whole(b"a wrong word in the tables", 16, 4096, 14, 53248);
-    whole(b"a wrong word, 17 windows, and no room", 17, 4096, 14, 0);
-    whole(b"no window, no body, and no room", 0, 0, 15, 0);
-    two::run();
+fn main(rt: HostRuntime) -> io::Result<()> {
+    thirteen(&rt)?;
+    whole(&rt, "4,096 bodies over 16 windows", 16, 4096, 15, 53248)?;
+    whole(&rt, "a buffer one number short", 16, 4096, 15, 53247)?;
+    whole(&rt, "4,097 bodies", 16, 4097, 15, 53261)?;
+    whole(&rt, "17 windows", 17, 4096, 15, 53248)?;
+    whole(&rt, "17 windows, and no room", 17, 4096, 15, 0)?;
+    whole(&rt, "a wrong word in the tables", 16, 4096, 14, 53248)?;
+    whole(
+        &rt,
+        "a wrong word, 17 windows, and no room",
+        17,
+        4096,
+        14,
+        0,
+    )?;
+    whole(&rt, "no window, no body, and no room", 0, 0, 15, 0)?;
+    two::run(&rt)
 }

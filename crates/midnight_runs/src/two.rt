@@ -6,6 +6,7 @@ use crate::{
     CELLS, RECORDS, SHAPES, WINDOWS, alike, all_seven, count, part, refusal_of, say, words_part,
 };
 use parties::Refusals;
+use std::io;
 
 // The call. Word 19 of the cube is `faces`: 15 are right.
 fn call(
@@ -84,116 +85,155 @@ fn held(second: bool, windows_count: u32, bodies_count: u32, room: &mut [f64], h
     }
 }
 
-fn tell_half(half: &[f64], second: bool, windows_count: u32, bodies_count: u32) {
+fn tell_half(
+    rt: &impl Print,
+    half: &[f64],
+    second: bool,
+    windows_count: u32,
+    bodies_count: u32,
+) -> io::Result<()> {
     let mut room = [7.0; 26624];
     held(second, windows_count, bodies_count, &mut room, half.len());
     if all_seven(half) {
-        say(b", kept");
-        return;
+        return say(rt, ", kept");
     }
     if alike(half, part(&room, 0, half.len())) {
-        say(b", as alone");
-        return;
+        return say(rt, ", as alone");
     }
-    say(b", altered");
+    say(rt, ", altered")
 }
 
 // What is told, what each half then holds, and the place beyond them.
-fn tell(out: &[f64], told: Refusals, count1: u32, bodies1: u32, count2: u32, bodies2: u32) {
+fn tell(
+    rt: &impl Print,
+    out: &[f64],
+    told: Refusals,
+    count1: u32,
+    bodies1: u32,
+    count2: u32,
+    bodies2: u32,
+) -> io::Result<()> {
     let h = out.len() / 2;
-    say(b": ");
-    count(told.first);
-    tell_half(part(out, 0, h), false, count1, bodies1);
-    say(b"; ");
-    count(told.second);
-    tell_half(part(out, h, h), true, count2, bodies2);
+    say(rt, ": ")?;
+    count(rt, told.first)?;
+    tell_half(rt, part(out, 0, h), false, count1, bodies1)?;
+    say(rt, "; ")?;
+    count(rt, told.second)?;
+    tell_half(rt, part(out, h, h), true, count2, bodies2)?;
     if all_seven(part(out, h + h, out.len() % 2)) {
-        say(b"; beyond, kept\n");
+        say(rt, "; beyond, kept\n")
     } else {
-        say(b"; beyond, written\n");
+        say(rt, "; beyond, written\n")
     }
 }
 
-fn called(out: &mut [f64], faces: u32, count1: u32, bodies1: u32, count2: u32, bodies2: u32) {
+fn called(
+    rt: &impl Print,
+    out: &mut [f64],
+    faces: u32,
+    count1: u32,
+    bodies1: u32,
+    count2: u32,
+    bodies2: u32,
+) -> io::Result<()> {
     let told = call(faces, count1, bodies1, count2, bodies2, out);
-    tell(out, told, count1, bodies1, count2, bodies2);
+    tell(rt, out, told, count1, bodies1, count2, bodies2)
 }
 
 fn both(
-    what: &[u8],
+    rt: &impl Print,
+    what: &str,
     faces: u32,
     count1: u32,
     bodies1: u32,
     count2: u32,
     bodies2: u32,
     places: usize,
-) {
+) -> io::Result<()> {
     let mut out = [7.0; 53249];
-    say(what);
+    say(rt, what)?;
     if places <= 53249 {
-        called(&mut out[0..places], faces, count1, bodies1, count2, bodies2);
+        called(
+            rt,
+            &mut out[0..places],
+            faces,
+            count1,
+            bodies1,
+            count2,
+            bodies2,
+        )?;
     }
+    Ok(())
 }
 
-fn tell_name(words: &[u32], row: &[f64]) {
-    say(b"a body of the second that names ");
-    count(tables::word(words, 0, 0));
-    say(b": refusal ");
-    count(refusal_of(bodies::number_at(row, 0)));
-    say(b"\n");
+fn tell_name(rt: &impl Print, words: &[u32], row: &[f64]) -> io::Result<()> {
+    say(rt, "a body of the second that names ")?;
+    count(rt, tables::word(words, 0, 0))?;
+    say(rt, ": refusal ")?;
+    count(rt, refusal_of(bodies::number_at(row, 0)))?;
+    say(rt, "\n")
 }
 
-fn tell_names(words: &[u32], half: &[f64]) {
-    let mut i = 0u32;
-    while i < 13 {
-        let k = i as usize;
-        tell_name(words_part(words, k * 10, 10), part(half, k * 13, 13));
-        i += 1;
+fn tell_names(rt: &impl Print, words: &[u32], half: &[f64]) -> io::Result<()> {
+    for k in 0..13usize {
+        tell_name(rt, words_part(words, k * 10, 10), part(half, k * 13, 13))?;
     }
+    Ok(())
 }
 
 // The second party has one window, and the first all six: what a body of the second is told that names another.
-fn names() {
+fn names(rt: &impl Print) -> io::Result<()> {
     let mut words = [0; 130];
     fill_capped(&mut words, true);
     let mut out = [7.0; 339];
     call(15, 6, 13, 1, 13, &mut out);
-    tell_names(&words, part(&out, 169, 169));
+    tell_names(rt, &words, part(&out, 169, 169))
 }
 
-pub(crate) fn run() {
-    both(b"13 bodies each, 345 places", 15, 6, 13, 5, 13, 345);
-    both(b"13 bodies each, 339 places", 15, 6, 13, 5, 13, 339);
-    both(b"13 bodies each, 338 places", 15, 6, 13, 5, 13, 338);
-    both(b"13 bodies each, 337 places", 15, 6, 13, 5, 13, 337);
-    both(b"12 bodies and 13, 337 places", 15, 6, 12, 5, 13, 337);
-    both(b"13 bodies and 12, 337 places", 15, 6, 13, 5, 12, 337);
+pub(crate) fn run(rt: &impl Print) -> io::Result<()> {
+    both(rt, "13 bodies each, 345 places", 15, 6, 13, 5, 13, 345)?;
+    both(rt, "13 bodies each, 339 places", 15, 6, 13, 5, 13, 339)?;
+    both(rt, "13 bodies each, 338 places", 15, 6, 13, 5, 13, 338)?;
+    both(rt, "13 bodies each, 337 places", 15, 6, 13, 5, 13, 337)?;
+    both(rt, "12 bodies and 13, 337 places", 15, 6, 12, 5, 13, 337)?;
+    both(rt, "13 bodies and 12, 337 places", 15, 6, 13, 5, 12, 337)?;
     both(
-        b"2,048 bodies each over 16 windows",
+        rt,
+        "2,048 bodies each over 16 windows",
         15,
         16,
         2048,
         16,
         2048,
         53249,
-    );
-    both(b"2,049 bodies and 13", 15, 6, 2049, 5, 13, 53249);
-    both(b"13 bodies and 2,049", 15, 6, 13, 5, 2049, 53249);
-    both(b"17 windows and five", 15, 17, 13, 5, 13, 345);
-    both(b"six windows and 17", 15, 6, 13, 17, 13, 345);
-    both(b"2,049 bodies and no room for 13", 15, 6, 2049, 5, 13, 337);
-    both(b"13 bodies and nothing", 15, 6, 13, 0, 0, 345);
-    both(b"nothing and 13 bodies", 15, 0, 0, 5, 13, 345);
-    both(b"nothing at all", 15, 0, 0, 0, 0, 0);
-    both(b"a wrong word in the tables", 14, 6, 13, 5, 13, 345);
+    )?;
+    both(rt, "2,049 bodies and 13", 15, 6, 2049, 5, 13, 53249)?;
+    both(rt, "13 bodies and 2,049", 15, 6, 13, 5, 2049, 53249)?;
+    both(rt, "17 windows and five", 15, 17, 13, 5, 13, 345)?;
+    both(rt, "six windows and 17", 15, 6, 13, 17, 13, 345)?;
     both(
-        b"a wrong word, 2,049 bodies, 17 windows, and one place",
+        rt,
+        "2,049 bodies and no room for 13",
+        15,
+        6,
+        2049,
+        5,
+        13,
+        337,
+    )?;
+    both(rt, "13 bodies and nothing", 15, 6, 13, 0, 0, 345)?;
+    both(rt, "nothing and 13 bodies", 15, 0, 0, 5, 13, 345)?;
+    both(rt, "nothing at all", 15, 0, 0, 0, 0, 0)?;
+    both(rt, "a wrong word in the tables", 14, 6, 13, 5, 13, 345)?;
+    both(
+        rt,
+        "a wrong word, 2,049 bodies, 17 windows, and one place",
         14,
         6,
         2049,
         17,
         13,
         1,
-    );
-    names();
+    )?;
+    names(rt)
 }

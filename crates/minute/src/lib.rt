@@ -1,5 +1,7 @@
 // A minute: a body run through the events of a log, over lent words of cells, columns and summary. The feet after each tick are written into lent
 // numbers, three for each. It comes to what separate steps come to (proofs/Separate.antt).
+#![tactic(auto)]
+
 ghost use Rattle.std.specs.Prelude.{◌≡◌, []};
 ghost use Rattle.base.specs.Loop.{listed, stored};
 ghost use Rattle.window.specs.Numbers.{with_air};

@@ -1,4 +1,6 @@
 // What a minute keeps from event to event, and what a tick's step makes of it. The feet after each tick are written into lent numbers, three for each.
+#![tactic(auto)]
+
 ghost use Rattle.std.specs.Prelude.{◌≡◌, ◌*◌, []};
 ghost use Rattle.base.specs.Loop.{stored};
 ghost use Rattle.minute_state.specs.Minute.{older, start};
@@ -11,7 +13,7 @@ use step_answers::FallingAnswer;
 
 // What a host is handed of the state after a log: how many ticks were done, and the refusal that ended it, or 0. Its cells and its summary stand in
 // the lent words.
-#[derive(Drop)]
+#[derive(Clone, Copy)]
 pub struct Minute {
     pub motion: MotionNumbers,
     pub age: u64,

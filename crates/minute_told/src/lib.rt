@@ -1,4 +1,6 @@
 // What is told of a minute that was run: lines.rt writes its lines as bytes, and numbers.rt its state as numbers.
+#![tactic(auto)]
+
 mod lines;
 mod numbers;
 

@@ -1,5 +1,7 @@
 // What a host of minutes links beside `exports`, or alone: a body run through the events of a log, over lent memory. The order of parameters is that of
 // the step in `exports`. In an archive of its own the step has one caller, and the compiler puts it there.
+#![tactic(auto)]
+
 ghost use Rattle.std.specs.Prelude.{◌≡◌, length};
 ghost use Rattle.base.specs.Loop.{stored};
 ghost use Rattle.bodies.specs.Lent.{motion_at, body_at, rules_at};

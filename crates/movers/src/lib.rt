@@ -1,4 +1,6 @@
 // What moves, in lent numbers: a box and its delta, nine numbers, how they are read, and 3 and 4.
+#![tactic(auto)]
+
 ghost use Rattle.std.specs.Prelude.{◌≡◌};
 ghost use Rattle.movers.specs.Movers.{aabb_at, request_of, mover_fits, mover_refusal, whole_move};
 

@@ -1,4 +1,6 @@
 // Module 6 as a host calls it: collection and the move, with all their refusals.
+#![tactic(auto)]
+
 ghost use Rattle.std.specs.Prelude.{◌≡◌, ◌&&◌};
 ghost use Rattle.base.specs.Ask.{refused};
 ghost use Rattle.boxes.specs.Limits.{is_box, is_delta};
@@ -12,7 +14,7 @@ use through::AskedMove;
 use window::Window;
 
 // Refusal 0 and whether a box was hit, or a refusal and no.
-#[derive(Drop)]
+#[derive(Clone, Copy)]
 pub struct HitAnswer {
     pub refusal: u32,
     pub hit: bool,

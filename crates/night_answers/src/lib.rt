@@ -1,5 +1,7 @@
 // One body's answer in the midnight run: its row's own 3, then 10, then 2 of its window, then what the step gives. It is the single step's
 // (proofs/Bodies.antt, `single`), over a summary too (proofs/Summed.antt).
+#![tactic(auto)]
+
 ghost use Rattle.std.specs.Prelude.{◌≡◌, get_or};
 ghost use Rattle.tables.specs.Tables.{word_at};
 ghost use Rattle.night_rows.specs.Rows.{row_with};

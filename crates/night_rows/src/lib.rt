@@ -1,5 +1,7 @@
 // Rows of the midnight run: windows and bodies stand one row behind the other in lent slices. Of a row that is not there whole, what there is of
 // it. body.rt reads a body out of its row.
+#![tactic(auto)]
+
 mod body;
 
 ghost use Rattle.std.specs.Prelude.{◌≡◌, take, drop};
@@ -21,7 +23,7 @@ pub(crate) const OLDER_WIDTH: usize = 9;
 pub(crate) const OLDER_CAP: u32 = 128;
 
 // A window, and where its own words begin among those of all windows, and how many they are.
-#[derive(Drop)]
+#[derive(Clone, Copy)]
 pub struct WindowRow {
     pub window: Window,
     pub first: u32,

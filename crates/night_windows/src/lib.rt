@@ -1,4 +1,6 @@
 // Windows of the midnight run: a window's own words, of all that are lent, and their check, once for all bodies.
+#![tactic(auto)]
+
 ghost use Rattle.std.specs.Prelude.{◌≡◌};
 ghost use Rattle.base.specs.Loop.{listed};
 ghost use Rattle.night_windows.specs.Windows.{cells_in, front, last_in, is_summed, own_refusal, refusal_at, refusal_within, step_words};

@@ -1,5 +1,7 @@
 // What the types of a move's parameters say, as contracts: code that holds them meets the premises `TypedMove`, `TypedList` and `TypedShapes` of the
 // theorems off the grid, whatever it was handed. No host links it.
+#![tactic(auto)]
+
 ghost use Rattle.std.specs.Prelude.{◌≡◌, true, ◌<◌, T, get_or};
 ghost use Rattle.sweeps.specs.Lists.{room, no_box};
 ghost use Rattle.off_grid.specs.Demand.{box_f64, TypedMove};

@@ -1,13 +1,17 @@
 // The minute of the log on standard input: a line of feet for each tick, and `refused N` where one ends it. Nothing that matters is here;
 // `logged::answer` has the contract.
+#![tactic(auto)]
+
 ghost use Rattle.std.specs.Prelude.{◌≡◌, length};
 
-fn main() {
+use std::io;
+
+fn main(rt: HostRuntime) -> io::Result<()> {
     let mut file = file_room();
-    let n = io::read_full(0, &mut file);
+    let n = reading::read_full(&mut rt.reader(), &mut file)?;
     let mut out = answer_room();
     let m = logged::answer(&file[..n], &mut out);
-    io::write_all(1, &out[..m]);
+    rt.write_all(&out[..m])
 }
 
 // Room for the longest log and one byte more: a longer file fills it, and a file of that length is no log.

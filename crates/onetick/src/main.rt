@@ -1,5 +1,9 @@
 // One tick of the scene on standard input: four lines, or `refused N`. Nothing that matters is here; `scene::answer` has the contract.
+#![tactic(auto)]
+
 ghost use Rattle.std.specs.Prelude.{◌≡◌, length};
+
+use std::io;
 
 // Room for the longest scene and one byte more: a longer file fills it, and a file of that length is no scene.
 fn file_room() -> [u8; 65537]
@@ -15,10 +19,10 @@ fn answer_room() -> [u8; 160]
     [0; 160]
 }
 
-fn main() {
+fn main(rt: HostRuntime) -> io::Result<()> {
     let mut file = file_room();
-    let n = io::read_full(0, &mut file);
+    let n = reading::read_full(&mut rt.reader(), &mut file)?;
     let mut out = answer_room();
     let m = scene::answer(&file[..n], &mut out);
-    io::write_all(1, &out[..m]);
+    rt.write_all(&out[..m])
 }

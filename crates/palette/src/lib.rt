@@ -1,4 +1,6 @@
 // The records of the classroom palette: a word of a state, and the table of all. Its boxes are in `palette_boxes`.
+#![tactic(auto)]
+
 ghost use Rattle.std.specs.Prelude.{◌≡◌, ◌<◌, set};
 ghost use Rattle.base.specs.Loop.{stored};
 ghost use Rattle.palette_boxes.specs.Fill.{fill_refusal, filled};

@@ -1,4 +1,6 @@
 // The boxes of the classroom palette: those of a state by rule, and the table of all.
+#![tactic(auto)]
+
 ghost use Rattle.std.specs.Prelude.{◌≡◌, ◌+◌, ◌<◌, ◌≤◌, true, map, length, slice_set};
 ghost use Rattle.base.specs.Loop.{stored};
 ghost use Rattle.tables.specs.Tables.{float_at, box_at};

@@ -1,11 +1,13 @@
 // The classroom palette, run: what buffers a word short, and a word too long, are answered, and two sums of what stands in each then; the same sums of
 // the boxes that are looked up, one state and one box too many; and the table check's answer. What must be written was worked out from the text of
 // the request (`expected` in tools/scenepalette.py), not run.
-use libc::STDOUT_FILENO;
+#![tactic(auto)]
+
+use std::io;
 use tables::ShapeBox;
 
 // Two sums over the numbers so far, each wrapping at 2^64: of the numbers, and of the first sum as it was after each, so that their order counts.
-#[derive(Drop)]
+#[derive(Clone, Copy)]
 struct Sums {
     each: u64,
     after_each: u64,
@@ -33,15 +35,8 @@ fn with_box(s: Sums, b: ShapeBox) -> Sums {
     with_number(with_number(with_number(least, b.x1), b.y1), b.z1)
 }
 
-fn say(what: &[u8], answer: u32, s: Sums) {
-    io::write_all(STDOUT_FILENO, what);
-    io::write_all(STDOUT_FILENO, b": ");
-    io::print_decimal(STDOUT_FILENO, answer as u64);
-    io::write_all(STDOUT_FILENO, b" ");
-    io::print_decimal(STDOUT_FILENO, s.each);
-    io::write_all(STDOUT_FILENO, b" ");
-    io::print_decimal(STDOUT_FILENO, s.after_each);
-    io::write_all(STDOUT_FILENO, b"\n");
+fn say(rt: &impl Print, what: &str, answer: u32, s: Sums) -> io::Result<()> {
+    println!(rt; "{what}: {answer} {} {}", s.each, s.after_each)
 }
 
 fn wide(x: u32) -> u64 {
@@ -68,14 +63,14 @@ fn of_numbers(numbers: &[f32]) -> Sums {
     s
 }
 
-fn fill_records(what: &[u8], out: &mut [u32]) {
+fn fill_records(rt: &impl Print, what: &str, out: &mut [u32]) -> io::Result<()> {
     let answer = palette::fill_records(out);
-    say(what, answer, of_words(out));
+    say(rt, what, answer, of_words(out))
 }
 
-fn fill_shapes(what: &[u8], out: &mut [f32]) {
+fn fill_shapes(rt: &impl Print, what: &str, out: &mut [f32]) -> io::Result<()> {
     let answer = palette_boxes::fill_shapes(out);
-    say(what, answer, of_numbers(out));
+    say(rt, what, answer, of_numbers(out))
 }
 
 fn boxes_looked_up() -> Sums {
@@ -98,15 +93,15 @@ fn check(records: &[u32], shapes: &[f32]) -> u32 {
     9
 }
 
-fn main() {
+fn main(rt: HostRuntime) -> io::Result<()> {
     let mut few = [7u32; 4239];
-    fill_records(b"records, a word short", &mut few);
+    fill_records(&rt, "records, a word short", &mut few)?;
     let mut records = [7u32; 4241];
-    fill_records(b"records", &mut records);
+    fill_records(&rt, "records", &mut records)?;
     let mut little = [7.0f32; 3947];
-    fill_shapes(b"boxes, a number short", &mut little);
+    fill_shapes(&rt, "boxes, a number short", &mut little)?;
     let mut shapes = [7.0f32; 3949];
-    fill_shapes(b"boxes", &mut shapes);
-    say(b"boxes looked up", 0, boxes_looked_up());
-    say(b"the table check", check(&records, &shapes), none());
+    fill_shapes(&rt, "boxes", &mut shapes)?;
+    say(&rt, "boxes looked up", 0, boxes_looked_up())?;
+    say(&rt, "the table check", check(&records, &shapes), none())
 }

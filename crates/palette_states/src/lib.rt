@@ -1,4 +1,6 @@
 // The states and their digits.
+#![tactic(auto)]
+
 ghost use Rattle.std.specs.Prelude.{◌≡◌, ◌≤◌, ◌<◌};
 ghost use Rattle.turns.specs.Turns.{weight, digit_at};
 ghost use Rattle.palette_states.specs.States.{kind, index, bit, bit_at, side_digit, post_digit, has_post};

@@ -1,5 +1,7 @@
 // Writes a part of a scene into a lent buffer: its blocks, byte for byte what `part_bytes` has. Bytes elsewhere keep their values, and where there is
 // no room nothing is written.
+#![tactic(auto)]
+
 ghost use Rattle.std.specs.Prelude.{◌≡◌, ◌+◌, ◌*◌, ◌≤◌, ◌<◌, length};
 ghost use Rattle.std.specs.Float.{binary32};
 ghost use Rattle.std.specs.Float.Ieee.{to_bits};

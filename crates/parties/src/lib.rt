@@ -1,12 +1,14 @@
 // A midnight call for two parties over the same tables, which are checked once for both. Each party has its own windows, its own bodies, and its own
 // half of the buffer, and is refused alone. Nothing of the one alters anything of the other's (proofs/Separation.antt).
+#![tactic(auto)]
+
 ghost use Rattle.std.specs.Prelude.{◌≡◌, false, length};
 ghost use Rattle.night_answers.specs.Answers.{lent_with};
 ghost use Rattle.midnight.specs.Run.{bodies_of};
 ghost use Rattle.parties.specs.Parties.{party_with, call_with, party_refusal, party_written, call_refusals, call_written};
 
 // What each party is told: 0, or its refusal.
-#[derive(Drop)]
+#[derive(Clone, Copy)]
 pub struct Refusals {
     pub first: u32,
     pub second: u32,

@@ -1,4 +1,6 @@
 // Which layers of a range a collection passes over, by the summary behind a window's words.
+#![tactic(auto)]
+
 ghost use Rattle.std.specs.Prelude.{◌≡◌, ◌&&◌, ◌+◌, ◌*◌, ◌-◌, ◌/◌, ◌%◌, ◌≤◌, min, eqb, get_or};
 ghost use Rattle.passing.specs.Passing.{spans, reach_of, reach_in, row_marked, all_marked, stretch_at};
 
@@ -8,7 +10,7 @@ use window::{Sizes, Window};
 
 // The groups of a range's columns: the first on x and z, and how many from there on; where the words of groups stand, and how many groups a row and
 // a layer of them has. `on` is no where a column of the range lies outside the window.
-#[derive(Drop)]
+#[derive(Clone, Copy)]
 pub struct Reach {
     pub on: bool,
     pub before: u32,
@@ -21,7 +23,7 @@ pub struct Reach {
 }
 
 // Layers of a range up to one, and how many lines of each a collection comes to.
-#[derive(Drop)]
+#[derive(Clone, Copy)]
 pub struct Stretch {
     pub until: u64,
     pub lines: u32,

@@ -1,4 +1,6 @@
 // The cells between coordinates, and going through them in the Rust's order: y, then x, then z.
+#![tactic(auto)]
+
 mod cells;
 
 ghost use Rattle.std.specs.Prelude.{◌≡◌, ◌+◌, ltb};
@@ -8,13 +10,13 @@ pub use cells::{cell_holding, cell_under};
 use window::Pos;
 
 // Cells of one axis: so many from the first on.
-#[derive(Drop)]
+#[derive(Clone, Copy)]
 pub struct Axis {
     pub first: i32,
     pub count: u32,
 }
 
-#[derive(Drop)]
+#[derive(Clone, Copy)]
 pub struct Range {
     pub x: Axis,
     pub y: Axis,
@@ -22,7 +24,7 @@ pub struct Range {
 }
 
 // A cell of a range, counted from its first on each axis.
-#[derive(Drop)]
+#[derive(Clone, Copy)]
 pub struct At {
     pub x: u32,
     pub y: u32,

@@ -1,4 +1,6 @@
 // What a recorder links, and nothing else: it writes scene files, and logs of a minute behind them. The order of parameters is that of the step in `exports`.
+#![tactic(auto)]
+
 ghost use Rattle.std.specs.Prelude.{◌≡◌, length};
 ghost use Rattle.window.specs.Numbers.{window_of};
 ghost use Rattle.files.specs.Contents.{contents_of};

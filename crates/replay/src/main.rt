@@ -1,60 +1,60 @@
 // Runs stored calls, one to a line of standard input, and writes each with our answer. Its stdout holds the original Rust's answers
 // (docs/VECTORS.md), so that a bit of difference anywhere fails the gate.
+#![tactic(auto)]
+
 mod cases;
 mod fallen;
-mod minutes;
-mod moves;
 mod names;
 mod numbers;
 mod scenes;
 mod shapes;
-mod text;
+mod spelling;
+mod stored_minutes;
+mod stored_moves;
 
 ghost use Rattle.std.specs.Prelude.{◌≡◌, length};
 
-fn answer(line: &[u8]) {
-    if text::begins(line, b"movelist") {
-        moves::run(line);
-        return;
+use std::io;
+
+fn answer(rt: &impl Print, line: &[u8]) -> io::Result<()> {
+    if spelling::begins(line, b"movelist") {
+        return stored_moves::run(rt, line);
     }
-    if text::begins(line, b"ident") {
-        names::ident(line);
-        return;
+    if spelling::begins(line, b"ident") {
+        return names::ident(rt, line);
     }
-    if text::begins(line, b"post") {
-        names::post(line);
-        return;
+    if spelling::begins(line, b"post") {
+        return names::post(rt, line);
     }
-    if text::begins(line, b"cover") {
-        shapes::run(line);
-        return;
+    if spelling::begins(line, b"cover") {
+        return shapes::run(rt, line);
     }
-    if text::begins(line, b"fall") {
-        fallen::run(line);
-        return;
+    if spelling::begins(line, b"fall") {
+        return fallen::run(rt, line);
     }
-    numbers::run(line);
+    numbers::run(rt, line)
 }
 
 // One line: the call as it stands, and the answer after an arrow.
-fn run(line: &[u8]) {
-    text::put(line);
-    text::put(b" => ");
-    answer(line);
-    text::put(b"\n");
+fn run(rt: &impl Print, line: &[u8]) -> io::Result<()> {
+    spelling::put(rt, line)?;
+    spelling::put(rt, b" => ")?;
+    answer(rt, line)?;
+    spelling::put(rt, b"\n")
 }
 
 // Each line of the calls, in order.
-fn run_all(calls: &[u8]) {
+fn run_all(rt: &impl Print, calls: &[u8]) -> io::Result<()> {
     let mut at = 0usize;
     let most: usize = 65536;
     for _ in 0..most {
         if at < calls.len() {
-            let end = text::next(calls, at, b'\n');
-            run(text::part(calls, at, end));
-            at = text::sum(end, 1);
+            let end = spelling::next(calls, at, b'\n');
+            run(rt, spelling::part(calls, at, end))?;
+            at = spelling::sum(end, 1);
         }
     }
+    Ok(())
 }
 
 // Room for all the calls. The `ensures` gives the length, which lending the array as a slice needs.
@@ -64,11 +64,11 @@ fn room() -> [u8; 1048576]
     [0; 1048576]
 }
 
-fn main() {
+fn main(rt: HostRuntime) -> io::Result<()> {
     let mut space = room();
-    let n = io::read_full(0, &mut space);
-    run_all(text::part(&space, 0, n));
-    scenes::run_all();
-    fallen::run_scenes();
-    minutes::run_all();
+    let n = reading::read_full(&mut rt.reader(), &mut space)?;
+    run_all(&rt, spelling::part(&space, 0, n))?;
+    scenes::run_all(&rt)?;
+    fallen::run_scenes(&rt)?;
+    stored_minutes::run_all(&rt)
 }

@@ -4,6 +4,9 @@
 // 3000 on of a cap. The stored answers have a line for each that must be there.
 ghost use Rattle.std.specs.Prelude.{◌≡◌, length};
 
+use std::rt::Files;
+use std::{fs, io, str};
+
 fn digit(n: u32) -> u8 {
     b'0' + (n % 10) as u8
 }
@@ -44,96 +47,100 @@ fn answer_room() -> [u8; 160]
 }
 
 // The lines of an answer, joined.
-pub(crate) fn put_joined(text: &[u8]) {
+pub(crate) fn put_joined(rt: &impl Print, text: &[u8]) -> io::Result<()> {
     let mut at = 0usize;
     for i in 0..text.len() {
         if text[i] == b'\n' {
-            crate::text::put(crate::text::part(text, at, i));
-            at = crate::text::sum(i, 1);
+            crate::spelling::put(rt, crate::spelling::part(text, at, i))?;
+            at = crate::spelling::sum(i, 1);
             if at < text.len() {
-                crate::text::put(b"; ");
+                crate::spelling::put(rt, b"; ")?;
             }
         }
     }
+    Ok(())
 }
 
-pub(crate) fn put_lines(file: &[u8]) {
+pub(crate) fn put_lines(rt: &impl Print, file: &[u8]) -> io::Result<()> {
     let mut out = answer_room();
     let m = scene::answer(file, &mut out);
-    put_joined(crate::text::part(&out, 0, m));
+    put_joined(rt, crate::spelling::part(&out, 0, m))
 }
 
 fn is_converted(n: u32) -> bool {
     (1000 <= n) & (n < 2000)
 }
 
-fn put_answer(n: u32, file: &[u8]) {
-    put_lines(file);
+fn put_answer(rt: &impl Print, n: u32, file: &[u8]) -> io::Result<()> {
+    put_lines(rt, file)?;
     if is_converted(n) {
-        return;
+        return Ok(());
     }
-    crate::cases::put_case(file);
+    crate::cases::put_case(rt, file)
 }
 
-pub(crate) fn put_refusal(refusal: u32) {
+pub(crate) fn put_refusal(rt: &impl Print, refusal: u32) -> io::Result<()> {
     let last = [digit(refusal)];
-    crate::text::put(b"refused ");
-    crate::text::put(&last);
+    crate::spelling::put(rt, b"refused ")?;
+    crate::spelling::put(rt, &last)
 }
 
 // What became of a file that was written anew: the same file; or, where it had the old mark, one of the new mark, with its tick.
-fn put_likeness(anew: &[u8], file: &[u8]) {
+fn put_likeness(rt: &impl Print, anew: &[u8], file: &[u8]) -> io::Result<()> {
     if suffixes::equals(anew, file) {
-        crate::text::put(b"same");
-        return;
+        return crate::spelling::put(rt, b"same");
     }
-    if suffixes::equals(crate::text::part(anew, 0, 4), b"SCN2") {
-        crate::text::put(b"new mark, ");
-        put_lines(anew);
-        return;
+    if suffixes::equals(crate::spelling::part(anew, 0, 4), b"SCN2") {
+        crate::spelling::put(rt, b"new mark, ")?;
+        return put_lines(rt, anew);
     }
-    crate::text::put(b"another file");
+    crate::spelling::put(rt, b"another file")
 }
 
 // The file as the writer makes it of its contents, or its refusal.
-fn put_rewritten(file: &[u8]) {
+fn put_rewritten(rt: &impl Print, file: &[u8]) -> io::Result<()> {
     let mut out = file_room();
     let a = scene_anew::rewrite(file, &mut out);
     if a.refusal != 0 {
-        put_refusal(a.refusal);
-        return;
+        return put_refusal(rt, a.refusal);
     }
-    put_likeness(crate::text::part(&out, 0, a.bytes), file);
+    put_likeness(rt, crate::spelling::part(&out, 0, a.bytes), file)
 }
 
 // What a scene's line begins with: its number, and a space.
-pub(crate) fn put_label(n: u32) {
+pub(crate) fn put_label(rt: &impl Print, n: u32) -> io::Result<()> {
     let label = digits(n);
-    crate::text::put(&label);
-    crate::text::put(b" ");
+    crate::spelling::put(rt, &label)?;
+    crate::spelling::put(rt, b" ")
 }
 
-fn run(n: u32) {
+// The file of data/ that has this name; nothing where there is none.
+pub(crate) fn open<R: Files>(rt: &R, name: &[u8]) -> Option<R::File> {
+    let path = str::from_utf8(name).ok()?;
+    fs::open(rt, path).ok()
+}
+
+fn run(rt: &(impl Files + Print), n: u32) -> io::Result<()> {
     let path = name(n);
-    let fd = os::open_read(&path);
-    if fd < 0 {
-        return;
-    }
+    let Some(mut from) = open(rt, &path) else {
+        return Ok(());
+    };
     let mut room = file_room();
-    let size = io::read_full(fd, &mut room);
-    libc::close(fd);
-    let file = crate::text::part(&room, 0, size);
-    put_label(n);
-    put_answer(n, file);
-    crate::text::put(b"\nrewrite ");
-    put_label(n);
-    put_rewritten(file);
-    crate::text::put(b"\n");
+    let size = reading::read_full(&mut from, &mut room)?;
+    drop(from);
+    let file = crate::spelling::part(&room, 0, size);
+    put_label(rt, n)?;
+    put_answer(rt, n, file)?;
+    crate::spelling::put(rt, b"\nrewrite ")?;
+    put_label(rt, n)?;
+    put_rewritten(rt, file)?;
+    crate::spelling::put(rt, b"\n")
 }
 
-pub(crate) fn run_all() {
+pub(crate) fn run_all(rt: &(impl Files + Print)) -> io::Result<()> {
     let most: u32 = 3204;
     for n in 0..most {
-        run(n);
+        run(rt, n)?;
     }
+    Ok(())
 }

@@ -1,9 +1,10 @@
 // Face cover: `cover n box6*n`, of at most 16 boxes.
+use std::io;
 
 // The numbers from the second word on.
 fn fill(shape: &mut [f32], line: &[u8]) {
     for i in 0..shape.len() {
-        shape[i] = crate::text::single(line, crate::text::sum(i, 2));
+        shape[i] = crate::spelling::single(line, crate::spelling::sum(i, 2));
     }
 }
 
@@ -16,8 +17,8 @@ fn faces(shape: &[f32], n: u32) -> u32 {
     0
 }
 
-pub(crate) fn run(line: &[u8]) {
+pub(crate) fn run(rt: &impl Print, line: &[u8]) -> io::Result<()> {
     let mut shape = [0.0f32; 96];
     fill(&mut shape, line);
-    crate::text::put_number(faces(&shape, crate::text::number(line, 1)));
+    crate::spelling::put_number(rt, faces(&shape, crate::spelling::number(line, 1)))
 }

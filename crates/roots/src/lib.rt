@@ -1,4 +1,6 @@
 // Module 1, the square root.
+#![tactic(auto)]
+
 mod root;
 
 ghost use Rattle.std.specs.Prelude.{◌≡◌};

@@ -5,7 +5,7 @@ ghost use Rattle.std.specs.Prelude.{◌+◌, ◌*◌, ◌^◌, ◌≤◌, ◌<�
 ghost use Rattle.roots.specs.Steps.{Nearest, Halves, RootBits, units_of};
 
 // What f64 arithmetic proposes, and whole numbers decide: no proof rests on how near these are.
-#[derive(Drop)]
+#[derive(Clone, Copy)]
 struct Near {
     root: u64,
     inverse: u64,
@@ -125,7 +125,7 @@ fn rounded_root(n: u64, b: u64) -> u64
 }
 
 // A number of units as n * 2^52 * 4^half / 2^1074, with n's highest bit at 52 or 53. `near` is the bits of n as an f64, or others: they only propose.
-#[derive(Drop)]
+#[derive(Clone, Copy)]
 struct Halved {
     n: u64,
     near: u64,

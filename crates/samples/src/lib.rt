@@ -1,4 +1,6 @@
 // Friction samples: what a step asks of the cells under a body.
+#![tactic(auto)]
+
 ghost use Rattle.std.specs.Prelude.{◌≡◌};
 ghost use Rattle.window.specs.Look.{look_at, asked};
 ghost use Rattle.samples.specs.Samples.{sample_asked, support_asked, sample_of_state, sampled, supporting_friction, sample_cell, living_sample, told, living_support, ground_support, support_after};
@@ -11,14 +13,14 @@ use tables::LiquidKind;
 use window::{Cell, CellStep, Pos, Window};
 
 // A sample, or the number of a refusal.
-#[derive(Drop)]
+#[derive(Clone, Copy)]
 pub enum AskedSample {
     Is(Sample),
     Refused(u32),
 }
 
 // What a step tells of its sample, or the number of a refusal.
-#[derive(Drop)]
+#[derive(Clone, Copy)]
 pub enum AskedSupport {
     Is(Support),
     Refused(u32),

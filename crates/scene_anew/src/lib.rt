@@ -1,4 +1,6 @@
 // A scene written anew, of its contents.
+#![tactic(auto)]
+
 ghost use Rattle.std.specs.Prelude.{◌≡◌, ◌≤◌, length};
 ghost use Rattle.files.specs.Files.{blocks_for};
 ghost use Rattle.writer.specs.Written.{written_scene, scene_answer};

@@ -1,4 +1,6 @@
 // What a scene holds, put where the program works on it: numbers.rt has the numbers of its body, parts.rt its tables and cells.
+#![tactic(auto)]
+
 mod numbers;
 mod parts;
 

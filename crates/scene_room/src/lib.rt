@@ -1,4 +1,6 @@
 // Whether so many blocks are a scene, and a buffer of this size has room for them.
+#![tactic(auto)]
+
 ghost use Rattle.std.specs.Prelude.{◌≡◌};
 ghost use Rattle.scene_room.specs.Room.{room_for};
 

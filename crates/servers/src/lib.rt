@@ -1,4 +1,6 @@
 // The midnight call for two parties, for a host in another language; linked beside `exports`.
+#![tactic(auto)]
+
 ghost use Rattle.std.specs.Prelude.{◌≡◌};
 ghost use Rattle.parties.specs.Parties.{party_with, call_with, call_refusals, call_written};
 ghost use Rattle.servers.specs.Told.{words_told};

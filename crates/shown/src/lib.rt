@@ -1,5 +1,7 @@
 // What a picture of a move shows: the boxes that the move collects, in lent numbers. A picture's host links it beside `exports`; no host of a
 // tick does.
+#![tactic(auto)]
+
 ghost use Rattle.std.specs.Prelude.{◌≡◌, length, get_or};
 ghost use Rattle.base.specs.Loop.{stored};
 ghost use Rattle.sweeps.specs.Lists.{no_box, list_of, held_in};

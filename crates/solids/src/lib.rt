@@ -1,4 +1,6 @@
 // What stands in a cell, and its boxes one by one: the lowest part of module 6.
+#![tactic(auto)]
+
 ghost use Rattle.std.specs.Prelude.{◌≡◌};
 ghost use Rattle.tables.specs.Tables.{box_at};
 ghost use Rattle.window.specs.Look.{look_at};
@@ -10,7 +12,7 @@ use connect::AskedState;
 use window::{Cell, Pos, Window};
 
 // What stands in a cell: a full cube, or the boxes of the shapes by the two words of a record.
-#[derive(Drop)]
+#[derive(Clone, Copy)]
 pub struct Shape {
     pub cube: bool,
     pub first: u32,
@@ -18,7 +20,7 @@ pub struct Shape {
 }
 
 // What stands in a cell, or the number of a refusal.
-#[derive(Drop)]
+#[derive(Clone, Copy)]
 pub enum AskedShape {
     Is(Shape),
     Refused(u32),

@@ -1,4 +1,6 @@
 // Module 8, the step as a host calls it: 1, 2, 3 and 4 in order, before any cell is asked for; then 5, 6 and 7 as they come.
+#![tactic(auto)]
+
 ghost use Rattle.std.specs.Prelude.{◌≡◌};
 ghost use Rattle.step.specs.Answers.{checked_entry, step_entry, step_summed, motion_alone, friction_entry};
 
@@ -15,7 +17,7 @@ use ticks::{AskedTick, step_through};
 use window::Window;
 
 // A step's answer without what was sensed.
-#[derive(Drop)]
+#[derive(Clone, Copy)]
 pub struct MotionAnswer {
     pub motion: MotionNumbers,
     pub refusal: u32,

@@ -1,5 +1,7 @@
 // What a step comes to, and what a host is handed of it: its answer or its refusal, the same with a fall record beside it, and the friction
 // under a living body.
+#![tactic(auto)]
+
 ghost use Rattle.std.specs.Prelude.{◌≡◌};
 ghost use Rattle.base.specs.Ask.{refused, found};
 ghost use Rattle.step_answers.specs.Answers.{step_answer, with_fall, refused_falling, refused_friction, friction_answer};
@@ -11,7 +13,7 @@ use fall_rule::{Fall, fall_after};
 use tables::LiquidKind;
 
 // What a step comes to: the motion after it, the liquid that a living body travelled in, and the sample that it took.
-#[derive(Drop)]
+#[derive(Clone, Copy)]
 pub struct Tick {
     pub motion: Motion,
     pub liquid: LiquidKind,
@@ -19,7 +21,7 @@ pub struct Tick {
 }
 
 // What a host is handed: refusal 0, the motion after the step, the liquid and the sample; or a refusal, the motion as given, none, and not asked.
-#[derive(Drop)]
+#[derive(Clone, Copy)]
 pub struct StepAnswer {
     pub motion: MotionNumbers,
     pub liquid: LiquidKind,
@@ -28,14 +30,14 @@ pub struct StepAnswer {
 }
 
 // The same, and the record after it. A refused step hands the record back.
-#[derive(Drop)]
+#[derive(Clone, Copy)]
 pub struct FallingAnswer {
     pub step: StepAnswer,
     pub fall: Fall,
 }
 
 // The friction under a living body, and the sample that it comes from.
-#[derive(Drop)]
+#[derive(Clone, Copy)]
 pub struct FrictionAnswer {
     pub value: f64,
     pub support: Support,

@@ -1,4 +1,6 @@
 // Tests on lent bytes: when a slice equals, ends in, or has within it a fixed byte string. Identifiers and the mark of a scene are told so.
+#![tactic(auto)]
+
 ghost use Rattle.std.specs.Prelude.{◌≡◌};
 ghost use Rattle.suffixes.specs.Bytes.{equal, ends_with, has_within};
 

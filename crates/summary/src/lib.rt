@@ -1,5 +1,7 @@
 // The summary of a window as a host calls it: its check, building it, and setting one cell, with all their refusals. The host lends the words of
 // cells, of columns and of groups as one slice.
+#![tactic(auto)]
+
 ghost use Rattle.std.specs.Prelude.{◌≡◌};
 ghost use Rattle.summary.specs.Calls.{plain_words, plain_refusal, summed_refusal, build_entry, built_entry, set_entry, after_set_entry};
 

@@ -1,4 +1,6 @@
 // The move of a box over boxes: its records. list.rt has the capped list, and passes.rt the axes and the end of a move.
+#![tactic(auto)]
+
 mod list;
 mod passes;
 
@@ -10,28 +12,28 @@ pub use passes::{axis_of, clip_along, ended, stopped_falling};
 pub const ROOM: usize = 512;
 
 // The capped list: room for 512 boxes and a count.
-#[derive(Drop)]
+#[derive(Clone, Copy)]
 pub struct BoxList {
     pub boxes: [Aabb; ROOM],
     pub count: usize,
 }
 
 // A list, or the number of a refusal and an empty list. The list is the first field, so that handing it on moves nothing.
-#[derive(Drop)]
+#[derive(Clone, Copy)]
 pub struct Collected {
     pub list: BoxList,
     pub refusal: u32,
 }
 
 // A box that has moved, and by how much.
-#[derive(Drop)]
+#[derive(Clone, Copy)]
 pub struct Swept {
     pub aabb: Aabb,
     pub moved: Vec3,
 }
 
 // What a move comes to: the box after it, the way that it went, and whether a downward move was stopped.
-#[derive(Drop)]
+#[derive(Clone, Copy)]
 pub struct MoveResult {
     pub aabb: Aabb,
     pub moved: Vec3,
@@ -39,14 +41,14 @@ pub struct MoveResult {
 }
 
 // A move that is handed in may be refused: refusal 0 and the move, or a refusal, the box given, moved zero, and ground false.
-#[derive(Drop)]
+#[derive(Clone, Copy)]
 pub struct MoveAnswer {
     pub refusal: u32,
     pub result: MoveResult,
 }
 
 // What a move is asked for.
-#[derive(Drop)]
+#[derive(Clone, Copy)]
 pub struct Request {
     pub aabb: Aabb,
     pub delta: Vec3,
@@ -55,7 +57,7 @@ pub struct Request {
 }
 
 // Where a move stands between two passes: the attempt at hand, the first attempt, and whether the move is over.
-#[derive(Drop)]
+#[derive(Clone, Copy)]
 pub struct Sweep {
     pub now: Swept,
     pub first: Swept,

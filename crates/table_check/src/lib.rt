@@ -1,4 +1,6 @@
 // The rules of the table check, as specs/Check.antt has them, in its order.
+#![tactic(auto)]
+
 ghost use Rattle.std.specs.Prelude.{◌≡◌, ◌<◌};
 ghost use Rattle.base.specs.Every.{every};
 ghost use Rattle.floats.specs.Numbers.{is_within_limit};

@@ -1,5 +1,8 @@
 // The table check, run: one line for each case with its answer, 0 or 1; what the case is stands beside its call. The table is small, and each case
 // changes one word or one number of it; the last cases are at the limits of a table.
+#![tactic(auto)]
+
+use std::io;
 
 // States: 0 air, 1 a cube, 2 falling water, 3 and 4 a fence, 5 and 6 a wall, 7 a slab, 8 unregistered. A record takes two lines: what it is, and what it turns to.
 const RECORDS: [u32; 180] = [
@@ -18,12 +21,8 @@ const SHAPES: [f32; 30] = [
     0.75, 0.0, 0.0, 0.0, 1.0, 0.5, 1.0, -4.0, -4.0, -4.0, 4.0, -4.0, 4.0,
 ];
 
-fn say(what: &[u8], case: u8, answer: u32) {
-    io::write_all(1, what);
-    io::print_decimal(1, case as u64);
-    io::write_all(1, b": ");
-    io::print_decimal(1, answer as u64);
-    io::write_all(1, b"\n");
+fn say(rt: &impl Print, what: &str, case: u8, answer: u32) -> io::Result<()> {
+    println!(rt; "{what}{case}: {answer}")
 }
 
 fn check(records: &[u32; 180], shapes: &[f32; 30]) -> u32 {
@@ -31,24 +30,24 @@ fn check(records: &[u32; 180], shapes: &[f32; 30]) -> u32 {
 }
 
 // The table with one word of a state changed.
-fn record(case: u8, state: u8, k: u8, value: u32) {
+fn record(rt: &impl Print, case: u8, state: u8, k: u8, value: u32) -> io::Result<()> {
     let mut records = RECORDS;
     let shapes = SHAPES;
     let i = (state as usize) * 20 + (k as usize);
     if i < 180 {
         records[i] = value;
     }
-    say(b"record ", case, check(&records, &shapes));
+    say(rt, "record ", case, check(&records, &shapes))
 }
 
 // The table with one number of its boxes changed.
-fn number(case: u8, i: usize, value: f32) {
+fn number(rt: &impl Print, case: u8, i: usize, value: f32) -> io::Result<()> {
     let records = RECORDS;
     let mut shapes = SHAPES;
     if i < 30 {
         shapes[i] = value;
     }
-    say(b"box number ", case, check(&records, &shapes));
+    say(rt, "box number ", case, check(&records, &shapes))
 }
 
 // The check of the first words and numbers; 9 where there are not as many.
@@ -61,10 +60,10 @@ fn first(records: &[u32], shapes: &[f32], words: usize, numbers: usize) -> u32 {
     9
 }
 
-fn cut(case: u8, words: usize, numbers: usize) {
+fn cut(rt: &impl Print, case: u8, words: usize, numbers: usize) -> io::Result<()> {
     let records = RECORDS;
     let shapes = SHAPES;
-    say(b"count ", case, first(&records, &shapes, words, numbers));
+    say(rt, "count ", case, first(&records, &shapes, words, numbers))
 }
 
 // Word i of the large table: each state has four cubes, but the first has as many as asked.
@@ -103,7 +102,7 @@ fn fill_numbers(shapes: &mut [f32]) {
 }
 
 // The large table: room for 4,097 states and 16,385 boxes, of which the first are checked.
-fn large(case: u8, states: usize, count: usize, boxes: u32) {
+fn large(rt: &impl Print, case: u8, states: usize, count: usize, boxes: u32) -> io::Result<()> {
     let mut records = [0u32; 81940];
     let mut shapes = [0.0f32; 98310];
     fill_words(&mut records, boxes);
@@ -111,115 +110,117 @@ fn large(case: u8, states: usize, count: usize, boxes: u32) {
     if states <= 4097 {
         if count <= 16385 {
             say(
-                b"large table ",
+                rt,
+                "large table ",
                 case,
                 first(&records, &shapes, states * 20, count * 6),
-            );
+            )?;
         }
     }
+    Ok(())
 }
 
 // Words 0 to 6 of a record.
-fn words() {
-    record(1, 0, 0, 1); // the table as it is
-    record(2, 0, 0, 5); // word 0 with a third bit
-    record(3, 0, 1, 0x4180_0000); // friction 16
-    record(4, 0, 1, 0xc180_0000); // friction -16
-    record(5, 0, 1, 0x8000_0000); // friction -0
-    record(6, 0, 1, 0x4180_0001); // friction just over 16
-    record(7, 0, 1, 0xc180_0001); // friction just under -16
-    record(8, 0, 1, 0x7f80_0000); // friction infinite
-    record(9, 0, 1, 0x7fc0_0000); // friction a NaN
-    record(10, 2, 2, 2); // liquid lava
-    record(11, 2, 2, 3); // liquid 3
-    record(12, 2, 3, 15); // depth 15
-    record(13, 2, 3, 16); // depth 16
-    record(14, 0, 3, 1); // depth of no liquid
-    record(15, 3, 4, 5); // connects as 5
-    record(16, 3, 5, 2); // gate that connects
-    record(17, 7, 5, 3); // gate 3
-    record(18, 7, 6, 5); // post facing west
-    record(19, 7, 6, 6); // post 6
+fn words(rt: &impl Print) -> io::Result<()> {
+    record(rt, 1, 0, 0, 1)?; // the table as it is
+    record(rt, 2, 0, 0, 5)?; // word 0 with a third bit
+    record(rt, 3, 0, 1, 0x4180_0000)?; // friction 16
+    record(rt, 4, 0, 1, 0xc180_0000)?; // friction -16
+    record(rt, 5, 0, 1, 0x8000_0000)?; // friction -0
+    record(rt, 6, 0, 1, 0x4180_0001)?; // friction just over 16
+    record(rt, 7, 0, 1, 0xc180_0001)?; // friction just under -16
+    record(rt, 8, 0, 1, 0x7f80_0000)?; // friction infinite
+    record(rt, 9, 0, 1, 0x7fc0_0000)?; // friction a NaN
+    record(rt, 10, 2, 2, 2)?; // liquid lava
+    record(rt, 11, 2, 2, 3)?; // liquid 3
+    record(rt, 12, 2, 3, 15)?; // depth 15
+    record(rt, 13, 2, 3, 16)?; // depth 16
+    record(rt, 14, 0, 3, 1)?; // depth of no liquid
+    record(rt, 15, 3, 4, 5)?; // connects as 5
+    record(rt, 16, 3, 5, 2)?; // gate that connects
+    record(rt, 17, 7, 5, 3)?; // gate 3
+    record(rt, 18, 7, 6, 5)?; // post facing west
+    record(rt, 19, 7, 6, 6) // post 6
 }
 
 // Words 7, 8 and 19.
-fn parts() {
-    record(20, 0, 7, 5); // first box 5 of 5 boxes, none counted
-    record(21, 0, 7, 6); // first box 6 of 5 boxes, none counted
-    record(22, 7, 8, 2); // boxes up to the last
-    record(23, 7, 8, 3); // boxes past the last
-    record(24, 1, 7, 4294967295); // first box and count that wrap
-    record(25, 1, 19, 14); // a cube without its north face
-    record(26, 1, 19, 13); // a cube without its east face
-    record(27, 1, 19, 11); // a cube without its south face
-    record(28, 1, 19, 7); // a cube without its west face
-    record(29, 1, 19, 31); // a cube with a fifth face
-    record(30, 7, 19, 1); // a slab with a north face
+fn parts(rt: &impl Print) -> io::Result<()> {
+    record(rt, 20, 0, 7, 5)?; // first box 5 of 5 boxes, none counted
+    record(rt, 21, 0, 7, 6)?; // first box 6 of 5 boxes, none counted
+    record(rt, 22, 7, 8, 2)?; // boxes up to the last
+    record(rt, 23, 7, 8, 3)?; // boxes past the last
+    record(rt, 24, 1, 7, 4294967295)?; // first box and count that wrap
+    record(rt, 25, 1, 19, 14)?; // a cube without its north face
+    record(rt, 26, 1, 19, 13)?; // a cube without its east face
+    record(rt, 27, 1, 19, 11)?; // a cube without its south face
+    record(rt, 28, 1, 19, 7)?; // a cube without its west face
+    record(rt, 29, 1, 19, 31)?; // a cube with a fifth face
+    record(rt, 30, 7, 19, 1) // a slab with a north face
 }
 
 // Words 9 to 18.
-fn links() {
-    record(31, 3, 9, 4); // a fence's north to a fence
-    record(32, 3, 9, 5); // a fence's north to a wall
-    record(33, 3, 9, 1); // a fence's north to what connects as nothing
-    record(34, 3, 9, 8); // a fence's north to an unregistered record
-    record(35, 3, 9, 9); // a fence's north to no record
-    record(36, 3, 16, 5); // a fence's west to a wall
-    record(37, 3, 17, 4); // a fence's post off to a fence
-    record(38, 3, 18, 4); // a fence's post on to a fence
-    record(39, 5, 17, 6); // a wall's post off to a wall
-    record(40, 5, 18, 3); // a wall's post on to a fence
-    record(41, 3, 4, 2); // a fence that connects as the other fence
-    record(42, 1, 9, 1); // a cube with a transition
-    record(43, 1, 18, 1); // a cube with a post
+fn links(rt: &impl Print) -> io::Result<()> {
+    record(rt, 31, 3, 9, 4)?; // a fence's north to a fence
+    record(rt, 32, 3, 9, 5)?; // a fence's north to a wall
+    record(rt, 33, 3, 9, 1)?; // a fence's north to what connects as nothing
+    record(rt, 34, 3, 9, 8)?; // a fence's north to an unregistered record
+    record(rt, 35, 3, 9, 9)?; // a fence's north to no record
+    record(rt, 36, 3, 16, 5)?; // a fence's west to a wall
+    record(rt, 37, 3, 17, 4)?; // a fence's post off to a fence
+    record(rt, 38, 3, 18, 4)?; // a fence's post on to a fence
+    record(rt, 39, 5, 17, 6)?; // a wall's post off to a wall
+    record(rt, 40, 5, 18, 3)?; // a wall's post on to a fence
+    record(rt, 41, 3, 4, 2)?; // a fence that connects as the other fence
+    record(rt, 42, 1, 9, 1)?; // a cube with a transition
+    record(rt, 43, 1, 18, 1) // a cube with a post
 }
 
 // A record that is not registered.
-fn unregistered() {
-    record(44, 8, 0, 2); // unregistered and blocking motion
-    record(45, 8, 1, 0x8000_0000); // unregistered with friction -0
-    record(46, 8, 2, 1); // unregistered with a liquid
-    record(47, 8, 6, 1); // unregistered with a post rule
-    record(48, 8, 7, 1); // unregistered with a first box
-    record(49, 1, 0, 2); // a cube no longer registered
+fn unregistered(rt: &impl Print) -> io::Result<()> {
+    record(rt, 44, 8, 0, 2)?; // unregistered and blocking motion
+    record(rt, 45, 8, 1, 0x8000_0000)?; // unregistered with friction -0
+    record(rt, 46, 8, 2, 1)?; // unregistered with a liquid
+    record(rt, 47, 8, 6, 1)?; // unregistered with a post rule
+    record(rt, 48, 8, 7, 1)?; // unregistered with a first box
+    record(rt, 49, 1, 0, 2) // a cube no longer registered
 }
 
 // Numbers of the boxes; 24 to 29 are those of the unused one.
-fn boxes() {
-    number(1, 27, 4.0000005); // a number just over 4
-    number(2, 24, -4.0000005); // a number just under -4
-    number(3, 28, 1.0 / 0.0); // a number infinite
-    number(4, 29, 0.0 / 0.0); // a number a NaN
-    number(5, 8, 0.0 / 0.0); // a used number a NaN
-    number(6, 6, 1.0); // x from 1 to 0.625
-    number(7, 7, 2.0); // y from 2 to 1.5
-    number(8, 8, 1.0); // z from 1 to 0.625
-    number(9, 25, 4.0); // y of the unused box from 4 to -4
-    number(10, 7, 1.5); // a flat box
-    number(11, 23, -0.0); // z from 0 to -0
+fn boxes(rt: &impl Print) -> io::Result<()> {
+    number(rt, 1, 27, 4.0000005)?; // a number just over 4
+    number(rt, 2, 24, -4.0000005)?; // a number just under -4
+    number(rt, 3, 28, 1.0 / 0.0)?; // a number infinite
+    number(rt, 4, 29, 0.0 / 0.0)?; // a number a NaN
+    number(rt, 5, 8, 0.0 / 0.0)?; // a used number a NaN
+    number(rt, 6, 6, 1.0)?; // x from 1 to 0.625
+    number(rt, 7, 7, 2.0)?; // y from 2 to 1.5
+    number(rt, 8, 8, 1.0)?; // z from 1 to 0.625
+    number(rt, 9, 25, 4.0)?; // y of the unused box from 4 to -4
+    number(rt, 10, 7, 1.5)?; // a flat box
+    number(rt, 11, 23, -0.0) // z from 0 to -0
 }
 
 // Counts: records and boxes that come whole, and the limits of a table.
-fn counts() {
-    cut(1, 0, 30); // no state
-    cut(2, 20, 0); // one state and no box
-    cut(3, 179, 30); // a word short
-    cut(4, 21, 30); // a word over
-    cut(5, 20, 29); // a number short
-    cut(6, 20, 24); // a box short
-    large(1, 4096, 16384, 4); // 4096 states and 16384 boxes
-    large(2, 4097, 16384, 4); // 4097 states
-    large(3, 4096, 16385, 4); // 16385 boxes
-    large(4, 4096, 16384, 16); // 16 boxes for one state
-    large(5, 4096, 16384, 17); // 17 boxes for one state
-    large(6, 4096, 16383, 4); // a state's last box cut off
+fn counts(rt: &impl Print) -> io::Result<()> {
+    cut(rt, 1, 0, 30)?; // no state
+    cut(rt, 2, 20, 0)?; // one state and no box
+    cut(rt, 3, 179, 30)?; // a word short
+    cut(rt, 4, 21, 30)?; // a word over
+    cut(rt, 5, 20, 29)?; // a number short
+    cut(rt, 6, 20, 24)?; // a box short
+    large(rt, 1, 4096, 16384, 4)?; // 4096 states and 16384 boxes
+    large(rt, 2, 4097, 16384, 4)?; // 4097 states
+    large(rt, 3, 4096, 16385, 4)?; // 16385 boxes
+    large(rt, 4, 4096, 16384, 16)?; // 16 boxes for one state
+    large(rt, 5, 4096, 16384, 17)?; // 17 boxes for one state
+    large(rt, 6, 4096, 16383, 4) // a state's last box cut off
 }
 
-fn main() {
-    words();
-    parts();
-    links();
-    unregistered();
-    boxes();
-    counts();
+fn main(rt: HostRuntime) -> io::Result<()> {
+    words(&rt)?;
+    parts(&rt)?;
+    links(&rt)?;
+    unregistered(&rt)?;
+    boxes(&rt)?;
+    counts(&rt)
 }

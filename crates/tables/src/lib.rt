@@ -1,10 +1,12 @@
 // The lent tables: records of 20 words, boxes of six numbers, and look-ups into both.
+#![tactic(auto)]
+
 ghost use Rattle.std.specs.Prelude.{◌≡◌, from_bits, slice_index};
 ghost use Rattle.std.specs.Float.{binary32};
 ghost use Rattle.tables.specs.Tables.{word_at, is_registered, head_of, head_at, blocks_motion, friction_at, kind_of, liquid_of, liquid_at, boxes_at, state_boxes, float_at, shape_box_of, box_at};
 
 // A kind of liquid, in the order of word 2's numbers.
-#[derive(Drop)]
+#[derive(Clone, Copy)]
 pub enum LiquidKind {
     None,
     Water,
@@ -12,14 +14,14 @@ pub enum LiquidKind {
 }
 
 // The liquid of a state: depth 0 to 7, or 8 to 15 where it is falling; 0 where there is none.
-#[derive(Drop)]
+#[derive(Clone, Copy)]
 pub struct LiquidState {
     pub kind: LiquidKind,
     pub depth: u32,
 }
 
 // What a record tells of itself before its neighbours are asked: what it connects as (0 nothing), and its boxes.
-#[derive(Drop)]
+#[derive(Clone, Copy)]
 pub struct Head {
     pub registered: bool,
     pub kind: u32,
@@ -28,7 +30,7 @@ pub struct Head {
 }
 
 // A box of a shape, in its block's coordinates.
-#[derive(Drop)]
+#[derive(Clone, Copy)]
 pub struct ShapeBox {
     pub x0: f64,
     pub y0: f64,

@@ -1,5 +1,7 @@
 // The answer of a tick as bytes in a lent buffer. Each piece is written at a cursor, and answered is the cursor behind it, which never passes
 // the buffer's end: no piece has a place of its own, and one more goes between two others as it is.
+#![tactic(auto)]
+
 ghost use Rattle.std.specs.Prelude.{◌≡◌, [], ◌∷◌, ◌-◌, ◌*◌, ◌%◌};
 ghost use Rattle.text.specs.Cursor.{Put};
 ghost use Rattle.text.specs.Text.{hex_digit, hex_at, hex_of, vec_text, feet_line, velocity_line, ground_digit, ground_line, liquid_text, liquid_line, lines_of, refused_text, text_of, written, written_count};

@@ -1,4 +1,6 @@
 // Module 6: the move of a box through the blocks of a window.
+#![tactic(auto)]
+
 ghost use Rattle.std.specs.Prelude.{◌≡◌};
 ghost use Rattle.sweeps.specs.Lists.{cap_of};
 ghost use Rattle.window.specs.Look.{look_at};
@@ -14,7 +16,7 @@ use sweeps::{MoveResult, Request};
 use window::Window;
 
 // A move, or the number of a refusal.
-#[derive(Drop)]
+#[derive(Clone, Copy)]
 pub enum AskedMove {
     To(MoveResult),
     Refused(u32),
@@ -22,7 +24,7 @@ pub enum AskedMove {
 
 // A list with room for the boxes of nearly every move. A list is filled with zeros before it is used, whatever its room; 42 boxes stay below 2 KB,
 // from which on C's memset is slow to start.
-#[derive(Drop)]
+#[derive(Clone, Copy)]
 struct Few {
     boxes: [Aabb; 42],
     count: usize,

@@ -1,4 +1,6 @@
 // Module 8, one tick of a body. This file has its records and what follows the sample; moving.rt has the tick.
+#![tactic(auto)]
+
 ghost use Rattle.std.specs.Prelude.{◌≡◌};
 ghost use Rattle.ticks.specs.Step.{tick_to, tick_after};
 
@@ -13,7 +15,7 @@ mod moving;
 pub use moving::step_through;
 
 // An item before its move: its velocity with current and flotation, the liquid that floats it, and whether it rests.
-#[derive(Drop)]
+#[derive(Clone, Copy)]
 pub struct Begun {
     pub velocity: Vec3,
     pub flotation: LiquidKind,
@@ -21,14 +23,14 @@ pub struct Begun {
 }
 
 // The same, or the number of a refusal.
-#[derive(Drop)]
+#[derive(Clone, Copy)]
 pub enum AskedBegun {
     Is(Begun),
     Refused(u32),
 }
 
 // A step, or the number of a refusal.
-#[derive(Drop)]
+#[derive(Clone, Copy)]
 pub enum AskedTick {
     To(Tick),
     Refused(u32),

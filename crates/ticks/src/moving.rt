@@ -68,7 +68,15 @@ fn move_on(
             let kept = drags::kept_after(m.moved, velocity);
             let reached = m.aabb.feet();
             after_move(
-                records, cells, w, rules, body, liquid, reached, m.on_ground, kept,
+                records,
+                cells,
+                w,
+                rules,
+                body,
+                liquid,
+                reached,
+                m.on_ground,
+                kept,
             )
         }
     }

@@ -1,5 +1,7 @@
 // What bench/ asks for, and no host: of collection, the move through a window as a step makes it, of which one number is handed back; of
 // connections, the state of one block; and of a summary, one cell that is set, with nothing looked at but its group.
+#![tactic(auto)]
+
 ghost use Rattle.std.specs.Prelude.{◌≡◌, not, eqb};
 ghost use Rattle.boxes.specs.Boxes.{vec};
 ghost use Rattle.sweeps.specs.Lists.{cap_of};

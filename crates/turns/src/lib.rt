@@ -1,5 +1,7 @@
 // The wall transitions of the classroom palette: one constant table, ten numbers for each of the 162 walls, in the order of words 9 to 18: north, east,
 // south, west, post, each off and on. That only the named digit changes is proved once, over the whole table (proofs/Rules.antt).
+#![tactic(auto)]
+
 ghost use Rattle.std.specs.Prelude.{◌≡◌, ◌<◌};
 ghost use Rattle.turns.specs.Turns.{entry_at, wall_turn, Rule};
 

@@ -1,5 +1,6 @@
-// The move and the step that take a view, and the three for a caller that has cells and numbers apart. The borrow checker covers no function over a
-// view, so each is proved by hand: keep them few.
+// The move and the step that take a view, and the three for a caller that has cells and numbers apart.
+#![tactic(auto)]
+
 ghost use Rattle.std.specs.Prelude.{◌≡◌};
 ghost use Rattle.moves.specs.Answers.{move_entry};
 ghost use Rattle.step.specs.Answers.{checked_entry, step_entry};
@@ -59,7 +60,7 @@ pub fn checked_view<'r, 's, 'a>(
     step::step_checked(records, shapes, v.cells, v.window, rules, body, given, age)
 }
 
-// The three for a caller that has cells and numbers apart: their parameters are plain, so whoever calls them needs no proof by hand.
+// The three for a caller that has cells and numbers apart.
 
 pub fn move_window(
     records: &[u32],

@@ -1,4 +1,6 @@
 // Module 1, whole numbers: floor, ceiling, and the cell of a coordinate.
+#![tactic(auto)]
+
 ghost use Rattle.std.specs.Prelude.{◌≡◌};
 ghost use Rattle.std.specs.Float.Ieee.{lt};
 ghost use Rattle.base.specs.Choose.{choose};
@@ -21,22 +23,15 @@ fn excess_float(x: f64, y: f64) -> f64
     if x < y { 1.0 } else { 0.0 }
 }
 
-// The floor of any finite number, by what `%` leaves behind the point.
+// The floor of any finite number.
 fn far_floor(x: f64) -> Answer
     ensures { result ≡ answer_where (is_finite x) (floor_of x) }
 {
     if floats::is_finite(x) {
-        let part: f64 = x % 1.0;
-        if part == 0.0 {
-            return floats::given(x);
-        }
-        let cut: f64 = x - part;
-        if part < 0.0 {
-            return floats::given(cut - 1.0);
-        }
-        return floats::given(cut);
+        floats::given(x.floor())
+    } else {
+        floats::refused(x)
     }
-    floats::refused(x)
 }
 
 // The greatest whole number that is not above x. A sum of 2^52 or more has no fraction: for x of size at most 2^50, x + 1.5 * 2^52 is x

@@ -1,4 +1,6 @@
 // The window: a host lends words, of cells and of columns, and says by numbers where they lie. The one look-up; its check is in `window_check`.
+#![tactic(auto)]
+
 mod numbers;
 
 ghost use Rattle.std.specs.Prelude.{◌≡◌, ◌||◌, ◌<◌, ◌+ℤ◌, ◌-ℤ◌};
@@ -8,14 +10,14 @@ ghost use Rattle.window.specs.Offsets.{is_ahead, look_down, look_within};
 
 pub use numbers::{window_of, with_air};
 
-#[derive(Drop)]
+#[derive(Clone, Copy)]
 pub struct Pos {
     pub x: i32,
     pub y: i32,
     pub z: i32,
 }
 
-#[derive(Drop)]
+#[derive(Clone, Copy)]
 pub struct Sizes {
     pub x: u32,
     pub y: u32,
@@ -24,7 +26,7 @@ pub struct Sizes {
 
 // The numbers of a window: where it lies, the world's lowest and highest cell, and the state that the sky and the void read. Its lent words go
 // beside it: the cells, then one for each column. Sizes are u32 so that any number a host hands in can be checked.
-#[derive(Drop)]
+#[derive(Clone, Copy)]
 pub struct Window {
     pub origin: Pos,
     pub sizes: Sizes,
@@ -34,14 +36,14 @@ pub struct Window {
 }
 
 // A way from a cell to one beside it.
-#[derive(Drop)]
+#[derive(Clone, Copy)]
 pub struct CellStep {
     pub x: i8,
     pub y: i8,
     pub z: i8,
 }
 
-#[derive(Drop)]
+#[derive(Clone, Copy)]
 pub enum Cell {
     Outside,
     Unloaded,

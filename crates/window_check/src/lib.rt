@@ -1,4 +1,6 @@
 // The check of a window that a host hands in (2): its sizes, its coordinates, how many words were lent, and the words of the columns.
+#![tactic(auto)]
+
 ghost use Rattle.std.specs.Prelude.{◌≡◌};
 ghost use Rattle.window.specs.Window.{size_is_fit, sizes_fit, coordinate_fits, origin_fits, heights_fit, column_fits, columns_fit, window_refusal};
 

@@ -1,12 +1,14 @@
 // The window as one view: the lent cells and their numbers in one struct, and the thin functions that hand both on to what is proved over slice
-// and numbers. The borrow checker covers no function over such a struct, so each is proved by hand: keep them few.
+// and numbers.
+#![tactic(auto)]
+
 ghost use Rattle.std.specs.Prelude.{◌≡◌, length};
 ghost use Rattle.window.specs.Window.{window_refusal};
 ghost use Rattle.window.specs.Look.{look_at, asked};
 
 use window::{Cell, Pos, Window};
 
-#[derive(Drop)]
+#[derive(Clone, Copy)]
 pub struct View<'a> {
     pub cells: &'a [u32],
     pub window: Window,

@@ -1,4 +1,6 @@
 // Writes a scene into a lent buffer: the blocks of document 01, by the table of parts and the places that the reader goes by.
+#![tactic(auto)]
+
 ghost use Rattle.std.specs.Prelude.{◌≡◌, ◌*◌, ◌≤◌, length};
 ghost use Rattle.base.specs.Loop.{stored};
 ghost use Rattle.files.specs.Files.{blocks_for};
@@ -10,7 +12,7 @@ use files::{Counted, Counts};
 use window::Window;
 
 // What a recorder is handed: refusal 0 and how many bytes the scene has; or a refusal, and 0.
-#[derive(Drop)]
+#[derive(Clone, Copy)]
 pub struct Written {
     pub refusal: u32,
     pub bytes: usize,

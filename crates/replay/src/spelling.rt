@@ -1,4 +1,5 @@
 // Reading words of a line and writing the answer. Everything here is total: what is not there reads as 0, or as nothing.
+use std::io;
 
 // A sum that does not wrap: 0 where it would.
 pub(crate) fn sum(a: usize, b: usize) -> usize {
@@ -109,21 +110,22 @@ pub(crate) fn number(line: &[u8], k: usize) -> u32 {
     decimal(word(line, k))
 }
 
-pub(crate) fn put(s: &[u8]) {
-    io::write_all(1, s);
+pub(crate) fn put(rt: &impl Print, s: &[u8]) -> io::Result<()> {
+    rt.write_all(s)
 }
 
-pub(crate) fn put_number(n: u32) {
-    io::print_decimal(1, n as u64);
+pub(crate) fn put_number(rt: &impl Print, n: u32) -> io::Result<()> {
+    print!(rt; "{n}")
 }
 
 // What stands in front of an answer where a call is refused: nothing where it is not.
-pub(crate) fn put_refusal(n: u32) {
+pub(crate) fn put_refusal(rt: &impl Print, n: u32) -> io::Result<()> {
     if n != 0 {
-        put(b"refused ");
-        put_number(n);
-        put(b" ");
+        put(rt, b"refused ")?;
+        put_number(rt, n)?;
+        put(rt, b" ")?;
     }
+    Ok(())
 }
 
 fn hex_digit(d: u64) -> u8 {
@@ -134,16 +136,16 @@ fn hex_digit(d: u64) -> u8 {
     b'a' + (n - 10)
 }
 
-pub(crate) fn put_hex(v: u64) {
+pub(crate) fn put_hex(rt: &impl Print, v: u64) -> io::Result<()> {
     let mut out = [b'0'; 16];
     let mut left = v;
     for i in 0..16 {
         out[15 - i] = hex_digit(left);
         left /= 16;
     }
-    put(&out);
+    put(rt, &out)
 }
 
-pub(crate) fn put_float(x: f64) {
-    put_hex(floats::bits_of_float(x));
+pub(crate) fn put_float(rt: &impl Print, x: f64) -> io::Result<()> {
+    put_hex(rt, floats::bits_of_float(x))
 }

@@ -3,19 +3,20 @@ ghost use Rattle.std.specs.Prelude.{◌≤◌};
 ghost use Rattle.sweeps.specs.Lists.{room};
 
 use boxes::{Aabb, Vec3};
+use std::io;
 use sweeps::{BoxList, MoveAnswer};
 
 // The vector whose three numbers begin at the k-th word.
 fn vec3(line: &[u8], k: usize) -> Vec3 {
-    let x = crate::text::float(line, k);
-    let y = crate::text::float(line, crate::text::sum(k, 1));
-    let z = crate::text::float(line, crate::text::sum(k, 2));
+    let x = crate::spelling::float(line, k);
+    let y = crate::spelling::float(line, crate::spelling::sum(k, 1));
+    let z = crate::spelling::float(line, crate::spelling::sum(k, 2));
     Vec3 { x, y, z }
 }
 
 fn aabb(line: &[u8], k: usize) -> Aabb {
     let min = vec3(line, k);
-    let max = vec3(line, crate::text::sum(k, 3));
+    let max = vec3(line, crate::spelling::sum(k, 3));
     Aabb { min, max }
 }
 
@@ -28,7 +29,7 @@ fn held(count: usize) -> usize
 
 // The list with its count as the line has it, also where that is above its room.
 fn list(line: &[u8]) -> BoxList {
-    let count = crate::text::number(line, 12) as usize;
+    let count = crate::spelling::number(line, 12) as usize;
     let n = held(count);
     let mut list = BoxList::new();
     for i in 0..n {
@@ -41,32 +42,32 @@ fn list(line: &[u8]) -> BoxList {
 fn answer(line: &[u8]) -> MoveAnswer {
     let mover = aabb(line, 1);
     let delta = vec3(line, 7);
-    let step = crate::text::float(line, 10);
-    let grounded = crate::text::number(line, 11) == 1;
+    let step = crate::spelling::float(line, 10);
+    let grounded = crate::spelling::number(line, 11) == 1;
     list_moves::move_over_list(128, list(line), mover, delta, step, grounded)
 }
 
-fn put_vec3(v: Vec3) {
-    crate::text::put(b" ");
-    crate::text::put_float(v.x);
-    crate::text::put(b" ");
-    crate::text::put_float(v.y);
-    crate::text::put(b" ");
-    crate::text::put_float(v.z);
+fn put_vec3(rt: &impl Print, v: Vec3) -> io::Result<()> {
+    crate::spelling::put(rt, b" ")?;
+    crate::spelling::put_float(rt, v.x)?;
+    crate::spelling::put(rt, b" ")?;
+    crate::spelling::put_float(rt, v.y)?;
+    crate::spelling::put(rt, b" ")?;
+    crate::spelling::put_float(rt, v.z)
 }
 
-pub(crate) fn run(line: &[u8]) {
+pub(crate) fn run(rt: &impl Print, line: &[u8]) -> io::Result<()> {
     let a = answer(line);
-    crate::text::put_refusal(a.refusal);
-    crate::text::put(b"box");
-    put_vec3(a.result.aabb.min);
-    put_vec3(a.result.aabb.max);
-    crate::text::put(b" moved");
-    put_vec3(a.result.moved);
-    crate::text::put(b" ground ");
+    crate::spelling::put_refusal(rt, a.refusal)?;
+    crate::spelling::put(rt, b"box")?;
+    put_vec3(rt, a.result.aabb.min)?;
+    put_vec3(rt, a.result.aabb.max)?;
+    crate::spelling::put(rt, b" moved")?;
+    put_vec3(rt, a.result.moved)?;
+    crate::spelling::put(rt, b" ground ")?;
     if a.result.on_ground {
-        crate::text::put(b"1");
+        crate::spelling::put(rt, b"1")
     } else {
-        crate::text::put(b"0");
+        crate::spelling::put(rt, b"0")
     }
 }

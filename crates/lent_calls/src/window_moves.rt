@@ -24,7 +24,15 @@ pub fn move_lent(
     if movers::whole_move(mover, grounded, out.len()) {
         let q = movers::request_of(mover, step, grounded);
         let a = view::move_window(
-            records, shapes, cells, w, q.aabb, q.delta, q.step, q.on_ground, cap,
+            records,
+            shapes,
+            cells,
+            w,
+            q.aabb,
+            q.delta,
+            q.step,
+            q.on_ground,
+            cap,
         );
         return lent_numbers::move_into(out, a);
     }
@@ -51,7 +59,15 @@ pub fn move_summed_lent(
     if movers::whole_move(mover, grounded, out.len()) {
         let q = movers::request_of(mover, step, grounded);
         let a = moves::move_summed(
-            cap, records, shapes, cells, w, q.aabb, q.delta, q.step, q.on_ground,
+            cap,
+            records,
+            shapes,
+            cells,
+            w,
+            q.aabb,
+            q.delta,
+            q.step,
+            q.on_ground,
         );
         return lent_numbers::move_into(out, a);
     }
