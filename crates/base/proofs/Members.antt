@@ -3,7 +3,7 @@ use mathlib.Core.Path.{◌≡◌, ap, ◌∙◌}
 use mathlib.Core.Logic.{◌⊎◌, inl, inr}
 use mathlib.Core.List.Memᴰ
 use mathlib.Core.List.{Memᴰ}
-use Prim.Native.Nat.{ℕ, suc, ◌+◌, ◌<◌}
+use Prim.Native.Nat.{zero, ℕ, suc, ◌+◌, ◌<◌}
 use native.Mathlib.Omega.{arith}
 use Rattle.base.specs.Loop.{listed}
 
@@ -14,6 +14,7 @@ pub record Listed {A : Type 0} (a : A) (f : ℕ → A) (n i : ℕ) : Type 0 wher
 
 pub in-listed : {A : Type 0} (a : A) (f : ℕ → A) (n i : ℕ) → Memᴰ a (listed f n i) → Listed a f n i
 unfolding listed
+in-listed {A = A} a f zero i m = elim m [ ]
 in-listed a f (suc n) i m = go (Memᴰ.cases_cons m) (λ r. in-listed a f n (i + 1) r)
   where
     go : (a ≡ f i) ⊎ Memᴰ a (listed f n (i + 1)) → (Memᴰ a (listed f n (i + 1)) → Listed a f n (i + 1)) → Listed a f (suc n) i

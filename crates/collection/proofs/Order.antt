@@ -109,6 +109,7 @@ in-joined a g k j h m = let z : j ≡ 0 + j = omega arith in in-joined-at a g k 
 
 in-overlapping : (area b : Aabb) (bs : List Aabb) → Memᴰ b bs → overlap b area ≡ true → Memᴰ b (overlapping area bs)
 unfolding overlapping choose
+in-overlapping area b [] m o = elim m [ ]
 in-overlapping area b (c ∷ bs) m o = go (Memᴰ.cases_cons m) (λ n. in-overlapping area b bs n o)
   where
     put : (t : Bool) → Memᴰ b (overlapping area bs) → Memᴰ b (choose t (c ∷ overlapping area bs) (overlapping area bs))

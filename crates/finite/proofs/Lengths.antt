@@ -350,6 +350,7 @@ module _ (m : ℕ) (e : ℤ) (f : T (fits binary64 (fin false (suc m) e))) where
       ones d = omega arith
 
       le-mul : (x y : ℕ) → 0 < x → y ≤ x * y
+      le-mul zero y h = elim h [ ]
       le-mul (suc x) y h = omega arith
 
   root-least : (p : ℕ) → p ≤ 597 → 2 ^ p * 2 ^ p * down e ≤ suc m * up e * (b * b) → Least (root_of sum_is) (2 ^ p) b

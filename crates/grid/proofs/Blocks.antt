@@ -1,7 +1,7 @@
 -- The boxes of a settled cell, as whole numbers: each lies in its cell, or up to half a block above it, unless the cell is far above or below all that a
 -- move reaches (`block`). Assumes nothing.
 use mathlib.Core.Path.{◌≡◌, refl, sym, ap, ◌∙◌, subst}
-use mathlib.Core.Logic.{◌⊎◌, inl}
+use mathlib.Core.Logic.{inr, ◌⊎◌, inl}
 use mathlib.Core.Bool.{Bool, true, false, not, ◌&&◌, ◌||◌, false≢true}
 use mathlib.Core.List.Memᴰ
 use mathlib.Core.List.{List, [], Memᴰ}
@@ -315,6 +315,7 @@ module _ (records : List ℕ) (shapes : List Float) (words : List ℕ) (w : Wind
   settled-place p b m = go (cell_shape look records p) refl m
     where
       go : (a : Ask CellShape) → cell_shape look records p ≡ a → Memᴰ b (settled shapes p a) → InColumn w p
+      go (refused _) e m = elim m [ ]
       go (found shape) e m = in-column words w p W (cell-inside words w records p shape e)
 
   -- what holds of a cube, and of every box of the shapes that passes, holds of each box of a cell
@@ -325,6 +326,7 @@ module _ (records : List ℕ) (shapes : List Float) (words : List ℕ) (w : Wind
     shape_at cube g m = go (Memᴰ.cases_cons m)
       where
         go : (b ≡ cube_at p) ⊎ Memᴰ b [] → Here b
+        go (inr x3) = elim x3 [ ]
         go (inl e) = subst Here (sym e) cubes
     shape_at (boxes first count) g m =
         let part = boxes_at shapes first count in
@@ -338,6 +340,7 @@ module _ (records : List ℕ) (shapes : List Float) (words : List ℕ) (w : Wind
     settled-box m = go (cell_shape look records p) refl m
       where
         go : (a : Ask CellShape) → cell_shape look records p ≡ a → Memᴰ b (settled shapes p a) → Here b
+        go (refused _) e m = elim m [ ]
         go (found shape) e m =
             let i = in-column words w p W (cell-inside words w records p shape e) in
             shape_at shape (subst (λ (a : Ask CellShape). T (settled_passes good shapes a)) e (tested p i)) m

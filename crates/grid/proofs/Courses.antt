@@ -92,6 +92,7 @@ record Among (o : Aabb) (P : Box → Type 0) : Type 0 where
   holds : P box
 
 among : (o : Aabb) (fs : List Aabb) (ws : List Box) (P : Box → Type 0) → OnAll fs ws → Memᴰ o fs → All P ws → Among o P
+among o [] ws P F m a = elim m [ ]
 among o (f ∷ fs) [] P F m a = absurd F
 among o (f ∷ fs) (w ∷ ws) P F m a = go (Memᴰ.cases_cons m) (λ n. among o fs ws P F.1 n a.1)
   where

@@ -5,7 +5,7 @@ use mathlib.Core.Logic.{◌⊎◌, inl, inr}
 use mathlib.Core.Bool.{Bool, true, false, not, ◌&&◌}
 use mathlib.Core.List.Memᴰ
 use mathlib.Core.List.{List, [], ◌∷◌, Memᴰ}
-use Prim.Native.Nat.{ℕ, suc, ◌+◌, ◌*◌, ◌^◌, ◌≤◌, ◌<◌}
+use Prim.Native.Nat.{zero, ℕ, suc, ◌+◌, ◌*◌, ◌^◌, ◌≤◌, ◌<◌}
 use native.Mathlib.Omega.{arith}
 use lib.Dec.{T, eqb, eqb→eq, T_not, not_T}
 use lib.Ieee.{Float, lt}
@@ -58,6 +58,7 @@ record OneOf {A I : Type 0} (a : A) (g : I → List A) : Type 0 where
 
 in_one : {A : Type 0} (a : A) (g : ℕ → List A) (k i : ℕ) → Memᴰ a (appended g k i) → OneOf a g
 unfolding appended
+in_one {A = A} a g zero i m = elim m [ ]
 in_one a g (suc k) i m = go (Memᴰ.append_cases (g i) m) (λ n. in_one a g k (i + 1) n)
   where
     go : Memᴰ a (g i) ⊎ Memᴰ a (appended g k (i + 1)) → (Memᴰ a (appended g k (i + 1)) → OneOf a g) → OneOf a g
@@ -88,6 +89,7 @@ of-overlapping area b (c ∷ bs) m = go (overlap c area) m (λ n. of-overlapping
 -- ---- lists, box by box
 pub free-at : (m o : Aabb) (bs : List Aabb) → Memᴰ o bs → T (is_free m bs) → T (not (overlap m o))
 unfolding is_free
+free-at m o [] n t = elim n [ ]
 free-at m o (b ∷ bs) n t = go (Memᴰ.cases_cons n) (λ r. free-at m o bs r (and_r (not (overlap m b)) (is_free m bs) t))
   where
     go : (o ≡ b) ⊎ Memᴰ o bs → (Memᴰ o bs → T (not (overlap m o))) → T (not (overlap m o))
@@ -114,6 +116,7 @@ all_known (b ∷ bs) h =
 -- what is in the list overlaps the area
 overlaps-area : (area b : Aabb) (bs : List Aabb) → Memᴰ b (overlapping area bs) → T (overlap b area)
 unfolding overlapping choose
+overlaps-area area b [] m = elim m [ ]
 overlaps-area area b (c ∷ bs) m = go (overlap c area) refl m (λ n. overlaps-area area b bs n)
   where
     put : (b ≡ c) ⊎ Memᴰ b (overlapping area bs) → overlap c area ≡ true → (Memᴰ b (overlapping area bs) → T (overlap b area)) → T (overlap b area)

@@ -152,11 +152,14 @@ overlap-turn a b t =
     go (lt a.min.x b.max.x) (lt b.min.x a.max.x) (lt a.min.y b.max.y) (lt b.min.y a.max.y) (lt a.min.z b.max.z) (lt b.min.z a.max.z) t
   where
     go : (x x' y y' z z' : Bool) → T (not ((x && x') && ((y && y') && (z && z')))) → T (not ((x' && x) && ((y' && y) && (z' && z))))
-    go false x' y y' z z' t = elim x' [ true ↦ tt | false ↦ tt ]
+    go false true y y' z z' t = tt
+    go false false y y' z z' t = tt
     go true false y y' z z' t = tt
-    go true true false y' z z' t = elim y' [ true ↦ tt | false ↦ tt ]
+    go true true false true z z' t = tt
+    go true true false false z z' t = tt
     go true true true false z z' t = tt
-    go true true true true false z' t = elim z' [ true ↦ tt | false ↦ tt ]
+    go true true true true false true t = tt
+    go true true true true false false t = tt
     go true true true true true false t = tt
     go true true true true true true t = t
 

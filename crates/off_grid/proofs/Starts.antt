@@ -124,9 +124,12 @@ near : 33554432 * one + 4 * (128 * one) + 4 * unit < 2 ^ 54 * unit
 unfolding one unit
 near = lit< tt
 
+among : (P : Aabb → Type 0) (b : Aabb) (bs : List Aabb) → All P bs → Memᴰ b bs → P b
+among P b bs h (Memᴰ.head e) = subst P (sym e) h.0
+among P b bs h (Memᴰ.tail {xs = xs} m) = among P b xs h.1 m
+
 pub all_of : (P : Aabb → Type 0) (bs : List Aabb) (b : Aabb) → All P bs → Memᴰ b bs → P b
-all_of P bs b h (Memᴰ.head e) = subst P (sym e) h.0
-all_of P bs b h (Memᴰ.tail {xs = xs} m) = all_of P xs b h.1 m
+all_of P bs b h m = among P b bs h m
 
 pub all_from : (P : Aabb → Type 0) (bs : List Aabb) → ((b : Aabb) → Memᴰ b bs → P b) → All P bs
 all_from P [] h = tt

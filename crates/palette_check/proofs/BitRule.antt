@@ -26,16 +26,14 @@ turns s k = eqb (kind (fence_link s k)) (kind s) && every 4 (bits s k)
 abbrev right : ℕ → Bool
 right n = every 8 (turns (n + 2)) && (eqb (fence_link (n + 2) 8) (n + 2) && eqb (fence_link (n + 2) 9) (n + 2))
 
-all_right : every 48 right ≡ true
-unfolding every choose kind index bit bit_at fence_link
-all_right = refl
-
 pub record Rule (s k : ℕ) : Type 0 where
   pub same : kind (fence_link s k) ≡ kind s
   pub digit : (p : ℕ) → p < 4 → bit_at (index (fence_link s k)) p ≡ named s k p
 
 pub rule : (n k : ℕ) → n < 48 → k < 8 → Rule (n + 2) k
+unfolding every choose kind index bit bit_at fence_link
 rule n k h g =
+    let all_right : every 48 right ≡ true = refl in
     let a = both (every 8 (turns (n + 2))) _ (every-at 48 right all_right n h) in
     let b = both (eqb (kind (fence_link (n + 2) k)) (kind (n + 2))) (every 4 (bits (n + 2) k)) (every-at 8 (turns (n + 2)) a.one k g) in
     record { same = eqb-true _ _ b.one; digit = λ p l. eqb-true _ _ (every-at 4 (bits (n + 2) k) b.two p l) }

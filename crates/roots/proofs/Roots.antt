@@ -73,6 +73,7 @@ raised-now U n k e lo hi s = record { M = n; q = nearest_root n; k = k; is = rec
 
 -- a four less in the power is a four more in n
 four : (n k : ℕ) → 0 < k → n * (2 ^ k * 2 ^ k) ≡ 4 * n * (2 ^ (k - 1) * 2 ^ (k - 1))
+four n zero h = elim h [ ]
 four n (suc k) h = ap (λ (x : ℕ). n * (x * x)) (pow-succ' 2 k) ∙ at n (2 ^ k) ∙ ap (λ (x : ℕ). 4 * n * (2 ^ x * 2 ^ x)) (one k)
   where
     at : (n p : ℕ) → n * (2 * p * (2 * p)) ≡ 4 * n * (p * p)
@@ -123,6 +124,7 @@ in-units m (pos k) F = record {
     at k = omega arith
 
     bound : (m p x D : ℕ) → 0 < m → m * p ≤ x → x < D → p < D
+    bound zero p x D h l g = elim h [ ]
     bound (suc m) p x D h l g = omega arith
 
     below : (k : ℕ) → 2 ^ k < 2 ^ 1024 → k < 1024
@@ -175,6 +177,8 @@ root-raised m e F =
     (let l = u.least in omega arith) (let l = u.most in omega arith)
   where
     enough : (m p D : ℕ) → 0 < m → 0 < p → D ≤ m * p * D
+    enough zero p D h l = elim h [ ]
+    enough (suc m) zero D h l = elim l [ ]
     enough (suc m) (suc p) D h l = omega arith
 
     -- D stands for 2 ^ 53, and E for 2 ^ 106

@@ -4,3 +4,4 @@ pub mod Cells
 pub mod Sums
 pub mod Floors
 pub mod Laws
+pub mod Same

@@ -137,11 +137,15 @@ whole_is s m e t z =
     ∙ ap (λ (n : ℕ). round binary64 s n 1) (sym (whole-size s a c (down_pos e) z))
 
 pub whole-floor : (x : Float) → T (is_finite x) → T (fits binary64 x) → eq (rem binary64 x one_f) zero_f ≡ true → x ≡ floor_of x
+whole-floor nan i t h = elim i [ ]
+whole-floor (inf _) i t h = elim i [ ]
 whole-floor (fin s m e) i t h = whole_is s m e t (is_zero (rem binary64 (fin s m e) one_f) s (m * up e % down e) (down e) (rem-val binary64 s m e t) h)
 
 pub low-floor : (x : Float) → T (is_finite x) → T (fits binary64 x) → eq (rem binary64 x one_f) zero_f ≡ false → lt (rem binary64 x one_f) zero_f ≡ true
     → sub binary64 (sub binary64 x (rem binary64 x one_f)) one_f ≡ floor_of x
 unfolding floor_of
+low-floor nan i t h l = elim i [ ]
+low-floor (inf _) i t h l = elim i [ ]
 low-floor (fin false m e) i t h l = absurd (false≢true (below-zero (rem binary64 (fin false m e) one_f) false (m * up e % down e) (down e) (rem-val binary64 false m e t) l))
 low-floor (fin true m e) i t h l =
     let n = not-zero (rem binary64 (fin true m e) one_f) true (m * up e % down e) (down e) (down_pos e) (rem-val binary64 true m e t) h in
@@ -150,6 +154,8 @@ low-floor (fin true m e) i t h l =
 pub high-floor : (x : Float) → T (is_finite x) → T (fits binary64 x) → eq (rem binary64 x one_f) zero_f ≡ false → lt (rem binary64 x one_f) zero_f ≡ false
     → sub binary64 x (rem binary64 x one_f) ≡ floor_of x
 unfolding floor_of floor_size
+high-floor nan i t h l = elim i [ ]
+high-floor (inf _) i t h l = elim i [ ]
 high-floor (fin false m e) i t h l = cut-is binary64 false m e t
 high-floor (fin true m e) i t h l =
     absurd (true≢false (not-below-zero (rem binary64 (fin true m e) one_f) true (m * up e % down e) (down e) (rem-val binary64 true m e t) l

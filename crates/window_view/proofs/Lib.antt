@@ -1,2 +1,1 @@
 -- How a view is taken apart.
-pub mod Apart

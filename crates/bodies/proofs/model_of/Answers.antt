@@ -1,0 +1,21 @@
+-- `bodies::model_of` meets its contract. Assumes nothing.
+use Rattle.bodies.specs.Body.{model_of}
+use Rattle.base.specs.Choose.{choose}
+use borrow.Author.Tests.{eq-eqb, ne_eqb}
+use Rattle.bodies.proofs.model_of.Goals as goal
+
+pub returns-then-number-eq0 : goal.returns-then-number-eq0
+unfolding model_of choose
+returns-then-number-eq0 c = rw (eq-eqb _ _ c.if-number-eq0.true)
+
+pub returns-then-number-eq1 : goal.returns-then-number-eq1
+unfolding model_of choose
+returns-then-number-eq1 c = rw (ne_eqb _ _ c.if-number-eq0.false, eq-eqb _ _ c.if-number-eq1.true)
+
+pub returns-then-number-eq2 : goal.returns-then-number-eq2
+unfolding model_of choose
+returns-then-number-eq2 c = rw (ne_eqb _ _ c.if-number-eq0.false, ne_eqb _ _ c.if-number-eq1.false, eq-eqb _ _ c.if-number-eq2.true)
+
+pub returns : goal.returns
+unfolding model_of choose
+returns c = rw (ne_eqb _ _ c.if-number-eq0.false, ne_eqb _ _ c.if-number-eq1.false, ne_eqb _ _ c.if-number-eq2.false)

@@ -1,0 +1,134 @@
+-- `collection::collect_up_to` meets its contract: its loops over layers, lines, cells and a cell's boxes have left what `Collects.antt` says.
+-- Assumes nothing.
+use mathlib.Core.Path.{◌≡◌, refl, sym, ap, ◌∙◌}
+use mathlib.Core.Logic.{⊎_elim}
+use mathlib.Core.List.{List, []}
+use Prim.Native.Nat.{ℕ, ◌+◌, ◌-◌, ◌<◌}
+use native.Mathlib.Omega.{arith}
+use lib.ListN.{take}
+use Rattle.boxes.specs.declared.Aabb.{Aabb}
+use Rattle.sweeps.specs.declared.BoxList.{BoxList}
+use Rattle.sweeps.specs.Lists.{room}
+use Rattle.window.specs.Look.{look_at}
+use Rattle.tables.specs.Tables.{boxes_at}
+use Rattle.solids.specs.Parts.{nth_aabb, shape_asked}
+use Rattle.collection.specs.Collect.{push}
+use Rattle.collection.specs.Past.{none}
+use Rattle.collection.proofs.Collects.{Room, all_past, layers_from, lines_from, cells_from, boxes_from, walk_begins, layer-begins, line-begins, cells-turn, cell-begins, cell-refused, box-next, boxes-end, cells-end, lines_end, layers-end, kept, passed, box-refused, full, empty-list, collected, not-collected}
+use Rattle.collection.proofs.Past.{all-on, all_end}
+use Rattle.collection.proofs.collect_up_to.Goals as goal
+use Rattle.collection.proofs.collect_up_to.Goals.{then-intersects+else-i-most, else-intersects}
+
+pub loop-y-init : goal.loop-y-init
+loop-y-init c =
+    let e = empty-list _ c.new-list.ensures in
+    let f = push c.counted-most.result in
+    (e.0, walk_begins f _ _ _ _ _ _ _ ∙ ap (all_past f _ _ _ _ _ _) e.1)
+
+pub loop-x-init : goal.loop-x-init
+loop-x-init c = let i = c.loop-y.invariant in (i.0, sym (layer-begins (push c.counted-most.result) _ _ _ _ _ _ _ _ c.loop-y-test.true) ∙ i.1)
+
+pub loop-z-init : goal.loop-z-init
+loop-z-init c = let i = c.loop-x.invariant in (i.0, sym (line-begins (push c.counted-most.result) _ _ _ _ _ _ _ _ _ (all-on _ _ c.loop-x-test.true)) ∙ i.1)
+
+pub returns-in-Refused : goal.returns-in-Refused
+returns-in-Refused c =
+    let most = c.counted-most.result in
+    let i = c.loop-z.invariant in
+    let turn = cells-turn (push most) _ _ _ _ _ _ _ _ _ _ c.loop-z-test.true _ c.place-p.ensures in
+    let shape = sym c.part_at.ensures ∙ ap shape_asked c.in-Refused.is in
+    let stop = cell-refused (push most) _ _ _ _ _ _ _ _ turn c.in-Refused.n shape in
+    rw c.counted-most.ensures at (c.refused.ensures ∙ not-collected _ most _ _ _ _ _ _ (sym stop ∙ i.1))
+
+pub loop-k-init : goal.loop-k-init
+loop-k-init c =
+    let f = push c.counted-most.result in
+    let i = c.loop-z.invariant in
+    let turn = cells-turn f _ _ _ _ _ _ _ _ _ _ c.loop-z-test.true _ c.place-p.ensures in
+    let shape = sym c.part_at.ensures ∙ ap shape_asked c.in-Is.is in
+    let begun = cell-begins f _ _ _ _ _ _ _ _ turn c.in-Is.s _ _ shape refl c.count_in-n.ensures in
+    (i.0, sym begun ∙ i.1)
+
+pub returns-then-i-most : goal.returns-then-i-most
+returns-then-i-most c =
+    let most = c.counted-most.result in
+    let i = c.loop-k.invariant in
+    let more = full room _ _ i.0 most _ _ c.if-i-most.true (sym c.intersects.ensures ∙ c.if-intersects.true) in
+    let stop = box-refused (push most) _ _ _ _ _ _ _ c.loop-k-test.true c.box_in-b.ensures 6 more in
+    rw c.counted-most.ensures at (c.refused-then-i-most.ensures ∙ not-collected _ most _ _ _ _ _ 6 (sym stop ∙ i.1))
+
+pub offset_bounds-list-i : goal.offset_bounds-list-i
+offset_bounds-list-i c =
+    let p = c.counted-most.ensures in
+    let i = c.loop-k.invariant.0.whole in
+    omega arith
+
+pub bounds-list-i : goal.bounds-list-i
+bounds-list-i c =
+    let p = c.counted-most.ensures in
+    let i = c.loop-k.invariant.0.whole in
+    omega arith
+
+pub overflow_add-list : goal.overflow_add-list
+overflow_add-list c =
+    let p = c.counted-most.ensures in
+    let i = c.loop-k.invariant.0.whole in
+    omega arith
+
+pub overflow_step-k : goal.overflow_step-k
+overflow_step-k c = omega arith
+
+pub loop-k-smaller : goal.loop-k-smaller
+loop-k-smaller c = omega arith
+
+pub loop-k-preserved : goal.loop-k-preserved
+loop-k-preserved c =
+    let most = c.counted-most.result in
+    let l = c.loop-k.list in
+    let m = c.if-intersects.list in
+    let i = c.loop-k.invariant in
+    let o = sym c.intersects.ensures in
+    let boxes-in : BoxList → List Aabb = λ x. x.boxes in
+    let count-in : BoxList → ℕ = λ x. x.count in
+    elim c.if-intersects.branch [
+      | then-intersects+else-i-most w ↦
+          let b : l.count < most = w.if-i-most.false in
+          let went = kept room most _ _ l.boxes m.boxes l.count m.count i.0 (ap boxes-in w.list-is) (ap count-in w.list-is) (omega arith) b (o ∙ w.if-intersects.true) in
+          (went.0, sym (box-next (push most) _ _ _ _ _ _ _ c.loop-k-test.true c.box_in-b.ensures _ went.1) ∙ i.1)
+      | else-intersects w ↦
+          let went = passed room most _ _ l.boxes m.boxes l.count m.count i.0 (ap boxes-in w.list-is) (ap count-in w.list-is) (o ∙ w.if-intersects.false) in
+          (went.0, sym (box-next (push most) _ _ _ _ _ _ _ c.loop-k-test.true c.box_in-b.ensures _ went.1) ∙ i.1)
+    ]
+
+pub overflow_step-z : goal.overflow_step-z
+overflow_step-z c = let h : c.loop-z.z < c.args.r.z.count = c.loop-z-test.true in omega (arith, c.well_formed.1.1.1.1.1.1)
+
+pub loop-z-smaller : goal.loop-z-smaller
+loop-z-smaller c = omega arith
+
+pub loop-z-preserved : goal.loop-z-preserved
+loop-z-preserved c = let i = c.loop-k.invariant in (i.0, sym (boxes-end (push c.counted-most.result) _ _ _ _ _ _ c.loop-k-test.false) ∙ i.1)
+
+pub overflow_step-x : goal.overflow_step-x
+overflow_step-x c = let h : c.loop-x.x < c.args.r.x.count = c.loop-x-test.true in omega (arith, c.well_formed.1.1.1.1.1.1)
+
+pub loop-x-smaller : goal.loop-x-smaller
+loop-x-smaller c = omega arith
+
+pub loop-x-preserved : goal.loop-x-preserved
+loop-x-preserved c = let i = c.loop-z.invariant in (i.0, sym (cells-end (push c.counted-most.result) _ _ _ _ _ _ _ _ _ _ c.loop-z-test.false) ∙ i.1)
+
+pub overflow_step-y : goal.overflow_step-y
+overflow_step-y c = let h : c.loop-y.y < c.args.r.y.count = c.loop-y-test.true in omega (arith, c.well_formed.1.1.1.1.1.1)
+
+pub loop-y-smaller : goal.loop-y-smaller
+loop-y-smaller c = omega arith
+
+pub loop-y-preserved : goal.loop-y-preserved
+loop-y-preserved c = let i = c.loop-x.invariant in (i.0, sym (lines_end (push c.counted-most.result) _ _ _ _ _ _ _ _ _ (all_end _ _ c.loop-x-test.false)) ∙ i.1)
+
+pub returns : goal.returns
+returns c =
+    let most = c.counted-most.result in
+    let i = c.loop-y.invariant in
+    rw c.counted-most.ensures at (collected _ most _ _ _ _ _ room _ _ i.0 (sym (layers-end (push most) _ _ _ _ _ _ _ _ c.loop-y-test.false) ∙ i.1))

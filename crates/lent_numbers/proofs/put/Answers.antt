@@ -1,0 +1,7 @@
+-- `lent_numbers::put` meets its contract. Assumes nothing.
+use mathlib.Core.Path.{sym}
+use lib.Seq.{set_out}
+use Rattle.lent_numbers.proofs.put.Goals as goal
+
+pub returns-else-i-out : goal.returns-else-i-out
+returns-else-i-out c = sym (set_out c.args.out.now _ _ c.if-i-out.false)

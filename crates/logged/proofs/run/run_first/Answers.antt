@@ -1,0 +1,24 @@
+-- `logged::run::run_first` meets its contract. Assumes nothing.
+use mathlib.Core.Path.{sym, ap, ◌∙◌}
+use Rattle.base.specs.Loop.{stored}
+use Rattle.files.proofs.Scenes.{are}
+use Rattle.logs.specs.Logs.{is_log, log_of, log_asked}
+use Rattle.minute_state.specs.Minute.{State, lines_as_numbers}
+use Rattle.minute_state.specs.Turns.{minute_of}
+use Rattle.logged.proofs.Files.{no-first, first-log}
+use Rattle.logged.proofs.run.run_first.Goals as goal
+
+pub returns-in-Unfit : goal.returns-in-Unfit
+unfolding stored lines_as_numbers
+returns-in-Unfit c =
+    let e = no-first c.args.file.now c.args.events (ap log_asked (sym c.in-Unfit.is) ∙ c.log_of.ensures) in
+    record { value = c.refused_log.ensures ∙ ap minute_of e; feet_after = ap (λ (k : State). stored c.args.feet.now 0 (lines_as_numbers k.lines)) e }
+
+pub returns-in-Is : goal.returns-in-Is
+returns-in-Is c =
+    let a = c.args in
+    let e = ap log_asked (sym c.in-Is.is) ∙ c.log_of.ensures in
+    let t = (are (is_log a.file.now) _ (log_of a.file.now) e).test in
+    let same = first-log a.file.now _ c.args.events e in
+    let ran = rw c.first_of.ensures at c.run_with.ensures in
+    record { value = ran.value t ∙ ap minute_of same; feet_after = ran.feet_after t ∙ ap (λ (k : State). stored a.feet.now 0 (lines_as_numbers k.lines)) same }

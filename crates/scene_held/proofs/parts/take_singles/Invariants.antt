@@ -1,0 +1,18 @@
+-- `scene_held::parts::take_singles` meets its contract. Assumes nothing.
+use lib.Ieee.{Float, of_bits, binary32}
+use Rattle.blocks.specs.Blocks.{part_word}
+use Rattle.base.proofs.Fill.{turn, whole}
+use Rattle.base.specs.Loop.{listed}
+use native.Mathlib.Omega.{arith}
+use lib.ListN.{length, take, length-set}
+use Prim.Native.Nat.{ℕ, ◌-◌, ◌≤◌}
+use native.Mathlib.Nat.{sub-zero}
+use mathlib.Core.List.{◌++◌}
+use mathlib.Core.Path.{◌≡◌, refl, ap}
+use Rattle.scene_held.proofs.parts.take_singles.Given as goal
+
+abbrev pub invariant-loop-i : goal.invariant-loop-i
+invariant-loop-i l = (l.i ≤ l.n) × (l.n ≤ l.p.words) × (l.n ≤ length l.to) × (length l.to ≡ length l.initial.to) × (take l.i l.to ++ listed (λ k. of_bits binary32 (part_word l.file l.p k)) (l.n - l.i) l.i ≡ listed (λ k. of_bits binary32 (part_word l.file l.p k)) l.n 0)
+
+abbrev pub decreases-loop-i : goal.decreases-loop-i
+decreases-loop-i l = l.n - l.i
