@@ -1,8 +1,8 @@
 /* Boltjuniper for hosts in C: the functions of crates/exports that a host calls, and those of crates/shown, crates/recorder, crates/classroom,
-   crates/servers and crates/minutes. Link target/staticlib/libexports.a (`rt staticlib exports`) and libm; for boltjuniper_collected also
-   target/staticlib/libshown.a (`rt staticlib shown`), for the classroom palette target/staticlib/libclassroom.a (`rt staticlib classroom`), for
-   the midnight run of two parties target/staticlib/libservers.a (`rt staticlib servers`), and for a minute target/staticlib/libminutes.a
-   (`rt staticlib minutes`). A recorder needs target/staticlib/librecorder.a alone (`rt staticlib recorder`), and libm.
+   crates/servers and crates/minutes. Link target/staticlib/libexports.a and libm; for boltjuniper_collected also target/staticlib/libshown.a, for
+   the classroom palette target/staticlib/libclassroom.a, for the midnight run of two parties target/staticlib/libservers.a, and for a minute
+   target/staticlib/libminutes.a. A recorder needs target/staticlib/librecorder.a alone, and libm. hosts/build proves and writes them all, and
+   `hosts/build recorder` that one (`rt lib` in crates/recorder leaves the same file in crates/recorder/out). They are for x86-64.
 
    A slice is a pointer and its number of elements, aligned as its type asks. Nothing beyond that number is read or written, what is handed
    in is only read, and `out` must not overlap it. Every call ends, and every input gets an answer: 0, or the number of a refusal

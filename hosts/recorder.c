@@ -1,6 +1,6 @@
 /* A small recorder: it lends its tables, a window and a body, and writes the scene to the file that it is told, and to a second file the log of a minute.
    A real one fills the same arrays from its server: the scene once a tick, or when a minute begins; the events as they come, and the log when it is over.
-   Link target/staticlib/librecorder.a (`rt staticlib recorder`) and libm.
+   Link target/staticlib/librecorder.a (`hosts/build recorder` writes it) and libm.
 
        cc hosts/recorder.c target/staticlib/librecorder.a -lm -o recorder && ./recorder case-a.scn && ./run onetick < case-a.scn */
 #include "boltjuniper.h"
