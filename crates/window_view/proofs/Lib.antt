@@ -1,1 +1,2 @@
 -- How a view is taken apart.
+pub mod Apart
