@@ -1,5 +1,5 @@
 // What a host's calls do over a window and lent numbers: lengths and room first, and what is refused of them in order, then the entry below, and its
-// answer written. drift.rt has the currents, through.rt the moves, tick.rt the steps, falling.rt the steps with a fall record.
+// answer written. drift.rt has the currents, window_moves.rt the moves, tick.rt the steps, falling.rt the steps with a fall record.
 #![tactic(auto)]
 
 mod drift;
