@@ -66,7 +66,7 @@ pub fn check_of(block: &[u8]) -> u32
     sum
 }
 
-// (k + 1) times a word, wrapping at 2^32. The kit wraps sums alone, so the product is taken in 64 bits.
+// (k + 1) times a word, wrapping at 2^32: the product is taken in 64 bits and cut.
 fn weighted(k: u8, w: u32) -> u32
     ensures { result ≡ (k + 1) * w % 4294967296 }
 {

@@ -19,8 +19,8 @@ pub extern "C" fn boltjuniper_move_over(
     lent_moves::move_over_any(boxes, mover, step, grounded, out)
 }
 
-// For a host: `boxes` has six numbers to a box, `mover` is the box and its delta, nine numbers, and `ground` is 1 where the body was on the
-// ground, else 0; `cap` is how many boxes there may be, 0 to 512, where 0 stands for 512. It writes ten numbers and returns 0, or writes nothing
+// For a host: `boxes` has six numbers to a box, `mover` is the box and its delta, nine numbers, and `grounded` is 1 where the body was on
+// the ground, else 0; `cap` is how many boxes there may be, 0 to 512, where 0 stands for 512. It writes ten numbers and returns 0, or writes nothing
 // and returns 3, 4, 11 or 6.
 #[unsafe(no_mangle)]
 pub extern "C" fn boltjuniper_move_over_list(

@@ -4,8 +4,8 @@ ghost use Rattle.window.specs.Numbers.{window_of};
 ghost use Rattle.lent_numbers.specs.Written.{written_by};
 ghost use Rattle.lent_calls.specs.Moves.{move_at};
 
-// The move of a box through a window, for a host: `mover` is the box and its delta, nine numbers, and `ground` is 1 where the body was on the
-// ground, else 0; `cap` is how many boxes it may collect, 0 to 512, where 0 stands for 512. It writes ten numbers and returns 0, or writes
+// The move of a box through a window, for a host: `mover` is the box and its delta, nine numbers, and `grounded` is 1 where the body was on
+// the ground, else 0; `cap` is how many boxes it may collect, 0 to 512, where 0 stands for 512. It writes ten numbers and returns 0, or writes
 // nothing and returns 1 to 4, 11, 5 or 6. Where lengths fit and there is room the move itself finds 1 to 4, so that nothing is looked at twice.
 #[unsafe(no_mangle)]
 pub extern "C" fn boltjuniper_move(

@@ -4,7 +4,7 @@
 
 use std::io;
 
-// States: 0 air, 1 a cube, 2 falling water, 3 and 4 a fence, 5 and 6 a wall, 7 a slab, 8 unregistered. A record takes two lines: what it is, and what it turns to.
+// States: 0 air, 1 a cube, 2 falling water, 3 and 4 a fence, 5 and 6 a wall, 7 a slab, 8 unregistered. A record is 20 words: 0 to 8 what it is, 9 to 18 what it turns to, 19 its full faces.
 const RECORDS: [u32; 180] = [
     1, 0x3f19999a, 0, 0, 0, 0, 0, 0, 0, 0, 0, 0, 0, 0, 0, 0, 0, 0, 0, 0, 3, 0x3f19999a, 0, 0, 0, 0,
     0, 0, 1, 0, 0, 0, 0, 0, 0, 0, 0, 0, 0, 15, 1, 0x3f19999a, 1, 8, 0, 0, 0, 0, 0, 0, 0, 0, 0, 0,

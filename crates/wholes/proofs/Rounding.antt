@@ -1,4 +1,4 @@
--- The steps of `far_floor`, on plain values: a is m * up e and c is down e, so that the size of x is a / c. Assumes nothing.
+-- The floor by what `%` 1.0 leaves behind the point, on plain values: a is m * up e and c is down e, so that the size of x is a / c. Assumes nothing.
 use mathlib.Core.Path.{◌≡◌, refl, sym, ap, ◌∙◌, subst}
 use Prim.Native.Nat.{ℕ, zero, suc, ◌+◌, ◌-◌, ◌*◌, ◌/◌, ◌%◌, ◌^◌, ◌≤◌, ◌<◌}
 use native.Mathlib.Nat.{le_of_eq, le_trans, le_of_lt, lt_of_le_of_lt, zero-lt-suc, add-zero, mul-one, one-mul, zero-mul, mod-le, mod-lt, mod-one, div-le_self, div-add-mod', mul-add-div_right, div-eq_of_lt, eq_of_mul-eq-mul_right, add-mul}
@@ -126,7 +126,7 @@ next-size a c C n = ap (λ (x : ℕ). x / c) (moved a (a / c * c) (a % c) c ((a 
     last : (r c : ℕ) → r < c → r - 1 < c
     last r c h = omega arith
 
--- ---- the three ways out of `far_floor`
+-- ---- the floor where nothing is left, and below and above zero where something is
 pub whole_is : (s : Bool) (m : ℕ) (e : ℤ) → T (fits binary64 (fin s m e)) → m * up e % down e ≡ 0 → fin s m e ≡ floor_of (fin s m e)
 unfolding floor_of
 whole_is s m e t z =
