@@ -195,8 +195,8 @@ static inline struct boltjuniper_refusals boltjuniper_refusals_of(uint64_t told)
 
 /* One tick of the scene in `file` (blocks of 512 bytes of either mark, as onetick reads them; no alignment is asked for). Writes the ten numbers of
    boltjuniper_step to `out`. Returns 0; or 8 where the file is no scene, 1, 2, 3, 4, 11, then 5, 6 or 7 at the first such event. It keeps
-   two arrays of 15,744 words of the file on the stack, and reached 164,112 bytes below its caller as an older kit compiled it (docs/STACK.md): call it
-   from a thread that has more. */
+   two arrays of 15,744 words of the file on the stack, and reaches 164,160 bytes below its caller (docs/STACK.md): call it from a thread that has
+   more. */
 uint32_t boltjuniper_tick(const uint8_t *file, size_t file_len, double *out, size_t out_len);
 
 /* The move of a box through a window: takes tables, a window, the air state, `mover` (the box x0 y0 z0 x1 y1 z1, then its delta x y z: nine
@@ -227,7 +227,7 @@ uint32_t boltjuniper_collected(const uint32_t *records, size_t records_len, cons
 /* For recorders: a scene file of what boltjuniper_step takes, of the mark 53 43 4E 32 with its two checks, for onetick and boltjuniper_tick to read. It
    is written to `out` from its first byte on, and bytes past it keep their values; 65,536 bytes hold every scene. Returns how many bytes it wrote, 512
    to a block; or a number below 512, which is a refusal: 1, 2, 3, 4, then 12 (more than 128 blocks), then 11 (an `out` too short for the scene). Where
-   no flap is present its number is written as zero. It asks for no memory, and needed less than 4 KB of the stack as an older kit compiled it. */
+   no flap is present its number is written as zero. It asks for no memory, and needs less than 4 KB of the stack. */
 uint64_t boltjuniper_write_scene(const uint32_t *records, size_t records_len, const float *shapes, size_t shapes_len, const uint32_t *cells,
                                  size_t cells_len, int32_t ox, int32_t oy, int32_t oz, uint32_t sx, uint32_t sy, uint32_t sz, int32_t lowest,
                                  int32_t highest, const double *numbers, size_t numbers_len, const uint32_t *words, size_t words_len,
