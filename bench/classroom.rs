@@ -32,7 +32,7 @@ unsafe extern "C" {
     ) -> u32;
     fn boltjuniper_collected(
         records: *const u32, records_len: usize, shapes: *const f32, shapes_len: usize, cells: *const u32, cells_len: usize, ox: i32, oy: i32,
-        oz: i32, sx: u32, sy: u32, sz: u32, lowest: i32, highest: i32, air: u32, mover: *const f64, mover_len: usize, step: f64, k: u32,
+        oz: i32, sx: u32, sy: u32, sz: u32, lowest: i32, highest: i32, air: u32, mover: *const f64, mover_len: usize, step: f64, cap: u32, k: u32,
         out: *mut f64, out_len: usize,
     ) -> u32;
 }
@@ -94,7 +94,7 @@ impl Ours {
         let mover: Vec<f64> = area.iter().copied().chain([0.0; 3]).collect();
         let (mut out, mut boxes) = ([1.0f64; 7], Vec::new());
         while (boxes.len() as f64) < out[0] {
-            match lent!(boltjuniper_collected, self, cells, mover.as_ptr(), 9, 0.0, boxes.len() as u32, out.as_mut_ptr(), 7) {
+            match lent!(boltjuniper_collected, self, cells, mover.as_ptr(), 9, 0.0, MOST_BOXES as u32, boxes.len() as u32, out.as_mut_ptr(), 7) {
                 0 if out[0] == 0.0 => break,
                 0 => boxes.push(out[1..].try_into().unwrap()),
                 refusal => return Err(refusal),
