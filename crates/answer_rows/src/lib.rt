@@ -3,47 +3,70 @@
 
 ghost use Rattle.std.specs.Prelude.{◌≡◌, ◌≤◌, length};
 ghost use Rattle.base.specs.Loop.{stored};
+ghost use Rattle.base.specs.Refusals.{asked, verdict};
+ghost use Rattle.step_answers.specs.Answers.{falling_answer};
 ghost use Rattle.answer_rows.specs.Answers.{answer_numbers, row_written, count_refusal};
 
+use base::Refusal;
+use bodies::MotionNumbers;
+use fall_rule::Fall;
 use lent_numbers::put;
 use lent_steps::{float_of, put_falling};
-use night_rows::wide;
-use step_answers::FallingAnswer;
+use step_answers::FallingTick;
 
 // How many numbers an answer has.
 const ANSWER_WIDTH: usize = 13;
 
+// 0, or the number of its refusal.
+fn number_of(answer: Result<FallingTick, Refusal>) -> u32
+    ensures { result ≡ verdict answer }
+{
+    match answer {
+        Ok(_) => 0,
+        Err(refusal) => refusal.number(),
+    }
+}
+
 // The numbers of an answer, as `answer_numbers` has them.
-fn put_answer(row: &mut [f64], a: FallingAnswer)
+fn put_answer(
+    row: &mut [f64],
+    given: MotionNumbers,
+    fall: Fall,
+    answer: Result<FallingTick, Refusal>,
+)
     requires { 1 ≤ length row.old }
-    ensures { row.new ≡ stored row.old 0 (answer_numbers a) }
+    ensures { row.new ≡ stored row.old 0 (answer_numbers (falling_answer given fall (asked answer))) }
 {
-    put(row, 0, float_of(a.step.refusal));
-    put_falling(&mut row[1..], a);
+    put(row, 0, float_of(number_of(answer)));
+    put_falling(&mut row[1..], given, fall, answer);
 }
 
-// The answer of body i, in row i of a buffer that has it.
-pub fn put_row(out: &mut [f64], i: u32, a: FallingAnswer)
-    ensures { out.new ≡ row_written out.old i a }
+/// The answer of body i, which was given this motion and this fall record, in row i of a buffer that has it. A refused body hands back what was given.
+pub fn put_row(
+    out: &mut [f64],
+    i: u32,
+    given: MotionNumbers,
+    fall: Fall,
+    answer: Result<FallingTick, Refusal>,
+)
+    ensures { out.new ≡ row_written out.old i (falling_answer given fall (asked answer)) }
 {
-    let at = wide(i) * ANSWER_WIDTH;
+    let at = i as usize * ANSWER_WIDTH;
     if at < out.len() {
-        put_answer(&mut out[at..], a);
+        put_answer(&mut out[at..], given, fall, answer);
     }
 }
 
-// 14, then 11, or 0.
-pub fn count_refusal(windows: u32, bodies: u32, room: usize) -> u32
-    ensures { result ≡ count_refusal windows bodies room }
+/// `TooMany` for more than 16 windows or 4,096 bodies, then `Room` for less room than the bodies' answers take.
+#[tactic(auto, using(base::proofs::Cases::cases), unfolding(crate::specs::Answers::count_refusal, base::specs::Choose::choose))]
+pub fn check_counts(windows: u32, bodies: u32, room: usize) -> Result<(), Refusal>
+    ensures { verdict result ≡ count_refusal windows bodies room }
 {
-    if windows > 16 {
-        return 14;
+    if windows > 16 || bodies > 4096 {
+        return Err(Refusal::TooMany);
     }
-    if bodies > 4096 {
-        return 14;
+    if room < bodies as usize * ANSWER_WIDTH {
+        return Err(Refusal::Room);
     }
-    if room < wide(bodies) * ANSWER_WIDTH {
-        return 11;
-    }
-    0
+    Ok(())
 }

@@ -4,18 +4,19 @@
 
 ghost use Rattle.std.specs.Prelude.{◌≡◌};
 ghost use Rattle.sweeps.specs.Move.{flat_square, longer, blocked_horizontally};
-ghost use Rattle.sweeps.specs.Passes.{wanted_of, gone_of, tries, next_sweep, first_sweep};
+ghost use Rattle.sweeps.specs.Passes.{axis_number, wanted_of, gone_of, tries, next_sweep, first_sweep};
 
 use boxes::Vec3;
-use sweeps::{Request, Sweep, Swept, stopped_falling};
+use sweeps::{Along, Request, Sweep, Swept, stopped_falling};
 
 // Where a move stands before its first pass.
 pub fn begun(q: Request) -> Sweep
     ensures { result ≡ first_sweep q }
 {
-    let aabb = q.aabb;
-    let delta = q.delta;
-    let start = Swept { aabb, moved: delta };
+    let start = Swept {
+        aabb: q.aabb,
+        moved: q.delta,
+    };
     Sweep {
         now: start,
         first: start,
@@ -24,75 +25,57 @@ pub fn begun(q: Request) -> Sweep
 }
 
 // The way that a pass starts with.
-pub fn wanted(pass: u32, axis: u32, q: Request, s: Swept) -> f64
-    ensures { result ≡ wanted_of pass axis q s }
+#[tactic(auto, using(base::proofs::Cases::cases), unfolding(sweeps::specs::Passes::wanted_of, base::specs::Choose::choose))]
+pub fn wanted(pass: u32, axis: Along, q: Request, s: Swept) -> f64
+    ensures { result ≡ wanted_of pass (axis_number axis) q s }
 {
-    if axis == 0 {
-        return q.delta.x;
+    match axis {
+        Along::X => q.delta.x,
+        Along::Z => q.delta.z,
+        Along::Y if pass < 3 => q.delta.y,
+        Along::Y if pass < 6 => q.step,
+        Along::Y => -s.moved.y,
     }
-    if axis == 2 {
-        return q.delta.z;
-    }
-    if pass < 3 {
-        return q.delta.y;
-    }
-    if pass < 6 {
-        return q.step;
-    }
-    -s.moved.y
 }
 
 // The attempt s after a pass that came to d.
-pub fn gone(pass: u32, axis: u32, s: Swept, d: f64) -> Swept
-    ensures { result ≡ gone_of pass axis s d }
+#[tactic(auto, using(base::proofs::Cases::cases), unfolding(sweeps::specs::Passes::gone_of, base::specs::Choose::choose))]
+pub fn gone(pass: u32, axis: Along, s: Swept, d: f64) -> Swept
+    ensures { result ≡ gone_of pass (axis_number axis) s d }
 {
-    if axis == 0 {
-        return Swept {
+    match axis {
+        Along::X => Swept {
             aabb: s.aabb.offset(Vec3::new(d, 0.0, 0.0)),
             moved: Vec3::new(d, s.moved.y, s.moved.z),
-        };
-    }
-    if axis == 2 {
-        return Swept {
+        },
+        Along::Z => Swept {
             aabb: s.aabb.offset(Vec3::new(0.0, 0.0, d)),
             moved: Vec3::new(s.moved.x, s.moved.y, d),
-        };
-    }
-    if pass < 6 {
-        return Swept {
+        },
+        Along::Y if pass < 6 => Swept {
             aabb: s.aabb.offset(Vec3::new(0.0, d, 0.0)),
             moved: Vec3::new(s.moved.x, d, s.moved.z),
-        };
-    }
-    Swept {
-        aabb: s.aabb.offset(Vec3::new(0.0, d, 0.0)),
-        moved: Vec3::new(s.moved.x, s.moved.y + d, s.moved.z),
+        },
+        Along::Y => Swept {
+            aabb: s.aabb.offset(Vec3::new(0.0, d, 0.0)),
+            moved: Vec3::new(s.moved.x, s.moved.y + d, s.moved.z),
+        },
     }
 }
 
 fn blocked_horizontally(delta: Vec3, moved: Vec3) -> bool
     ensures { result ≡ blocked_horizontally delta moved }
 {
-    if moved.x != delta.x {
-        true
-    } else {
-        moved.z != delta.z
-    }
+    moved.x != delta.x || moved.z != delta.z
 }
 
 // Whether a step-up is tried, after a first attempt that came to `moved`.
 fn tries_step(q: Request, moved: Vec3) -> bool
     ensures { result ≡ tries q moved }
 {
-    if q.step > 0.0 {
-        if q.on_ground {
-            return blocked_horizontally(q.delta, moved);
-        }
-        if stopped_falling(q.delta.y, moved.y) {
-            return blocked_horizontally(q.delta, moved);
-        }
-    }
-    false
+    q.step > 0.0
+        && (q.on_ground || stopped_falling(q.delta.y, moved.y))
+        && blocked_horizontally(q.delta, moved)
 }
 
 // The square of the way along the ground.
@@ -103,6 +86,7 @@ fn flat_square(v: Vec3) -> f64
 }
 
 // The step is kept only if it is strictly longer horizontally.
+#[tactic(auto, using(base::proofs::Cases::cases), unfolding(base::specs::Choose::choose))]
 fn longer_of(moved: Swept, stepped: Swept) -> Swept
     ensures { result ≡ longer moved stepped }
 {
@@ -113,15 +97,17 @@ fn longer_of(moved: Swept, stepped: Swept) -> Swept
 }
 
 // Where the move stands after a pass whose attempt came to `got`.
+#[tactic(auto, using(base::proofs::Cases::cases), unfolding(sweeps::specs::Passes::next_sweep, base::specs::Choose::choose))]
 pub fn next_sweep(pass: u32, q: Request, first: Swept, got: Swept) -> Sweep
     ensures { result ≡ next_sweep pass q first got }
 {
     if pass == 2 {
         if tries_step(q, got.moved) {
-            let aabb = q.aabb;
-            let moved = got.moved;
             return Sweep {
-                now: Swept { aabb, moved },
+                now: Swept {
+                    aabb: q.aabb,
+                    moved: got.moved,
+                },
                 first: got,
                 over: false,
             };

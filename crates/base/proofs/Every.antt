@@ -1,10 +1,11 @@
 -- What `every` and `any` say, number by number, and how a loop shows them. Assumes nothing.
 use mathlib.Core.Bool.{Bool, true, false, ◌&&◌, ◌||◌, true≢false, false≢true}
 use mathlib.Core.Path.{◌≡◌, refl, sym, ◌∙◌, subst}
-use Prim.Native.Nat.{ℕ, zero, suc, ◌<◌}
+use Prim.Native.Nat.{ℕ, zero, suc, ◌+◌, ◌<◌}
 use native.Mathlib.Nat.{not-suc-le-zero}
 use native.Mathlib.Decide.{dec_lt}
 use native.Mathlib.Omega.{arith}
+use Rattle.std.proofs.Common.{add-one}
 use Rattle.base.specs.Every.{every, any}
 
 -- ---- conjunctions of tests
@@ -89,3 +90,18 @@ find (suc n) p h = go (any n p) (λ e. find n p e) h
     go : (b : Bool) → (b ≡ true → Found n p) → b || p n ≡ true → Found (suc n) p
     go true again g = let r = again refl in record { at = r.at; below = omega arith; there = r.there }
     go false again g = record { at = n; below = omega arith; there = g }
+
+-- ---- a loop that goes up by one and stops at the first that fails: its invariant is `every i p ≡ true`
+pub every-none : (p : ℕ → Bool) → every 0 p ≡ true
+unfolding every
+every-none p = refl
+
+pub every-more : (n : ℕ) (p : ℕ → Bool) → every n p ≡ true → p n ≡ true → every (n + 1) p ≡ true
+unfolding every
+every-more n p h q = rw add-one (and-true (every n p) (p n) h q)
+
+pub some-zero : (p : ℕ → Bool) → any 0 p ≡ false
+unfolding any
+some-zero p = refl
+
+pub ruleset each = (every-none, every-more, every-not)

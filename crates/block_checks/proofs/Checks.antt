@@ -1,21 +1,29 @@
--- A block that is too short for a mark, and the sum that wraps. Assumes nothing.
-use Rattle.std.proofs.Common.{◌≡◌, ℕ, suc, ◌+◌, ◌*◌, ◌%◌, ◌<◌, ◌≤◌, min, Bool, true, false, List, length, take, sym, ◌∙◌, mul-le-mul, arith, length-take}
-use native.Mathlib.Nat.{mod-add-mod, add-mod-mod, mod-mod}
+-- A block's mark, and the sums that wrap. Assumes nothing.
+use Rattle.std.proofs.Common.{◌≡◌, ℕ, zero, suc, ◌+◌, ◌%◌, Bool, true, false, List, [], ◌∷◌, take, refl, sym, ◌∙◌, arith}
+use native.Mathlib.Nat.{mod-add-mod, add-mod-mod}
+use lib.Dec.{eqb}
+use Rattle.std.specs.List.{starts_with, fold, range_with_len}
+use Rattle.std.specs.Cmp.Lexicographic.{pointwise}
+use Rattle.base.proofs.Tests.{eqb-iff}
 use Rattle.base.specs.Choose.{choose}
 use Rattle.suffixes.specs.Bytes.{equal}
-use Rattle.suffixes.proofs.Bytes.{unequal}
-use Rattle.block_checks.specs.Checks.{file_word, old_mark, new_mark, marked, sum_of}
+use Rattle.block_checks.specs.Checks.{old_mark, new_mark, marked, sum_of}
 
-pub unmarked : (second : Bool) (block : List ℕ) → length block < 4 → false ≡ marked second block
+-- ---- a block starts with a mark
+same : (a b : List ℕ) → pointwise eqb b a ≡ equal a b
+unfolding equal
+same [] [] = refl
+same [] (y ∷ b) = refl
+same (x ∷ a) [] = refl
+same (x ∷ a) (y ∷ b) = rw (eqb-iff y x x y sym sym, same a b)
+
+pub starts_new : (block : List ℕ) → starts_with eqb block new_mark ≡ marked true block
 unfolding marked choose
-unmarked second block h = go second
-  where
-    shorter : (n : ℕ) → n < 4 → min 4 n ≡ 4 → ⊥
-    shorter n h e = omega arith
+starts_new block = same (take 4 block) new_mark
 
-    go : (t : Bool) → false ≡ equal (take 4 block) (choose t new_mark old_mark)
-    go true = sym (unequal (take 4 block) new_mark (λ e. shorter (length block) h (sym (length-take 4 block) ∙ e)))
-    go false = sym (unequal (take 4 block) old_mark (λ e. shorter (length block) h (sym (length-take 4 block) ∙ e)))
+pub starts_old : (block : List ℕ) → starts_with eqb block old_mark ≡ marked false block
+unfolding marked choose
+starts_old block = same (take 4 block) old_mark
 
 -- ---- one term more in a sum that wraps, wrapped itself or not
 
@@ -25,12 +33,7 @@ sum-turn f k s a e q =
     let n : k + 1 ≡ suc k = omega arith in
     rw (n, e) (mod-add-mod (sum_of f k) 4294967296 a ∙ sym (add-mod-mod (sum_of f k) a 4294967296) ∙ rw q (add-mod-mod (sum_of f k) (f k) 4294967296))
 
--- (k + 1) times a word, wrapped, is such a term
-pub weighted-turn : (block : List ℕ) (k w a : ℕ) → w ≡ file_word block k → a ≡ (k + 1) * w % 4294967296 → a % 4294967296 ≡ (k + 1) * file_word block k % 4294967296
-weighted-turn block k w a e q = rw (q, e) (mod-mod ((k + 1) * file_word block k) 4294967296)
-
--- (k + 1) times a word is of 64 bits
-pub weighted-most : (k w : ℕ) → k < 256 → w < 4294967296 → (k + 1) * w < 18446744073709551616
-weighted-most k w h l =
-    let m : (k + 1) * w ≤ 256 * 4294967296 = mul-le-mul {n₂ = 256} {m₂ = 4294967296} (omega arith) (omega arith) in
-    omega arith
+-- the sum that a fold comes to, from turn i on
+pub folded : (f g : ℕ → ℕ) → ((k : ℕ) → g k % 4294967296 ≡ f k % 4294967296) → (n i s : ℕ) → s ≡ sum_of f i % 4294967296 → fold (λ s k. (s + g k) % 4294967296) s (range_with_len i n) ≡ sum_of f (i + n) % 4294967296
+folded f g h zero i s e = let z : i + 0 ≡ i = omega arith in rw z e
+folded f g h (suc n) i s e = let z : i + suc n ≡ i + 1 + n = omega arith in rw z (folded f g h n (i + 1) ((s + g i) % 4294967296) (sum-turn f i s (g i) e (h i)))

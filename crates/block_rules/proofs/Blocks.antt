@@ -1,29 +1,17 @@
--- A block of a file: as the program takes it, its words are the file's at their place, and its bytes the file's. Assumes nothing.
+-- A block of a file: its words are the file's at their place, and its bytes the file's. Assumes nothing.
 use mathlib.Core.Bool.{Bool, true, false}
 use mathlib.Core.List.{List, []}
 use mathlib.Core.Path.{◌≡◌, ap, ◌∙◌}
-use Prim.Native.Nat.{ℕ, ◌+◌, ◌-◌, ◌*◌, ◌/◌, ◌≤◌, ◌<◌}
+use Prim.Native.Nat.{ℕ, ◌+◌, ◌*◌, ◌/◌, ◌≤◌, ◌<◌}
 use native.Mathlib.Decide.{dec_lt}
 use native.Mathlib.Omega.{arith}
 use lib.Dec.{ltb}
 use lib.ListN.{length, get_or, take, drop, length-take, get_or-eq_default}
 use lib.Seq.{get_or-take, get_or-drop}
-use borrow.Author.Tests.{lt-ltb, le-ltb}
+use borrow.Author.Tests.{lt-ltb}
 use Rattle.base.specs.Choose.{choose}
 use Rattle.block_checks.specs.Checks.{file_word}
 use Rattle.block_rules.specs.Rules.{block_of}
-
--- ---- as the program takes it
-
-pub block-there : (file : List ℕ) (b : ℕ) → b < length file / 512 → take (b * 512 + 512 - b * 512) (drop (b * 512) file) ≡ block_of file b
-unfolding block_of choose
-block-there file b h =
-    let e : b * 512 + 512 - b * 512 ≡ 512 = omega arith in
-    rw (lt-ltb b (length file / 512) h, e)
-
-pub block-missing : (file : List ℕ) (b : ℕ) → length file / 512 ≤ b → [] ≡ block_of file b
-unfolding block_of choose
-block-missing file b h = rw (le-ltb b (length file / 512) h)
 
 -- ---- its words and bytes
 

@@ -1,3 +1,3 @@
 -- Laws of this crate's definitions, on plain values.
 pub mod Blocks
-pub mod Fits
+pub mod Ranges

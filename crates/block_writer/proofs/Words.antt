@@ -3,22 +3,17 @@ use mathlib.Core.List.{List, ◌++◌}
 use mathlib.Core.Path.{◌≡◌, refl, ap}
 use Prim.Native.Nat.{ℕ, ◌+◌, ◌*◌, ◌/◌, ◌%◌, ◌<◌, ◌≤◌}
 use native.Mathlib.Omega.{arith}
-use lib.ListN.{length, take, drop, set, get_or-append}
+use lib.ListN.{length, take, drop, get_or-append}
 use Rattle.base.proofs.Appended.{appended-same, appended-length, appended-at}
-use Rattle.base.specs.Loop.{stored}
+use Rattle.std.specs.Int.{to_le_bytes, w32}
 use Rattle.block_checks.specs.Checks.{file_word, check_of, second_of}
 use Rattle.block_checks.proofs.Words.{sum_same}
 use Rattle.block_writer.specs.Bytes.{word_bytes, bytes_of}
 
--- four bytes stored one by one
-pub word-put : (l : List ℕ) (i w : ℕ)
-    → set (set (set (set l i (w % 256)) (i + 1) (w / 256 % 256)) (i + 2) (w / 65536 % 256)) (i + 3) (w / 16777216 % 256) ≡ stored l i (word_bytes w)
-unfolding stored word_bytes
-word-put l i w =
-    let e : w / 1 ≡ w = omega arith in
-    let a : i + 1 + 1 ≡ i + 2 = omega arith in
-    let b : i + 2 + 1 ≡ i + 3 = omega arith in
-    rw (e, a, b)
+-- as the library has them
+pub le-bytes : (w : ℕ) → to_le_bytes w32 w ≡ word_bytes w
+unfolding word_bytes
+le-bytes w = let e : w / 1 ≡ w = omega arith in rw e
 
 pub word-length : (w : ℕ) → length (word_bytes w) ≡ 4
 unfolding word_bytes

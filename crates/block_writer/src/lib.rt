@@ -11,27 +11,26 @@ fn put_word(block: &mut [u8], k: u32, w: u32)
     ensures { block.new ≡ stored block.old (k * 4) (word_bytes w) }
 {
     let i = k as usize * 4;
-    block[i] = (w % 256) as u8;
-    block[i + 1] = ((w >> 8) % 256) as u8;
-    block[i + 2] = ((w >> 16) % 256) as u8;
-    block[i + 3] = ((w >> 24) % 256) as u8;
+    block[i..i + 4].copy_from_slice(&w.to_le_bytes());
 }
 
 // A word that is not there is 0.
 pub fn word_in(words: &[u32], i: usize) -> u32
     ensures { result ≡ word_in words.now i }
 {
-    if i < words.len() { words[i] } else { 0 }
+    words.get(i).copied().unwrap_or(0)
 }
 
 // Word 3 + i of a block: the payload from word `from` of the part on, and zeros.
+#[tactic(auto, using(base::proofs::Cases::cases), unfolding(crate::specs::Bytes::payload_word, base::specs::Choose::choose))]
 fn payload_word(words: &[u32], from: u32, used: u32, i: u32) -> u32
     ensures { result ≡ payload_word (λ k. word_in words.now (from + k)) used i }
 {
     if i < used {
-        return word_in(words, from as usize + i as usize);
+        word_in(words, from as usize + i as usize)
+    } else {
+        0
     }
-    0
 }
 
 // Words 0 to 2: the mark, the kind and the number.
@@ -49,10 +48,8 @@ fn put_payload(block: &mut [u8], words: &[u32], from: u32, used: u32)
     requires { 504 ≤ length block.old }
     ensures { block.new ≡ stored block.old 12 (bytes_of (payload_word (λ k. word_in words.now (from + k)) used) 123) }
 {
-    let mut i = 0u32;
-    while i < 123 {
+    for i in 0..123 {
         put_word(block, 3 + i, payload_word(words, from, used, i));
-        i += 1;
     }
 }
 

@@ -27,10 +27,6 @@ per-block kind = go (eqb kind 1) (eqb kind 2) (eqb kind 3) (eqb kind 4) (eqb kin
     go false false false false true = record { least = omega arith; most = omega arith }
     go false false false false false = record { least = omega arith; most = omega arith }
 
--- the same of what the program found
-pub per-found : (r kind : ℕ) → r ≡ per_block kind → Per r
-per-found r kind e = let p = per-block kind in rw e p
-
 -- ---- how many blocks: no more than there are words, and one
 
 pub blocks-most : (p : Part) → blocks_of p ≤ p.words + 1
@@ -40,6 +36,8 @@ blocks-most p = go (eqb (p.words % per_block p.kind) 0) (p.words / per_block p.k
     go : (b : Bool) (q : ℕ) → q ≤ p.words → q + choose b 0 1 ≤ p.words + 1
     go true q h = omega arith
     go false q h = omega arith
+
+pub ruleset few = (blocks-most)
 
 -- ---- where the parts begin fits 32 bits
 
@@ -55,6 +53,8 @@ window-first s b h k = let a = boxes-first s h in let m = blocks-most (box_part 
 
 pub cells-first : (s b : ℕ) → s < 65536 → b < 65536 → end_of (window_part s b) < 4000000
 cells-first s b h k = let a = window-first s b h k in let m = blocks-most (window_part s b) in omega arith
+
+pub ruleset places = (boxes-first, window-first, cells-first)
 
 -- ---- how many words 128 blocks hold
 

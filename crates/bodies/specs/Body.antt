@@ -1,5 +1,5 @@
 -- Document 01's number for each case of an enum, and the body that a host's numbers mean.
-use Rattle.std.specs.Prelude.{Bool, true, false, ℕ, eqb, Float}
+use Rattle.std.specs.Prelude.{Bool, true, false, ℕ, eqb, Float, Option, Some, None}
 use Rattle.base.specs.Choose.{choose}
 use Rattle.bodies.specs.declared.Model.{Model}
 use Rattle.bodies.specs.declared.Model.TheVariants.{Item, Living, FallingBlock, Other}
@@ -7,8 +7,6 @@ use Rattle.bodies.specs.declared.Stage.{Stage}
 use Rattle.bodies.specs.declared.Stage.TheVariants.{BeforeMove, AfterMove, AfterDrag}
 use Rattle.bodies.specs.declared.Ground.{Ground}
 use Rattle.bodies.specs.declared.Ground.TheVariants as grounds
-use Rattle.bodies.specs.declared.Flap.{Flap}
-use Rattle.bodies.specs.declared.Flap.TheVariants as flap
 use Rattle.bodies.specs.declared.Body.{Body}
 use Rattle.bodies.specs.declared.BodyNumbers.{BodyNumbers}
 use Rattle.bodies.specs.declared.Motion.{Motion}
@@ -57,8 +55,8 @@ unfoldable pub yes_number : Bool → ℕ
 yes_number b = choose b 1 0
 
 -- Some(drag) where the flap is present
-unfoldable pub flap_of : ℕ → Float → Flap
-flap_of present drag = choose (is_yes present) (flap.Drag drag) flap.None
+unfoldable pub flap_of : ℕ → Float → Option Float
+flap_of present drag = choose (is_yes present) (Some drag) None
 
 -- ---- what the numbers mean
 

@@ -3,3 +3,4 @@ pub mod Body
 pub mod Numbers
 pub mod Limits
 pub mod Lent
+pub mod Cases

@@ -3,20 +3,22 @@
 #![tactic(auto)]
 
 ghost use Rattle.std.specs.Prelude.{◌≡◌};
+ghost use Rattle.bodies.specs.Cases.{model_read, stage_read, ground_read};
 ghost use Rattle.bodies.specs.Body.{model_of, stage_of, friction_of, is_yes, yes_number, flap_of, body_of, motion_of, with_cap, is_item, is_living, is_falling_block};
 
+use base::Refusal;
 use boxes::Vec3;
 
 mod limits;
 mod numbers;
 
-pub use limits::{is_position, number_refusal, rules_fit};
+pub use limits::{check_numbers, is_position, rules_fit};
 pub use numbers::{
-    body_from, body_refusal, lengths_fit, motion_from, number_at, rules_from, vec_from,
+    body_from, check_body, lengths_fit, motion_from, number_at, rules_from, vec_from,
 };
 
 // Motion rules that are no parameters.
-#[derive(Clone, Copy)]
+#[derive(Clone, Copy, Debug, PartialEq, Eq)]
 pub enum Model {
     Item,
     Living,
@@ -25,7 +27,7 @@ pub enum Model {
 }
 
 // When gravity comes, beside the move and the drag.
-#[derive(Clone, Copy)]
+#[derive(Clone, Copy, Debug, PartialEq, Eq)]
 pub enum Stage {
     BeforeMove,
     AfterMove,
@@ -33,20 +35,14 @@ pub enum Stage {
 }
 
 // Extra friction on the ground: none, or that of the block below.
-#[derive(Clone, Copy)]
+#[derive(Clone, Copy, Debug, PartialEq, Eq)]
 pub enum Ground {
     None,
     Block,
 }
 
-// The wing flap drag of a living body.
-#[derive(Clone, Copy)]
-pub enum Flap {
-    None,
-    Drag(f64),
-}
-
-// A body. `offset` is the network offset, `vertical` and `horizontal` are the drags, `step` is the step height.
+/// A body. `offset` is the network offset, `vertical` and `horizontal` are the drags, `step` is the step height, and `flap` a living body's wing flap
+/// drag.
 #[derive(Clone, Copy)]
 pub struct Body {
     pub width: f64,
@@ -56,7 +52,7 @@ pub struct Body {
     pub vertical: f64,
     pub horizontal: f64,
     pub step: f64,
-    pub flap: Flap,
+    pub flap: Option<f64>,
     pub model: Model,
     pub stage: Stage,
     pub friction: Ground,
@@ -107,71 +103,131 @@ pub struct MotionNumbers {
     pub on_ground: u32,
 }
 
+impl TryFrom<u32> for Model {
+    type Error = Refusal;
+
+    ghost try_from_gives = { λ number read. read ≡ model_read number };
+
+    #[tactic(auto, using(base::proofs::Cases::cases), unfolding(crate::specs::Cases::model_read, base::specs::Choose::choose))]
+    fn try_from(number: u32) -> Result<Model, Refusal> {
+        match number {
+            0 => Ok(Model::Item),
+            1 => Ok(Model::Living),
+            2 => Ok(Model::FallingBlock),
+            3 => Ok(Model::Other),
+            _ => Err(Refusal::Number),
+        }
+    }
+}
+
+impl TryFrom<u32> for Stage {
+    type Error = Refusal;
+
+    ghost try_from_gives = { λ number read. read ≡ stage_read number };
+
+    #[tactic(auto, using(base::proofs::Cases::cases), unfolding(crate::specs::Cases::stage_read, base::specs::Choose::choose))]
+    fn try_from(number: u32) -> Result<Stage, Refusal> {
+        match number {
+            0 => Ok(Stage::BeforeMove),
+            1 => Ok(Stage::AfterMove),
+            2 => Ok(Stage::AfterDrag),
+            _ => Err(Refusal::Number),
+        }
+    }
+}
+
+impl TryFrom<u32> for Ground {
+    type Error = Refusal;
+
+    ghost try_from_gives = { λ number read. read ≡ ground_read number };
+
+    #[tactic(auto, using(base::proofs::Cases::cases), unfolding(crate::specs::Cases::ground_read, base::specs::Choose::choose))]
+    fn try_from(number: u32) -> Result<Ground, Refusal> {
+        match number {
+            0 => Ok(Ground::None),
+            1 => Ok(Ground::Block),
+            _ => Err(Refusal::Number),
+        }
+    }
+}
+
+impl Model {
+    pub fn is_item(self) -> bool
+        ensures { result ≡ is_item self }
+    {
+        matches!(self, Model::Item)
+    }
+
+    pub fn is_living(self) -> bool
+        ensures { result ≡ is_living self }
+    {
+        matches!(self, Model::Living)
+    }
+
+    pub fn is_falling_block(self) -> bool
+        ensures { result ≡ is_falling_block self }
+    {
+        matches!(self, Model::FallingBlock)
+    }
+}
+
+impl Rules {
+    /// The same rules with this cap.
+    pub fn with_cap(self, cap: u32) -> Rules
+        ensures { result ≡ with_cap self cap }
+    {
+        Rules { cap, ..self }
+    }
+}
+
+#[tactic(auto, using(base::proofs::Cases::cases), unfolding(crate::specs::Body::model_of, crate::specs::Cases::model_read, base::specs::Choose::choose))]
 fn model_of(number: u32) -> Model
     ensures { result ≡ model_of number }
 {
-    if number == 0 {
-        return Model::Item;
-    }
-    if number == 1 {
-        return Model::Living;
-    }
-    if number == 2 {
-        return Model::FallingBlock;
-    }
-    Model::Other
+    Model::try_from(number).unwrap_or(Model::Other)
 }
 
+#[tactic(auto, using(base::proofs::Cases::cases), unfolding(crate::specs::Body::stage_of, crate::specs::Cases::stage_read, base::specs::Choose::choose))]
 fn stage_of(number: u32) -> Stage
     ensures { result ≡ stage_of number }
 {
-    if number == 0 {
-        return Stage::BeforeMove;
-    }
-    if number == 1 {
-        return Stage::AfterMove;
-    }
-    Stage::AfterDrag
+    Stage::try_from(number).unwrap_or(Stage::AfterDrag)
 }
 
+#[tactic(auto, using(base::proofs::Cases::cases), unfolding(crate::specs::Body::friction_of, crate::specs::Cases::ground_read, base::specs::Choose::choose))]
 fn friction_of(number: u32) -> Ground
     ensures { result ≡ friction_of number }
 {
-    if number == 1 {
-        return Ground::Block;
-    }
-    Ground::None
+    Ground::try_from(number).unwrap_or(Ground::None)
 }
 
+#[tactic(auto, unfolding(crate::specs::Body::is_yes))]
 fn is_yes(number: u32) -> bool
     ensures { result ≡ is_yes number }
 {
     number == 1
 }
 
+/// 1 for yes, 0 for no.
+#[tactic(auto, using(base::proofs::Cases::cases), unfolding(crate::specs::Body::yes_number, base::specs::Choose::choose))]
 pub fn yes_number(b: bool) -> u32
     ensures { result ≡ yes_number b }
 {
     if b { 1 } else { 0 }
 }
 
-fn flap_of(present: u32, drag: f64) -> Flap
+#[tactic(auto, using(base::proofs::Cases::cases), unfolding(crate::specs::Body::flap_of, base::specs::Choose::choose))]
+fn flap_of(present: u32, drag: f64) -> Option<f64>
     ensures { result ≡ flap_of present drag }
 {
-    if is_yes(present) {
-        return Flap::Drag(drag);
-    }
-    Flap::None
+    is_yes(present).then_some(drag)
 }
 
-// The body that a host's numbers mean.
+/// The body that a host's numbers mean.
+#[tactic(auto, unfolding(crate::specs::Body::body_of))]
 pub fn body_of(b: BodyNumbers) -> Body
     ensures { result ≡ body_of b }
 {
-    let flap = flap_of(b.flaps, b.flap);
-    let model = model_of(b.model);
-    let stage = stage_of(b.stage);
-    let friction = friction_of(b.friction);
     Body {
         width: b.width,
         height: b.height,
@@ -180,70 +236,21 @@ pub fn body_of(b: BodyNumbers) -> Body
         vertical: b.vertical,
         horizontal: b.horizontal,
         step: b.step,
-        flap,
-        model,
-        stage,
-        friction,
+        flap: flap_of(b.flaps, b.flap),
+        model: model_of(b.model),
+        stage: stage_of(b.stage),
+        friction: friction_of(b.friction),
     }
 }
 
+/// The motion that a host's numbers mean.
+#[tactic(auto, unfolding(crate::specs::Body::motion_of))]
 pub fn motion_of(m: MotionNumbers) -> Motion
     ensures { result ≡ motion_of m }
 {
-    let feet = m.feet;
-    let velocity = m.velocity;
-    let grounded = is_yes(m.on_ground);
     Motion {
-        feet,
-        velocity,
-        on_ground: grounded,
-    }
-}
-
-// The same rules with this cap.
-pub fn with_cap(rules: Rules, cap: u32) -> Rules
-    ensures { result ≡ with_cap rules cap }
-{
-    Rules {
-        friction: rules.friction,
-        depth: rules.depth,
-        gravity: rules.gravity,
-        water: rules.water,
-        lava: rules.lava,
-        air: rules.air,
-        cap,
-    }
-}
-
-pub fn is_item(model: Model) -> bool
-    ensures { result ≡ is_item model }
-{
-    match model {
-        Model::Item => true,
-        Model::Living => false,
-        Model::FallingBlock => false,
-        Model::Other => false,
-    }
-}
-
-pub fn is_living(model: Model) -> bool
-    ensures { result ≡ is_living model }
-{
-    match model {
-        Model::Item => false,
-        Model::Living => true,
-        Model::FallingBlock => false,
-        Model::Other => false,
-    }
-}
-
-pub fn is_falling_block(model: Model) -> bool
-    ensures { result ≡ is_falling_block model }
-{
-    match model {
-        Model::Item => false,
-        Model::Living => false,
-        Model::FallingBlock => true,
-        Model::Other => false,
+        feet: m.feet,
+        velocity: m.velocity,
+        on_ground: is_yes(m.on_ground),
     }
 }

@@ -8,6 +8,7 @@ ghost use Rattle.body_words.specs.Words.{is_absent, written_number, word_of_wide
 use files::{Counts, places};
 
 // Whether number k is that of a flap that is not present.
+#[tactic(auto, unfolding(crate::specs::Words::is_absent))]
 fn is_absent(words: &[u32], k: u32) -> bool
     ensures { result ≡ is_absent words.now k }
 {
@@ -15,6 +16,7 @@ fn is_absent(words: &[u32], k: u32) -> bool
 }
 
 // Number k as it is written: the flap's is zero where none is present.
+#[tactic(auto, using(base::proofs::Cases::cases), unfolding(crate::specs::Words::written_number, base::specs::Choose::choose))]
 fn written_number(numbers: &[f64], words: &[u32], k: u32) -> f64
     ensures { result ≡ written_number numbers.now words.now k }
 {
@@ -25,6 +27,7 @@ fn written_number(numbers: &[f64], words: &[u32], k: u32) -> f64
 }
 
 // The low word of a number, and at 1 the high one.
+#[tactic(auto, using(base::proofs::Cases::cases), unfolding(crate::specs::Words::word_of_wide, base::specs::Choose::choose))]
 fn word_of_wide(n: u64, j: u32) -> u32
     ensures { result ≡ word_of_wide n j }
 {
@@ -35,6 +38,7 @@ fn word_of_wide(n: u64, j: u32) -> u32
 }
 
 // Payload word i: numbers, age, words, state count, box count, and the cap as it was given.
+#[tactic(auto, using(base::proofs::Cases::cases), unfolding(crate::specs::Words::body_word_of, base::specs::Choose::choose))]
 fn body_word_of(numbers: &[f64], words: &[u32], age: u64, n: Counts, i: u32) -> u32
     ensures { result ≡ body_word_of numbers.now words.now age n i }
 {
@@ -61,10 +65,8 @@ pub fn body_words(numbers: &[f64], words: &[u32], age: u64, n: Counts) -> [u32; 
     ensures { result ≡ listed (body_word_of numbers.now words.now age n) 49 0 }
 {
     let mut body = [0; 49];
-    let mut i = 0u32;
-    while i < 49 {
+    for i in 0..49u32 {
         body[i as usize] = body_word_of(numbers, words, age, n, i);
-        i += 1;
     }
     body
 }

@@ -5,22 +5,21 @@
 mod limits;
 pub mod vectors;
 
-ghost use Rattle.std.specs.Prelude.{◌≡◌, false};
+ghost use Rattle.std.specs.Prelude.{◌≡◌};
 ghost use Rattle.boxes.specs.Boxes.{vec, box, from_feet, offset_by, below0, above0, down_of, up_of, expand_towards, inflate_by, meet, overlap, feet_of, clip_x, clip_y, clip_z};
 ghost use Rattle.boxes.specs.Sides.{on_x, on_y, on_z, apart_on, clip_on};
 ghost use Rattle.base.specs.Choose.{choose};
-ghost use Rattle.std.specs.Float.{inf};
 
 pub use limits::{are_within, is_box, is_delta, is_step};
 
-#[derive(Clone, Copy)]
+#[derive(Clone, Copy, Debug, PartialEq)]
 pub struct Vec3 {
     pub x: f64,
     pub y: f64,
     pub z: f64,
 }
 
-#[derive(Clone, Copy)]
+#[derive(Clone, Copy, Debug, PartialEq)]
 pub struct Aabb {
     pub min: Vec3,
     pub max: Vec3,
@@ -44,12 +43,14 @@ impl Vec3 {
 }
 
 // d where it goes down, and 0 otherwise; a zero stays as it is.
+#[tactic(auto, using(base::proofs::Cases::cases), unfolding(base::specs::Choose::choose))]
 fn low(d: f64) -> f64
     ensures { result ≡ below0 d }
 {
     if d <= 0.0 { d } else { 0.0 }
 }
 
+#[tactic(auto, using(base::proofs::Cases::cases), unfolding(base::specs::Choose::choose))]
 fn high(d: f64) -> f64
     ensures { result ≡ above0 d }
 {
@@ -160,12 +161,9 @@ impl Aabb {
     pub fn intersects(self, other: Aabb) -> bool
         ensures { result ≡ overlap self other }
     {
-        if meets(self.min.x, self.max.x, other.min.x, other.max.x) {
-            if meets(self.min.y, self.max.y, other.min.y, other.max.y) {
-                return meets(self.min.z, self.max.z, other.min.z, other.max.z);
-            }
-        }
-        false
+        meets(self.min.x, self.max.x, other.min.x, other.max.x)
+            && meets(self.min.y, self.max.y, other.min.y, other.max.y)
+            && meets(self.min.z, self.max.z, other.min.z, other.max.z)
     }
 
     // The middle of the bottom face.
@@ -236,10 +234,11 @@ impl Aabb {
 fn meets(al: f64, ah: f64, bl: f64, bh: f64) -> bool
     ensures { result ≡ meet al ah bl bh }
 {
-    if al < bh { ah > bl } else { false }
+    al < bh && ah > bl
 }
 
 // One of two numbers that are both at hand.
+#[tactic(auto, using(base::proofs::Cases::cases), unfolding(base::specs::Choose::choose))]
 fn either(first: bool, a: f64, b: f64) -> f64
     ensures { result ≡ choose first a b }
 {
@@ -247,18 +246,13 @@ fn either(first: bool, a: f64, b: f64) -> f64
 }
 
 // Where the mover passes the box by on this axis the way is free; otherwise there is a gap.
+#[tactic(auto, using(crate::proofs::Clips::either_way))]
 fn past(s: Sides, free: f64, gap: f64) -> f64
     ensures { result ≡ choose (apart_on s) free gap }
 {
     let before = s.to <= s.lo;
     let after = s.from >= s.hi;
     either(before, free, either(after, free, gap))
-}
-
-fn far() -> f64
-    ensures { result ≡ inf false }
-{
-    1.0 / 0.0
 }
 
 // The way d along an axis, stopped at the box where the mover doesn't pass it by on one of the two other axes. It serves x, y and z. The tests
@@ -268,13 +262,13 @@ fn clipped(first: Sides, second: Sides, along: Sides, d: f64) -> f64
     ensures { result ≡ clip_on first second along d }
 {
     if d > 0.0 {
-        let free = far();
+        let free = f64::INFINITY;
         let ahead = along.to <= along.lo;
         let gap = either(ahead, along.lo - along.to, free);
         return floats::lesser(d, past(first, free, past(second, free, gap)));
     }
     if d < 0.0 {
-        let free = -far();
+        let free = f64::NEG_INFINITY;
         let behind = along.from >= along.hi;
         let gap = either(behind, along.hi - along.from, free);
         return floats::greater(d, past(first, free, past(second, free, gap)));

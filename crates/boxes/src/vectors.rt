@@ -72,23 +72,22 @@ pub fn squares(v: Vec3) -> f64
     v.x * v.x + v.y * v.y + v.z * v.z
 }
 
+// The square root of what is no number, or is infinite, counts as 0.
 fn length(v: Vec3) -> f64
     ensures { result ≡ length_of v }
 {
-    let root = roots::sqrt(squares(v));
-    root.value
+    roots::sqrt(squares(v)).unwrap_or(0.0)
 }
 
 // glam's normalize_or_zero.
+#[tactic(auto, using(base::proofs::Cases::cases), unfolding(crate::specs::Vectors::normalised, base::specs::Choose::choose))]
 pub fn normalize_or_zero(v: Vec3) -> Vec3
     ensures { result ≡ normalised v }
 {
     let reciprocal = 1.0 / length(v);
-    if floats::is_finite(reciprocal) {
-        if reciprocal > 0.0 {
-            return scale(v, reciprocal);
-        }
-        return zero();
+    if floats::is_finite(reciprocal) && reciprocal > 0.0 {
+        scale(v, reciprocal)
+    } else {
+        zero()
     }
-    zero()
 }

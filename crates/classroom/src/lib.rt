@@ -12,7 +12,7 @@ pub extern "C" fn boltjuniper_palette_records(out: &mut [u32]) -> u32
     ensures value { result ≡ fill_refusal record_words out.old }
     ensures out_after { out.new ≡ filled record_words out.old palette_records }
 {
-    palette::fill_records(out)
+    base::code(palette::fill_records(out))
 }
 
 // The 3,948 numbers of the 658 boxes; likewise.
@@ -21,5 +21,5 @@ pub extern "C" fn boltjuniper_palette_boxes(out: &mut [f32]) -> u32
     ensures value { result ≡ fill_refusal shape_numbers out.old }
     ensures out_after { out.new ≡ filled shape_numbers out.old palette_shapes }
 {
-    palette_boxes::fill_shapes(out)
+    base::code(palette_boxes::fill_shapes(out))
 }

@@ -24,9 +24,8 @@ use Rattle.ranges.specs.Ranges.{place_at}
 use Rattle.ranges.specs.Walk.{line, layer}
 use Rattle.collection.specs.Collect.{cell_shape, offer, offer_all, visit, push}
 use Rattle.collection.specs.Past.{layer_past, walk_past, collect_in_past}
-use Rattle.tables.specs.Tables.{boxes_at}
 use Rattle.solids.specs.declared.Shape.{Shape}
-use Rattle.solids.specs.Parts.{shape_in, count_of, nth_aabb}
+use Rattle.solids.specs.Parts.{shape_in, part_boxes, count_of, nth_aabb}
 use Rattle.collection.specs.Answers.{held_asked}
 use Rattle.solids.proofs.Boxes.{listed-all}
 
@@ -97,11 +96,11 @@ module _ {S : Type 0} (accept : Aabb → S → Ask (Turn S Bool)) (look : Pos �
     unfolding visit
     cell-refused k e = turn ∙ (rw e)
 
-    pub cell-begins : (q : Shape) (shape : List Float) (n : ℕ) → cell_shape look records p ≡ found (shape_in q) → shape ≡ boxes_at shapes q.first q.count → n ≡ count_of q.cube q.count shape
-        → whole ≡ boxes_from accept area after (nth_aabb q.cube shape p) n 0 s
+    pub cell-begins : (q : Shape) (shape : List Float) (n : ℕ) → cell_shape look records p ≡ found (shape_in q) → shape ≡ part_boxes shapes q → n ≡ count_of q shape
+        → whole ≡ boxes_from accept area after (nth_aabb q shape p) n 0 s
     unfolding visit boxes_from
     cell-begins q shape n e o m =
-        let g = nth_aabb q.cube shape p in
+        let g = nth_aabb q shape p in
         turn
         ∙ (rw e
         (ap (λ (bs : List Aabb). offer_all accept area bs s >>= onward after) (listed-all shapes shape p q n o m)

@@ -1,7 +1,7 @@
 -- Collection into lent numbers, box by box. Assumes nothing.
-use mathlib.Core.Path.{◌≡◌, refl, sym, ap, ◌∙◌}
+use mathlib.Core.Path.{◌≡◌, refl, ◌∙◌}
 use mathlib.Core.Bool.{Bool, true, false}
-use mathlib.Core.List.{List, [], ◌∷◌, ◌++◌}
+use mathlib.Core.List.{List, []}
 use Prim.Native.Nat.{ℕ, ◌+◌, ◌*◌, ◌≤◌, ◌<◌}
 use native.Mathlib.Omega.{arith}
 use lib.Dec.{ltb}
@@ -19,17 +19,16 @@ use Rattle.window.specs.declared.Pos.{Pos}
 use Rattle.window.specs.declared.Window.{Window}
 use Rattle.window.specs.Look.{Block}
 use Rattle.ranges.specs.declared.Range.{Range}
-use Rattle.passing.specs.declared.Reach.{Reach}
-use Rattle.passing.specs.Passing.{reach_in, lines_by, passes}
+use Rattle.passing.specs.Passing.{Reached, reach_in, lines_by, passes}
 use Rattle.lent_boxes.specs.Boxes.{box_of, boxes_in, lent_count, six_of, put_in}
 use Rattle.lent_boxes.proofs.Put.{was-put, one_more}
 use Rattle.collection.specs.Collect.{offer, push}
 use Rattle.collection.specs.Past.{collect_in_past}
 use Rattle.collection.specs.Answers.{held_asked}
-use Rattle.collection.proofs.Collects.{all_past, was-collected, not-collected}
+use Rattle.collection.proofs.Collects.{all_past, was-collected}
 
 -- ---- the lines of a layer, as the program has them
-module _ (words : List ℕ) (w : Window) (r : Range) (k : Reach) (y lines x : ℕ) (e : k ≡ reach_in words w r) (f : lines ≡ lines_by words w r k y) where
+module _ (words : List ℕ) (w : Window) (r : Range) (k : Reached) (y lines x : ℕ) (e : k ≡ reach_in words w r) (f : lines ≡ lines_by words w r k y) where
   come-to : lines ≡ choose (passes words w r y) 0 r.x.count
   come-to = rw e at f
 
@@ -85,6 +84,3 @@ no-box l = refl
 module _ (over : ℕ → Bool) (cap : ℕ) (look : Pos → Ask Block) (records : List ℕ) (shapes : List Float) (area : Aabb) (r : Range) (l : List Float) where
   pub lent-collected : (i : ℕ) → found (next (boxes_in l i)) ≡ all_past (push cap) look records shapes area r over [] → record { refusal = 0; count = i; boxes = boxes_in l i } ≡ held_asked (collect_in_past over cap look records shapes area r)
   lent-collected i h = rw (was-collected over cap look records shapes area r (boxes_in l i) h, listed-length (box_of l) i 0)
-
-  pub lent-refused : (k : ℕ) → refused k ≡ all_past (push cap) look records shapes area r over [] → record { refusal = k; count = 0; boxes = boxes_in l 0 } ≡ held_asked (collect_in_past over cap look records shapes area r)
-  lent-refused k h = rw (no-box l) (not-collected over cap look records shapes area r k h)

@@ -9,14 +9,14 @@ use lib.Dec.{eqb}
 use lib.Ieee.{Float}
 use borrow.Author.Tests.{eqb-true}
 use Rattle.base.specs.Choose.{choose}
-use Rattle.base.specs.Ask.{Ask, found, ◌>>=◌, Turn, next, turning}
+use Rattle.base.specs.Ask.{Ask, found, Turn, next, turning}
 use Rattle.boxes.specs.declared.Aabb.{Aabb}
 use Rattle.window.specs.declared.Pos.{Pos}
 use Rattle.window.specs.Look.{Block}
 use Rattle.ranges.specs.declared.Range.{Range}
 use Rattle.ranges.specs.Ranges.{place_at, no_cells, trimmed}
 use Rattle.ranges.specs.Walk.{line, layer, walk}
-use Rattle.collection.specs.Collect.{visit, range_of, push, pushed, collect_block_boxes}
+use Rattle.collection.specs.Collect.{visit, range_of, push, collect_block_boxes}
 use Rattle.collection.specs.Past.{none, layer_past, walk_past, collect_in_past, collect_past}
 
 -- ---- a loop whose turns all go on with what they are given

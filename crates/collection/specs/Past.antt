@@ -1,7 +1,7 @@
 -- Collection that passes over layers: as `Collect` has it, but a layer of which `over` says yes is not come to.
 use Rattle.std.specs.Prelude.{Bool, false, List, [], ℕ, Float}
 use Rattle.base.specs.Choose.{choose}
-use Rattle.base.specs.Ask.{Ask, refused, found, ◌>>=◌, Turn, next, turning}
+use Rattle.base.specs.Ask.{Ask, found, ◌>>=◌, Turn, next, turning}
 use Rattle.boxes.specs.declared.Aabb.{Aabb}
 use Rattle.window.specs.declared.Pos.{Pos}
 use Rattle.window.specs.Look.{Block}

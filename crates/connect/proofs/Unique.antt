@@ -1,16 +1,14 @@
--- What an answer says is all that it is: another answer that fits the same contract is equal. Assumes nothing.
-use mathlib.Core.Path.{◌≡◌, ap}
+-- What a host is told is all that it is: another answer that fits the contract is equal. Assumes nothing.
+use mathlib.Core.Path.{◌≡◌, refl, sym, ap}
 use Prim.Native.Nat.{ℕ}
-use native.Mathlib.Omega.{arith}
-use Rattle.connect.specs.declared.AskedState.{AskedState}
-use Rattle.connect.specs.declared.AskedState.TheVariants.{State, Refused}
-use Rattle.connect.specs.Answers.{state_asked}
+use Rattle.std.specs.Prelude.{Result, Ok, Err}
+use Rattle.base.specs.declared.Refusal.{Refusal}
+use Rattle.base.specs.Refusals.{number_of, asked}
+use Rattle.base.proofs.Answers.{one_number, some_number}
+use Rattle.connect.specs.Answers.{StateAnswer, state_answer}
 
-no : {A : Type 0} → ◌≡◌ {A = ℕ} 0 1 → A
-no e = absurd (omega arith)
-
-pub state-once : (a b : AskedState) → state_asked a ≡ state_asked b → a ≡ b
-state-once (State x) (State y) e = let q : x ≡ y = cc in ap State q
-state-once (Refused m) (Refused n) e = let q : m ≡ n = cc in ap Refused q
-state-once (State x) (Refused n) e = no cc
-state-once (Refused m) (State y) e = no cc
+pub state-once : (a b : Result ℕ Refusal) → state_answer (asked a) ≡ state_answer (asked b) → a ≡ b
+state-once (Ok x) (Ok y) e = ap (λ (s : StateAnswer). Ok s.state) e
+state-once (Ok x) (Err d) e = absurd (some_number d (sym (ap (λ (s : StateAnswer). s.refusal) e)))
+state-once (Err d) (Ok y) e = absurd (some_number d (ap (λ (s : StateAnswer). s.refusal) e))
+state-once (Err c) (Err d) e = ap Err (one_number c d (ap (λ (s : StateAnswer). s.refusal) e))

@@ -5,14 +5,12 @@ use Rattle.window.specs.declared.Pos.{Pos}
 use Rattle.window.specs.declared.Window.{Window}
 use Rattle.window.specs.Look.{look_at}
 use Rattle.lent.specs.Lent.{direct}
-use Rattle.connect.specs.declared.AskedState.{AskedState}
-use Rattle.connect.specs.declared.AskedState.TheVariants.{State, Refused}
-use Rattle.connect.specs.declared.StateAnswer.{StateAnswer}
 use Rattle.connect.specs.Connect.{connected_state}
 
-abbrev pub state_asked : AskedState → Ask ℕ
-state_asked (State s) = found s
-state_asked (Refused n) = refused n
+-- refusal 0 and the state, or a refusal and 0
+pub record StateAnswer : Type 0 where
+  pub refusal : ℕ
+  pub state : ℕ
 
 -- a refused call hands back the state 0
 abbrev pub state_answer : Ask ℕ → StateAnswer

@@ -2,29 +2,16 @@
 #![tactic(auto)]
 
 ghost use Rattle.std.specs.Prelude.{◌≡◌};
-ghost use Rattle.base.specs.Answers.{bool_asked};
-ghost use Rattle.window.specs.Look.{look_at};
+ghost use Rattle.base.specs.Refusals.{asked};
+ghost use Rattle.window.specs.Views.{look_in};
 ghost use Rattle.connect.specs.Connect.{way_to, joins, post, beside_neighbours, connected_state};
-ghost use Rattle.connect.specs.Answers.{state_asked, connected_entry};
+ghost use Rattle.connect.specs.Answers.{state_answer, connected_entry};
 
-use base::AskedBool;
+use base::Refusal;
 use cover::Side;
 use joining::Joined;
-use window::{Cell, CellStep, Pos, Window};
-
-// A state, or the number of a refusal.
-#[derive(Clone, Copy)]
-pub enum AskedState {
-    State(u32),
-    Refused(u32),
-}
-
-// What a host is handed: refusal 0 and the state, or a refusal and 0.
-#[derive(Clone, Copy)]
-pub struct StateAnswer {
-    pub refusal: u32,
-    pub state: u32,
-}
+use tables::Tables;
+use window::{CellStep, Pos, View};
 
 fn way_to(side: Side) -> CellStep
     ensures { result ≡ way_to side }
@@ -38,121 +25,89 @@ fn way_to(side: Side) -> CellStep
 }
 
 // Asks for the neighbour on a side.
-fn joins_at(records: &[u32], cells: &[u32], w: Window, p: Pos, kind: u32, side: Side) -> AskedBool
-    ensures { bool_asked result ≡ joins (look_at cells.now w) records.now p kind side }
+#[tactic(auto, using(base::proofs::Cases::cases), unfolding(crate::specs::Connect::joins, base::specs::Choose::choose))]
+fn joins_at(
+    tables: Tables<'_>,
+    view: View<'_>,
+    p: Pos,
+    kind: u32,
+    side: Side,
+) -> Result<bool, Refusal>
+    ensures { asked result ≡ joins (look_in view.entry) tables.entry.records.now p kind side }
 {
-    let way = way_to(side);
-    let neighbour = window::look_by(cells, w, p, way);
-    match neighbour {
-        Cell::Outside => AskedBool::Refused(5), // never taken for unloaded
-        Cell::Unloaded => AskedBool::Is(true),
-        Cell::State(s) => AskedBool::Is(joining::connects(records, kind, side, s)),
-    }
+    Ok(match view.look_by(p, way_to(side))? {
+        None => true,
+        Some(state) => joining::connects(tables, kind, side, state),
+    })
 }
 
 // Asks for the cell above: whether the post stands.
-fn post_at(records: &[u32], cells: &[u32], w: Window, p: Pos, j: Joined) -> AskedBool
-    ensures { bool_asked result ≡ post (look_at cells.now w) records.now p j }
+#[tactic(auto, using(base::proofs::Cases::cases), unfolding(crate::specs::Connect::post, base::specs::Choose::choose, joining::specs::Joining::raised_by))]
+fn post_at(tables: Tables<'_>, view: View<'_>, p: Pos, j: Joined) -> Result<bool, Refusal>
+    ensures { asked result ≡ post (look_in view.entry) tables.entry.records.now p j }
 {
-    let above = window::look_by(cells, w, p, CellStep { x: 0, y: 1, z: 0 });
-    match above {
-        Cell::Outside => AskedBool::Refused(5),
-        Cell::Unloaded => {
-            if joining::is_straight(j) {
-                return AskedBool::Is(false);
-            }
-            AskedBool::Is(true)
-        }
-        Cell::State(s) => {
-            if joining::is_straight(j) {
-                return AskedBool::Is(joining::raised_by(records, j, s));
-            }
-            AskedBool::Is(true)
-        }
+    let above = view.look_by(p, CellStep { x: 0, y: 1, z: 0 })?;
+    if !joining::is_straight(j) {
+        return Ok(true);
     }
+    Ok(match above {
+        None => false,
+        Some(state) => joining::raised_by(tables, j, state),
+    })
 }
 
 // The state at p of what connects as this kind. It stands by itself, so that a cell that connects as nothing pays for none of it.
+#[tactic(auto, using(base::proofs::Cases::cases), unfolding(crate::specs::Connect::beside_neighbours, base::specs::Choose::choose))]
 fn beside_neighbours(
-    records: &[u32],
-    cells: &[u32],
-    w: Window,
+    tables: Tables<'_>,
+    view: View<'_>,
     p: Pos,
     kind: u32,
     state: u32,
-) -> AskedState
-    ensures { state_asked result ≡ beside_neighbours (look_at cells.now w) records.now p kind state }
+) -> Result<u32, Refusal>
+    ensures { asked result ≡ beside_neighbours (look_in view.entry) tables.entry.records.now p kind state }
 {
-    let north = match joins_at(records, cells, w, p, kind, Side::North) {
-        AskedBool::Refused(n) => return AskedState::Refused(n),
-        AskedBool::Is(b) => b,
+    let joined = Joined {
+        north: joins_at(tables, view, p, kind, Side::North)?,
+        east: joins_at(tables, view, p, kind, Side::East)?,
+        south: joins_at(tables, view, p, kind, Side::South)?,
+        west: joins_at(tables, view, p, kind, Side::West)?,
     };
-    let east = match joins_at(records, cells, w, p, kind, Side::East) {
-        AskedBool::Refused(n) => return AskedState::Refused(n),
-        AskedBool::Is(b) => b,
-    };
-    let south = match joins_at(records, cells, w, p, kind, Side::South) {
-        AskedBool::Refused(n) => return AskedState::Refused(n),
-        AskedBool::Is(b) => b,
-    };
-    let west = match joins_at(records, cells, w, p, kind, Side::West) {
-        AskedBool::Refused(n) => return AskedState::Refused(n),
-        AskedBool::Is(b) => b,
-    };
-    let j = Joined {
-        north,
-        east,
-        south,
-        west,
-    };
-    let resolved = joining::turn_all(records, j, state);
-    if kind == 4 {
-        match post_at(records, cells, w, p, j) {
-            AskedBool::Refused(n) => return AskedState::Refused(n),
-            AskedBool::Is(on) => return AskedState::State(joining::posted(records, resolved, on)),
-        }
+    let resolved = joining::turn_all(tables, joined, state);
+    if kind != 4 {
+        return Ok(resolved);
     }
-    AskedState::State(resolved)
+    let on = post_at(tables, view, p, joined)?;
+    Ok(joining::posted(tables, resolved, on))
 }
 
-// The state that a record at p has beside its neighbours. It refuses 5 alone, at the first cell that lies outside.
-pub fn connected_state(records: &[u32], cells: &[u32], w: Window, p: Pos, state: u32) -> AskedState
-    ensures { state_asked result ≡ connected_state (look_at cells.now w) records.now p state }
-{
-    let kind = joining::connect_kind(records, state);
-    if kind == 0 {
-        return AskedState::State(state);
-    }
-    beside_neighbours(records, cells, w, p, kind, state)
-}
-
-// For hosts: tables and window are checked before any cell is asked for.
-pub fn connected_state_at(
-    records: &[u32],
-    shapes: &[f32],
-    cells: &[u32],
-    w: Window,
+/// The state that a record at p has beside its neighbours. It refuses 5 alone, at the first cell that lies outside.
+#[tactic(auto, using(base::proofs::Cases::cases), unfolding(crate::specs::Connect::connected_state, base::specs::Choose::choose))]
+pub fn connected_state(
+    tables: Tables<'_>,
+    view: View<'_>,
     p: Pos,
     state: u32,
-) -> StateAnswer
-    ensures { result ≡ connected_entry records.now shapes.now cells.now w p state }
+) -> Result<u32, Refusal>
+    ensures { asked result ≡ connected_state (look_in view.entry) tables.entry.records.now p state }
 {
-    let bad = lent::check_direct(records, shapes, cells, w);
-    if bad != 0 {
-        return StateAnswer {
-            refusal: bad,
-            state: 0,
-        };
+    let kind = joining::connect_kind(tables, state);
+    if kind == 0 {
+        return Ok(state);
     }
-    let told = connected_state(records, cells, w, p, state);
-    match told {
-        AskedState::Refused(n) => StateAnswer {
-            refusal: n,
-            state: 0,
-        },
-        AskedState::State(s) => StateAnswer {
-            refusal: 0,
-            state: s,
-        },
-    }
+    beside_neighbours(tables, view, p, kind, state)
+}
+
+/// For hosts: tables and window are checked before any cell is asked for.
+#[tactic(auto, using(base::proofs::Cases::cases), unfolding(crate::specs::Answers::connected_entry, base::specs::Choose::choose))]
+pub fn connected_state_at(
+    tables: Tables<'_>,
+    view: View<'_>,
+    p: Pos,
+    state: u32,
+) -> Result<u32, Refusal>
+    ensures { state_answer (asked result) ≡ connected_entry tables.entry.records.now tables.entry.shapes.now view.entry.words.now view.entry.window p state }
+{
+    lent::check_direct(tables, view)?;
+    connected_state(tables, view, p, state)
 }

@@ -1,5 +1,5 @@
 -- Laws of this crate's definitions, on plain values.
-pub mod Numbers
+pub mod Ranges
 pub mod Cells
 pub mod Covered
 pub mod Examples

@@ -1,5 +1,4 @@
 -- What the proofs of currents share.
-pub mod Answers
 pub mod Cells
 pub mod Constants
 pub mod Reach

@@ -1,7 +1,7 @@
 -- The Rust's `item_current`: the flows of the cells that an item's box reaches, and what they do to its velocity.
 use Rattle.std.specs.Prelude.{Bool, false, not, ◌&&◌, List, ℕ, eqb, ℤ, pos, negsuc, ◌-ℤ◌, Float}
 use Rattle.std.specs.Float.{binary64}
-use Rattle.std.specs.Float.Ieee.{of_bits, neg}
+use Rattle.std.specs.Float.Ieee.{of_bits}
 use Rattle.base.specs.Choose.{choose}
 use Rattle.base.specs.Ask.{Ask, found, ◌>>=◌, Turn, next, resume}
 use Rattle.wholes.specs.Whole.{cell_of, ceiling_of}

@@ -1,3 +1,2 @@
--- The definitions of module 7, currents, and what the program's answers say.
+-- The definitions of module 7, currents.
 pub mod Current
-pub mod Answers

@@ -13,8 +13,8 @@ use Rattle.tables.specs.declared.LiquidKind.TheVariants.{None, Water, Lava}
 use Rattle.boxes.specs.Vectors.{squared}
 use Rattle.bodies.specs.declared.Stage.{Stage}
 use Rattle.bodies.specs.declared.Stage.TheVariants.{BeforeMove, AfterMove, AfterDrag}
-use Rattle.bodies.specs.declared.Flap.{Flap}
-use Rattle.bodies.specs.declared.Flap.TheVariants as flap
+use Rattle.std.specs.Prelude.{Option}
+use Rattle.std.specs.Prelude as option
 use Rattle.bodies.specs.declared.Body.{Body}
 use Rattle.bodies.specs.declared.Rules.{Rules}
 use Rattle.drags.specs.declared.Support.{Support}
@@ -37,9 +37,9 @@ sunk rules body drag y =
     mul binary64 (sub binary64 y (choose (lt zero64 body.gravity) rules.gravity zero64)) drag
 
 -- if let Some(flap) = body.wing_flap_drag && velocity.y < 0.0 { velocity.y *= 1.0 - flap; }
-unfoldable pub flapped : Flap → Float → Float
-flapped flap.None y = y
-flapped (flap.Drag drag) y = choose (lt y zero64) (mul binary64 y (sub binary64 one64 drag)) y
+unfoldable pub flapped : Option Float → Float → Float
+flapped option.None y = y
+flapped (option.Some drag) y = choose (lt y zero64) (mul binary64 y (sub binary64 one64 drag)) y
 
 -- velocity.y = (velocity.y - body.gravity) * body.vertical_drag;
 abbrev pub fallen : Body → Float → Float

@@ -26,6 +26,7 @@ pub fn case_number(s: Support) -> u32
 }
 
 // The sampled number; 0 where there is none.
+#[tactic(auto, using(base::proofs::Cases::cases), unfolding(base::specs::Choose::choose))]
 pub fn sampled_number(s: Support) -> f64
     ensures { result ≡ sampled_number s }
 {

@@ -6,7 +6,7 @@ ghost use Rattle.std.specs.Prelude.{◌≡◌};
 ghost use Rattle.drags.specs.Cases.{sample_or};
 ghost use Rattle.drags.specs.Drags.{grip, sunk, flapped, fallen, damped, living_velocity, living_in_liquid, living_in_air, apply_living_drag, afloat, floated, rests_now, is_before_move, is_dry, pulled, unless_stopped, kept_after, vertical_after, dragged};
 
-use bodies::{Body, Flap, Rules, Stage};
+use bodies::{Body, Rules, Stage};
 use boxes::Vec3;
 use tables::LiquidKind;
 
@@ -15,7 +15,7 @@ mod cases;
 pub use cases::{case_number, sampled_number};
 
 // What a sample of the block under a body tells: its friction, or why there is none.
-#[derive(Clone, Copy)]
+#[derive(Clone, Copy, Debug, PartialEq)]
 pub enum Sample {
     Friction(f64),
     Air,
@@ -24,7 +24,7 @@ pub enum Sample {
 }
 
 // What a step tells of the block under a body: the sample that it took, or that none was asked for.
-#[derive(Clone, Copy)]
+#[derive(Clone, Copy, Debug, PartialEq)]
 pub enum Support {
     Asked(Sample),
     NotAsked,
@@ -36,13 +36,12 @@ pub fn sample_or(default: f64, s: Sample) -> f64
 {
     match s {
         Sample::Friction(f) => f,
-        Sample::Air => default,
-        Sample::Unloaded => default,
-        Sample::Unregistered => default,
+        Sample::Air | Sample::Unloaded | Sample::Unregistered => default,
     }
 }
 
 // What a horizontal velocity is multiplied by.
+#[tactic(auto, using(base::proofs::Cases::cases), unfolding(base::specs::Choose::choose))]
 fn grip(horizontal: f64, default: f64, s: Support) -> f64
     ensures { result ≡ grip horizontal default s }
 {
@@ -53,6 +52,7 @@ fn grip(horizontal: f64, default: f64, s: Support) -> f64
 }
 
 // The vertical velocity of a living body in a liquid of this drag.
+#[tactic(auto, using(base::proofs::Cases::cases), unfolding(crate::specs::Drags::sunk, base::specs::Choose::choose))]
 fn sunk(rules: Rules, body: Body, drag: f64, y: f64) -> f64
     ensures { result ≡ sunk rules body drag y }
 {
@@ -62,12 +62,13 @@ fn sunk(rules: Rules, body: Body, drag: f64, y: f64) -> f64
     (y - 0.0) * drag
 }
 
-fn flapped(flap: Flap, y: f64) -> f64
+#[tactic(auto, using(base::proofs::Cases::cases), unfolding(crate::specs::Drags::flapped, base::specs::Choose::choose))]
+fn flapped(flap: Option<f64>, y: f64) -> f64
     ensures { result ≡ flapped flap y }
 {
     match flap {
-        Flap::None => y,
-        Flap::Drag(drag) => if y < 0.0 { y * (1.0 - drag) } else { y },
+        Some(drag) if y < 0.0 => y * (1.0 - drag),
+        _ => y,
     }
 }
 
@@ -78,6 +79,7 @@ fn fallen(body: Body, y: f64) -> f64
 }
 
 // A horizontal component under its drag; one of size 1e-7 or less becomes +0.
+#[tactic(auto, using(base::proofs::Cases::cases), unfolding(crate::specs::Drags::damped, base::specs::Choose::choose))]
 fn damped(horizontal: f64, axis: f64) -> f64
     ensures { result ≡ damped horizontal axis }
 {
@@ -92,9 +94,11 @@ fn damped(horizontal: f64, axis: f64) -> f64
 fn living_velocity(horizontal: f64, y: f64, v: Vec3) -> Vec3
     ensures { result ≡ living_velocity horizontal y v }
 {
-    let x = damped(horizontal, v.x);
-    let z = damped(horizontal, v.z);
-    Vec3 { x, y, z }
+    Vec3 {
+        x: damped(horizontal, v.x),
+        y,
+        z: damped(horizontal, v.z),
+    }
 }
 
 fn living_in_liquid(rules: Rules, body: Body, drag: f64, v: Vec3) -> Vec3
@@ -114,6 +118,7 @@ fn living_in_air(rules: Rules, body: Body, support: Support, v: Vec3) -> Vec3
 }
 
 // Gravity, drag and friction of a living body after its move.
+#[tactic(auto, using(base::proofs::Cases::cases), unfolding(base::specs::Choose::choose))]
 pub fn apply_living_drag(
     rules: Rules,
     body: Body,
@@ -141,6 +146,7 @@ fn afloat(viscosity: f64, v: Vec3) -> Vec3
 }
 
 // What flotation does to an item's velocity.
+#[tactic(auto, using(base::proofs::Cases::cases), unfolding(crate::specs::Drags::floated, base::specs::Choose::choose))]
 pub fn floated(flotation: LiquidKind, v: Vec3) -> Vec3
     ensures { result ≡ floated flotation v }
 {
@@ -152,6 +158,7 @@ pub fn floated(flotation: LiquidKind, v: Vec3) -> Vec3
 }
 
 // Whether an item rests: on the ground, slow, not in water, and not in every fourth tick.
+#[tactic(auto, unfolding(crate::specs::Drags::rests_now))]
 pub fn rests_now(grounded: bool, v: Vec3, water: bool, age: u64) -> bool
     ensures { result ≡ rests_now grounded v water age }
 {
@@ -161,24 +168,17 @@ pub fn rests_now(grounded: bool, v: Vec3, water: bool, age: u64) -> bool
 fn is_before_move(stage: Stage) -> bool
     ensures { result ≡ is_before_move stage }
 {
-    match stage {
-        Stage::BeforeMove => true,
-        Stage::AfterMove => false,
-        Stage::AfterDrag => false,
-    }
+    matches!(stage, Stage::BeforeMove)
 }
 
 fn is_dry(kind: LiquidKind) -> bool
     ensures { result ≡ is_dry kind }
 {
-    match kind {
-        LiquidKind::None => true,
-        LiquidKind::Water => false,
-        LiquidKind::Lava => false,
-    }
+    matches!(kind, LiquidKind::None)
 }
 
 // Gravity before the move.
+#[tactic(auto, using(base::proofs::Cases::cases), unfolding(crate::specs::Drags::pulled, base::specs::Choose::choose))]
 pub fn pulled(body: Body, flotation: LiquidKind, v: Vec3) -> Vec3
     ensures { result ≡ pulled body flotation v }
 {
@@ -194,6 +194,7 @@ pub fn pulled(body: Body, flotation: LiquidKind, v: Vec3) -> Vec3
 }
 
 // The velocity of an axis after its way: +0 where it was blocked.
+#[tactic(auto, using(base::proofs::Cases::cases), unfolding(crate::specs::Drags::unless_stopped, base::specs::Choose::choose))]
 fn unless_stopped(moved: f64, v: f64) -> f64
     ensures { result ≡ unless_stopped moved v }
 {
@@ -203,12 +204,14 @@ fn unless_stopped(moved: f64, v: f64) -> f64
 pub fn kept_after(moved: Vec3, v: Vec3) -> Vec3
     ensures { result ≡ kept_after moved v }
 {
-    let x = unless_stopped(moved.x, v.x);
-    let y = unless_stopped(moved.y, v.y);
-    let z = unless_stopped(moved.z, v.z);
-    Vec3 { x, y, z }
+    Vec3 {
+        x: unless_stopped(moved.x, v.x),
+        y: unless_stopped(moved.y, v.y),
+        z: unless_stopped(moved.z, v.z),
+    }
 }
 
+#[tactic(auto, using(base::proofs::Cases::cases), unfolding(base::specs::Choose::choose))]
 fn vertical_after(stage: Stage, body: Body, y: f64) -> f64
     ensures { result ≡ vertical_after stage body y }
 {

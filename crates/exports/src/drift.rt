@@ -6,6 +6,8 @@ ghost use Rattle.window.specs.Numbers.{window_of};
 ghost use Rattle.lent_calls.specs.Currents.{current_at, current_refusal, current_written};
 
 use boxes::Vec3;
+use tables::Tables;
+use window::View;
 
 // What the currents add to the velocity of an item at the feet x, y, z, to be timed alone: over tables and a window that were checked before,
 // and any numbers. It writes four numbers, each where `out` has its place, and returns 0, or writes nothing and returns 5 or 7.
@@ -32,6 +34,13 @@ pub extern "C" fn boltjuniper_item_current(
     ensures value { result ≡ current_refusal (current_at (look_at cells.now (window_of ox oy oz sx sy sz lowest highest air)) records.now (vec x y z) width height) }
     ensures out_after { out.new ≡ current_written out.old (current_at (look_at cells.now (window_of ox oy oz sx sy sz lowest highest air)) records.now (vec x y z) width height) }
 {
-    let w = window::window_of(ox, oy, oz, sx, sy, sz, lowest, highest, air);
-    lent_calls::current_into(records, cells, w, Vec3 { x, y, z }, width, height, out)
+    let tables = Tables {
+        records,
+        shapes: &[],
+    };
+    let view = View {
+        words: cells,
+        window: window::window_of(ox, oy, oz, sx, sy, sz, lowest, highest, air),
+    };
+    base::code(lent_calls::current_into(tables, view, Vec3 { x, y, z }, width, height, out))
 }

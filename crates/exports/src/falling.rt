@@ -6,6 +6,8 @@ ghost use Rattle.lent_steps.specs.Falling.{falling_written};
 ghost use Rattle.lent_calls.specs.Falling.{falling_at};
 
 use fall_rule::Fall;
+use tables::Tables;
+use window::View;
 
 // One tick of a body over a window with its fall record, the falling sum and the landed number: all else as `boltjuniper_step` takes it. It writes
 // that step's first eight numbers, then sum and landed, then that step's last two, twelve in all, and returns 0; or it returns a refusal and
@@ -33,16 +35,11 @@ pub extern "C" fn boltjuniper_step_falling(
     ensures value { result ≡ (falling_at records.now shapes.now cells.now (window_of ox oy oz sx sy sz lowest highest 0) numbers.now words.now age (fall_of sum landed) (length out.old)).step.refusal }
     ensures out_after { out.new ≡ falling_written out.old (falling_at records.now shapes.now cells.now (window_of ox oy oz sx sy sz lowest highest 0) numbers.now words.now age (fall_of sum landed) (length out.old)) }
 {
-    let w = window::window_of(ox, oy, oz, sx, sy, sz, lowest, highest, 0);
-    lent_calls::falling_lent(
-        records,
-        shapes,
-        cells,
-        w,
-        numbers,
-        words,
-        age,
-        Fall { sum, landed },
-        out,
-    )
+    let tables = Tables { records, shapes };
+    let view = View {
+        words: cells,
+        window: window::window_of(ox, oy, oz, sx, sy, sz, lowest, highest, 0),
+    };
+    let fall = Fall { sum, landed };
+    base::code(lent_calls::falling_lent(tables, view, numbers, words, age, fall, out))
 }

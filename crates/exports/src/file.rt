@@ -11,6 +11,6 @@ pub extern "C" fn boltjuniper_tick(file: &[u8], out: &mut [f64]) -> u32
     ensures value { result ≡ step_refusal (length out.old) (tick_of file.now) }
     ensures out_after { out.new ≡ step_written out.old (tick_of file.now) }
 {
-    let a = scene::tick_of(file);
-    lent_steps::step_into(out, a)
+    let answer = scene::tick_of(file);
+    base::code(lent_steps::step_into(out, answer))
 }

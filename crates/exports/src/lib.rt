@@ -26,6 +26,7 @@ pub use summed::{
     boltjuniper_build_summary, boltjuniper_check_summary, boltjuniper_move_summed,
     boltjuniper_set_block, boltjuniper_step_falling_summed, boltjuniper_step_summed,
 };
+use tables::Tables;
 pub use tick::{boltjuniper_step, boltjuniper_step_checked};
 pub use window_moves::boltjuniper_move;
 
@@ -35,24 +36,21 @@ pub use window_moves::boltjuniper_move;
 pub extern "C" fn boltjuniper_floor(x: f64) -> f64
     ensures { result ≡ (answer_where (is_finite x) (floor_of x)).value }
 {
-    let a = wholes::floor(x);
-    a.value
+    wholes::floor(x).unwrap_or(0.0)
 }
 
 #[unsafe(no_mangle)]
 pub extern "C" fn boltjuniper_ceil(x: f64) -> f64
     ensures { result ≡ (answer_where (is_finite x) (ceil_of x)).value }
 {
-    let a = wholes::ceil(x);
-    a.value
+    wholes::ceil(x).unwrap_or(0.0)
 }
 
 #[unsafe(no_mangle)]
 pub extern "C" fn boltjuniper_root(x: f64) -> f64
     ensures { result ≡ (answer_where (has_root x) (root_of x)).value }
 {
-    let a = roots::sqrt(x);
-    a.value
+    roots::sqrt(x).unwrap_or(0.0)
 }
 
 #[unsafe(no_mangle)]
@@ -66,5 +64,5 @@ pub extern "C" fn boltjuniper_cell(x: f64) -> i32
 pub extern "C" fn boltjuniper_check_tables(records: &[u32], shapes: &[f32]) -> u32
     ensures { result ≡ table_refusal records.now shapes.now }
 {
-    table_check::check_tables(records, shapes)
+    base::code(table_check::check_tables(Tables { records, shapes }))
 }

@@ -16,7 +16,7 @@ pub extern "C" fn boltjuniper_move_over(
     ensures value { result ≡ (move_any_of boxes.now mover.now step grounded).refusal }
     ensures out_after { out.new ≡ written_by out.old (move_any_of boxes.now mover.now step grounded) }
 {
-    lent_moves::move_over_any(boxes, mover, step, grounded, out)
+    base::code(lent_moves::move_over_any(boxes, mover, step, grounded, out))
 }
 
 // For a host: `boxes` has six numbers to a box, `mover` is the box and its delta, nine numbers, and `grounded` is 1 where the body was on
@@ -34,5 +34,5 @@ pub extern "C" fn boltjuniper_move_over_list(
     ensures value { result ≡ (move_list_of cap boxes.now mover.now step grounded (length out.old)).refusal }
     ensures out_after { out.new ≡ written_by out.old (move_list_of cap boxes.now mover.now step grounded (length out.old)) }
 {
-    lent_moves::move_over_lent(cap, boxes, mover, step, grounded, out)
+    base::code(lent_moves::move_over_lent(cap, boxes, mover, step, grounded, out))
 }

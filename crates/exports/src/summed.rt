@@ -12,7 +12,8 @@ ghost use Rattle.lent_calls.specs.Falling.{falling_summed_at};
 ghost use Rattle.exports.specs.Cells.{cell_named};
 
 use fall_rule::Fall;
-use window::Pos;
+use tables::Tables;
+use window::{Pos, View};
 
 // `cells` are the words of cells and columns, and behind them one word for each group of 4 by 4 by 4 cells. It writes those, and returns 0; or it
 // returns 1, 2, 3 or 11, and writes nothing.
@@ -34,8 +35,9 @@ pub extern "C" fn boltjuniper_build_summary(
     ensures value { result ≡ build_entry records.now shapes.now cells.old (window_of ox oy oz sx sy sz lowest highest air) }
     ensures cells_after { cells.new ≡ built_entry records.now shapes.now cells.old (window_of ox oy oz sx sy sz lowest highest air) }
 {
+    let tables = Tables { records, shapes };
     let w = window::window_of(ox, oy, oz, sx, sy, sz, lowest, highest, air);
-    summary::build_summary(records, shapes, cells, w)
+    base::code(summary::build_summary(tables, cells, w))
 }
 
 // The cell at x, y, z becomes this state, and the word of its group is mended. It returns 0; or 1, 2, 3, 11, 13 or 5, and writes nothing. It looks at
@@ -62,8 +64,9 @@ pub extern "C" fn boltjuniper_set_block(
     ensures value { result ≡ set_entry records.now shapes.now cells.old (window_of ox oy oz sx sy sz lowest highest air) (cell_named x y z) }
     ensures cells_after { cells.new ≡ after_set_entry records.now shapes.now cells.old (window_of ox oy oz sx sy sz lowest highest air) (cell_named x y z) state }
 {
+    let tables = Tables { records, shapes };
     let w = window::window_of(ox, oy, oz, sx, sy, sz, lowest, highest, air);
-    summary::set_block(records, shapes, cells, w, Pos { x, y, z }, state)
+    base::code(summary::set_block(tables, cells, w, Pos { x, y, z }, state))
 }
 
 // 0; or 1, 2, 3, 11 or 13. Who has had a 0 may step many bodies of this air state by `boltjuniper_step_checked` over the same words.
@@ -84,8 +87,12 @@ pub extern "C" fn boltjuniper_check_summary(
 ) -> u32
     ensures { result ≡ summed_refusal records.now shapes.now cells.now (window_of ox oy oz sx sy sz lowest highest air) }
 {
-    let w = window::window_of(ox, oy, oz, sx, sy, sz, lowest, highest, air);
-    summary::check_summed(records, shapes, cells, w)
+    let tables = Tables { records, shapes };
+    let view = View {
+        words: cells,
+        window: window::window_of(ox, oy, oz, sx, sy, sz, lowest, highest, air),
+    };
+    base::code(summary::check_summed(tables, view))
 }
 
 // As `boltjuniper_move`, over a window with a summary: 11 and 13 after 4.
@@ -112,8 +119,12 @@ pub extern "C" fn boltjuniper_move_summed(
     ensures value { result ≡ (move_summed_at cap records.now shapes.now cells.now (window_of ox oy oz sx sy sz lowest highest air) mover.now step grounded (length out.old)).refusal }
     ensures out_after { out.new ≡ written_by out.old (move_summed_at cap records.now shapes.now cells.now (window_of ox oy oz sx sy sz lowest highest air) mover.now step grounded (length out.old)) }
 {
-    let w = window::window_of(ox, oy, oz, sx, sy, sz, lowest, highest, air);
-    lent_calls::move_summed_lent(cap, records, shapes, cells, w, mover, step, grounded, out)
+    let tables = Tables { records, shapes };
+    let view = View {
+        words: cells,
+        window: window::window_of(ox, oy, oz, sx, sy, sz, lowest, highest, air),
+    };
+    base::code(lent_calls::move_summed_lent(cap, tables, view, mover, step, grounded, out))
 }
 
 // As `boltjuniper_step`, over a window with a summary of the body's air state: 11 and 13 after 4.
@@ -138,8 +149,12 @@ pub extern "C" fn boltjuniper_step_summed(
     ensures value { result ≡ (summed_at records.now shapes.now cells.now (window_of ox oy oz sx sy sz lowest highest 0) numbers.now words.now age (length out.old)).refusal }
     ensures out_after { out.new ≡ answer_written out.old (summed_at records.now shapes.now cells.now (window_of ox oy oz sx sy sz lowest highest 0) numbers.now words.now age (length out.old)) }
 {
-    let w = window::window_of(ox, oy, oz, sx, sy, sz, lowest, highest, 0);
-    lent_calls::summed_lent(records, shapes, cells, w, numbers, words, age, out)
+    let tables = Tables { records, shapes };
+    let view = View {
+        words: cells,
+        window: window::window_of(ox, oy, oz, sx, sy, sz, lowest, highest, 0),
+    };
+    base::code(lent_calls::summed_lent(tables, view, numbers, words, age, out))
 }
 
 // As `boltjuniper_step_falling`, over a window with a summary of the body's air state: 11 and 13 after 4.
@@ -166,16 +181,11 @@ pub extern "C" fn boltjuniper_step_falling_summed(
     ensures value { result ≡ (falling_summed_at records.now shapes.now cells.now (window_of ox oy oz sx sy sz lowest highest 0) numbers.now words.now age (fall_of sum landed) (length out.old)).step.refusal }
     ensures out_after { out.new ≡ falling_written out.old (falling_summed_at records.now shapes.now cells.now (window_of ox oy oz sx sy sz lowest highest 0) numbers.now words.now age (fall_of sum landed) (length out.old)) }
 {
-    let w = window::window_of(ox, oy, oz, sx, sy, sz, lowest, highest, 0);
-    lent_calls::falling_summed_lent(
-        records,
-        shapes,
-        cells,
-        w,
-        numbers,
-        words,
-        age,
-        Fall { sum, landed },
-        out,
-    )
+    let tables = Tables { records, shapes };
+    let view = View {
+        words: cells,
+        window: window::window_of(ox, oy, oz, sx, sy, sz, lowest, highest, 0),
+    };
+    let fall = Fall { sum, landed };
+    base::code(lent_calls::falling_summed_lent(tables, view, numbers, words, age, fall, out))
 }

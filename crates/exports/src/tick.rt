@@ -4,6 +4,9 @@ ghost use Rattle.window.specs.Numbers.{window_of};
 ghost use Rattle.lent_room.specs.Room.{answer_written};
 ghost use Rattle.lent_calls.specs.Ticks.{checked_at, step_at};
 
+use tables::Tables;
+use window::View;
+
 // One tick of a body over a window. `numbers` are feet, velocity, width, height, network offset, gravity, vertical drag, horizontal drag, flap,
 // step height, then of the rules default friction, sample depth, liquid gravity, water drag, lava drag, 19 of them; `words` are ground, model,
 // stage, ground friction, flap present, air state, cap, 7 of them. It writes feet, velocity, ground and liquid, then the case of its sample and the
@@ -30,8 +33,12 @@ pub extern "C" fn boltjuniper_step(
     ensures value { result ≡ (step_at records.now shapes.now cells.now (window_of ox oy oz sx sy sz lowest highest 0) numbers.now words.now age (length out.old)).refusal }
     ensures out_after { out.new ≡ answer_written out.old (step_at records.now shapes.now cells.now (window_of ox oy oz sx sy sz lowest highest 0) numbers.now words.now age (length out.old)) }
 {
-    let w = window::window_of(ox, oy, oz, sx, sy, sz, lowest, highest, 0);
-    lent_calls::step_lent(records, shapes, cells, w, numbers, words, age, out)
+    let tables = Tables { records, shapes };
+    let view = View {
+        words: cells,
+        window: window::window_of(ox, oy, oz, sx, sy, sz, lowest, highest, 0),
+    };
+    base::code(lent_calls::step_lent(tables, view, numbers, words, age, out))
 }
 
 // The same over tables and a window that were checked before, once for many bodies. That what it writes is finite is promised of tables that pass
@@ -57,6 +64,10 @@ pub extern "C" fn boltjuniper_step_checked(
     ensures value { result ≡ (checked_at records.now shapes.now cells.now (window_of ox oy oz sx sy sz lowest highest 0) numbers.now words.now age (length out.old)).refusal }
     ensures out_after { out.new ≡ answer_written out.old (checked_at records.now shapes.now cells.now (window_of ox oy oz sx sy sz lowest highest 0) numbers.now words.now age (length out.old)) }
 {
-    let w = window::window_of(ox, oy, oz, sx, sy, sz, lowest, highest, 0);
-    lent_calls::checked_lent(records, shapes, cells, w, numbers, words, age, out)
+    let tables = Tables { records, shapes };
+    let view = View {
+        words: cells,
+        window: window::window_of(ox, oy, oz, sx, sy, sz, lowest, highest, 0),
+    };
+    base::code(lent_calls::checked_lent(tables, view, numbers, words, age, out))
 }

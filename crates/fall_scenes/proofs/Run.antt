@@ -39,7 +39,7 @@ use Rattle.bodies.specs.Limits as BL
 use Rattle.drags.specs.Drags as DR
 use Rattle.samples.specs.Samples as SA
 use Rattle.ticks.specs.Step as TS
-use Rattle.step_answers.specs.declared.StepAnswer.{StepAnswer}
+use Rattle.step_answers.specs.Records.{StepAnswer}
 use Rattle.step.specs.Answers as SE
 use Rattle.step.specs.Answers.{step_answer, checked_asked, step_entry}
 use Rattle.small_scenes.specs.Moves.{whole}

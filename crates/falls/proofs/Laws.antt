@@ -1,7 +1,7 @@
 -- The step with a fall record: it is the step, its refusals hand the record back, and over checked tables and window it is itself. Assumes nothing.
 use mathlib.Core.Bool.{Bool, true, false, not}
 use mathlib.Core.List.{List}
-use mathlib.Core.Path.{◌≡◌, refl, sym, ◌∙◌}
+use mathlib.Core.Path.{◌≡◌, refl}
 use Prim.Native.Nat.{ℕ, ◌<◌}
 use native.Mathlib.Omega.{arith}
 use lib.Dec.{T}
@@ -22,7 +22,6 @@ use Rattle.step.specs.Answers.{step_answer, checked_asked, step_entry}
 use Rattle.step.proofs.Laws.{past-without}
 use Rattle.step.proofs.Summed.{asked-summed}
 use Rattle.fall_rule.specs.declared.Fall.{Fall}
-use Rattle.step_answers.specs.declared.FallingAnswer.{FallingAnswer}
 use Rattle.fall_rule.specs.Rule.{fall_fits}
 use Rattle.falls.specs.Answers.{with_fall, falling_checked, falling_entry, falling_summed, HandedBack}
 

@@ -6,7 +6,7 @@ use Rattle.base.specs.Choose.{choose}
 use Rattle.floats.specs.Numbers.{zero64}
 use Rattle.boxes.specs.Limits.{two_to}
 use Rattle.fall_rule.specs.Rule.{landing, fall_of, fall_by, fresh}
-use Rattle.falls.specs.Moves.{move_of, lands, resets, deepened, drops_of, none_of, Last, Since, past, all, Landed, last, never, Fallen, through}
+use Rattle.falls.specs.Moves.{lands, resets, deepened, none_of, Last, Since, past, all, last, never, Fallen, through}
 use Rattle.falls.specs.Samples.{fall, land, swim, fall_again, sample, deep, to_landing, since_swim}
 use Rattle.falls.proofs.Moves.{moves-fallen, fallen-one}
 

@@ -5,7 +5,7 @@ use mathlib.Core.Path.{◌≡◌, refl, sym, ap, ◌∙◌, subst}
 use lib.Dec.{T, eqb}
 use Rattle.base.specs.Choose.{choose}
 use Rattle.fall_rule.specs.declared.Fall.{Fall}
-use Rattle.step_answers.specs.declared.FallingAnswer.{FallingAnswer}
+use Rattle.step_answers.specs.Records.{FallingAnswer}
 use Rattle.fall_rule.specs.Rule.{fall_fits, fresh}
 use Rattle.falls.specs.Answers.{fall_over, with_fall}
 use Rattle.falls.specs.Moves.{Fallen, fall_after_move, through, StepCall, played, step_of, step_move, moves_of}

@@ -10,7 +10,7 @@ use Rattle.bodies.specs.declared.BodyNumbers.{BodyNumbers}
 use Rattle.bodies.specs.declared.Rules.{Rules}
 use Rattle.bodies.specs.declared.MotionNumbers.{MotionNumbers}
 use Rattle.step_answers.specs.declared.Tick.{Tick}
-use Rattle.step_answers.specs.declared.FallingAnswer.{FallingAnswer}
+use Rattle.step_answers.specs.Records.{FallingAnswer}
 use Rattle.step_answers.specs.Answers.{step_answer}
 pub use Rattle.step_answers.specs.Answers.{fall_over, refused_falling}
 unfoldable pub use Rattle.step_answers.specs.Answers.{with_fall}

@@ -9,10 +9,10 @@ use Rattle.bodies.specs.declared.BodyNumbers.{BodyNumbers}
 use Rattle.bodies.specs.declared.Rules.{Rules}
 use Rattle.bodies.specs.declared.MotionNumbers.{MotionNumbers}
 use Rattle.bodies.specs.Body.{is_yes}
-use Rattle.step_answers.specs.declared.StepAnswer.{StepAnswer}
+use Rattle.step_answers.specs.Records.{StepAnswer}
 use Rattle.step.specs.Answers.{step_entry}
 use Rattle.fall_rule.specs.declared.Fall.{Fall}
-use Rattle.step_answers.specs.declared.FallingAnswer.{FallingAnswer}
+use Rattle.step_answers.specs.Records.{FallingAnswer}
 use Rattle.fall_rule.specs.Rule.{moved, went_down, drop_of, deeper, landing, fall_after}
 use Rattle.falls.specs.Answers.{falling_entry}
 

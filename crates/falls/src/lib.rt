@@ -3,78 +3,72 @@
 #![tactic(auto)]
 
 ghost use Rattle.std.specs.Prelude.{◌≡◌};
+ghost use Rattle.base.specs.Refusals.{asked};
+ghost use Rattle.step_answers.specs.Answers.{falling_answer};
 ghost use Rattle.falls.specs.Answers.{falling_checked, falling_entry, falling_summed};
 
+use base::Refusal;
 use bodies::{BodyNumbers, MotionNumbers, Rules};
 use fall_rule::{Fall, fall_fits};
 use lent::check_lent;
-use step_answers::{FallingAnswer, refused_falling, unfit_record, with_fall};
-use window::Window;
+use step_answers::{FallingTick, with_fall};
+use tables::Tables;
+use window::View;
 
-// For hosts that checked tables and window before, once for many bodies: 3 also for the record; then all as `step::step_checked` has it.
+/// For hosts that checked tables and window before, once for many bodies: 3 also for the record; then all as `step::step_checked` has it.
+#[tactic(auto, using(base::proofs::Cases::cases), unfolding(crate::specs::Answers::falling_checked, step::specs::Answers::checked_entry, step_answers::specs::Answers::with_fall, base::specs::Choose::choose))]
 pub fn step_falling_checked(
-    records: &[u32],
-    shapes: &[f32],
-    cells: &[u32],
-    w: Window,
+    tables: Tables<'_>,
+    view: View<'_>,
     rules: Rules,
     body: BodyNumbers,
     given: MotionNumbers,
     age: u64,
     fall: Fall,
-) -> FallingAnswer
-    ensures { result ≡ falling_checked records.now shapes.now cells.now w rules body given age fall }
+) -> Result<FallingTick, Refusal>
+    ensures { falling_answer given fall (asked result) ≡ falling_checked tables.entry.records.now tables.entry.shapes.now view.entry.words.now view.entry.window rules body given age fall }
 {
-    if fall_fits(fall) {
-        let a = view::checked_window(records, shapes, cells, w, rules, body, given, age);
-        return with_fall(fall, given, a);
+    if !fall_fits(fall) {
+        return Err(Refusal::Number); // before any of the step's own
     }
-    unfit_record(given, fall)
+    let tick = step::step_checked(tables, view, rules, body, given, age)?;
+    Ok(with_fall(fall, given, tick))
 }
 
-// For hosts: one tick of a body with its fall record, 1 and 2 before all that.
+/// For hosts: one tick of a body with its fall record, 1 and 2 before all that.
+#[tactic(auto, using(base::proofs::Cases::cases), unfolding(crate::specs::Answers::falling_entry, step_answers::specs::Answers::with_fall, base::specs::Choose::choose))]
 pub fn step_falling(
-    records: &[u32],
-    shapes: &[f32],
-    cells: &[u32],
-    w: Window,
+    tables: Tables<'_>,
+    view: View<'_>,
     rules: Rules,
     body: BodyNumbers,
     given: MotionNumbers,
     age: u64,
     fall: Fall,
-) -> FallingAnswer
-    ensures { result ≡ falling_entry records.now shapes.now cells.now w rules body given age fall }
+) -> Result<FallingTick, Refusal>
+    ensures { falling_answer given fall (asked result) ≡ falling_entry tables.entry.records.now tables.entry.shapes.now view.entry.words.now view.entry.window rules body given age fall }
 {
-    let refusal = check_lent(records, shapes, cells, w);
-    if refusal != 0 {
-        return refused_falling(refusal, given, fall);
-    }
-    step_falling_checked(records, shapes, cells, w, rules, body, given, age, fall)
+    check_lent(tables, view)?;
+    step_falling_checked(tables, view, rules, body, given, age, fall)
 }
 
-// For hosts: the same over a window with a summary behind its words, refused as `step::step_summed` refuses.
+/// For hosts: the same over a window with a summary behind its words, refused as `step::step_summed` refuses.
+#[tactic(auto, using(base::proofs::Cases::cases), unfolding(crate::specs::Answers::falling_summed, step::specs::Answers::step_summed, step_answers::specs::Answers::with_fall, base::specs::Choose::choose))]
 pub fn step_falling_summed(
-    records: &[u32],
-    shapes: &[f32],
-    words: &[u32],
-    w: Window,
+    tables: Tables<'_>,
+    view: View<'_>,
     rules: Rules,
     body: BodyNumbers,
     given: MotionNumbers,
     age: u64,
     fall: Fall,
-) -> FallingAnswer
-    ensures { result ≡ falling_summed records.now shapes.now words.now w rules body given age fall }
+) -> Result<FallingTick, Refusal>
+    ensures { falling_answer given fall (asked result) ≡ falling_summed tables.entry.records.now tables.entry.shapes.now view.entry.words.now view.entry.window rules body given age fall }
 {
-    if fall_fits(fall) {
-        let a = step::step_summed(records, shapes, words, w, rules, body, given, age);
-        return with_fall(fall, given, a);
+    if !fall_fits(fall) {
+        check_lent(tables, summary::plain(view))?;
+        return Err(Refusal::Number);
     }
-    let cells = summary::plain_words(words, w);
-    let refusal = check_lent(records, shapes, cells, w);
-    if refusal == 0 {
-        return unfit_record(given, fall);
-    }
-    refused_falling(refusal, given, fall)
+    let tick = step::step_summed(tables, view, rules, body, given, age)?;
+    Ok(with_fall(fall, given, tick))
 }

@@ -1,7 +1,5 @@
 -- Which files are scenes, and the counts and the window that a scene holds. Document 01's words stand in quotes.
 use Rattle.std.specs.Prelude.{Bool, not, ◌&&◌, ◌||◌, List, ℕ, ◌+◌, ◌*◌, eqb, leb, length}
-use Rattle.base.specs.Choose.{choose}
-use Rattle.base.specs.Ask.{Ask, refused, found}
 use Rattle.window.specs.declared.Sizes.{Sizes}
 use Rattle.window.specs.declared.Window.{Window}
 use Rattle.window.specs.Window.{cell_count, column_count, sizes_fit}
@@ -10,8 +8,6 @@ use Rattle.blocks.specs.declared.Part.{Part}
 use Rattle.blocks.specs.Blocks.{part_word, part_fits, end_of, body_part, record_part, box_part, window_part, cell_part}
 use Rattle.files.specs.Places.{number_place, word_place, states_place, boxes_place, flap_number, present_word, air_word}
 use Rattle.files.specs.declared.Counts.{Counts}
-use Rattle.files.specs.declared.Counted.{Counted}
-use Rattle.files.specs.declared.Counted.TheVariants as counted
 
 -- ---- the body's words
 
@@ -48,11 +44,6 @@ counts_fit file =
 
 abbrev pub counts_of : List ℕ → Counts
 counts_of file = counts_in file (sizes_in file)
-
--- what the program finds of the counts
-abbrev pub counts_asked : Counted → Ask Counts
-counts_asked (counted.Are n) = found n
-counts_asked counted.Unfit = refused 8
 
 -- ---- which files are scenes
 

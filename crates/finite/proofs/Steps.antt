@@ -33,8 +33,8 @@ use Rattle.bodies.specs.declared.Stage.{Stage}
 use Rattle.bodies.specs.declared.Stage.TheVariants.{BeforeMove, AfterMove, AfterDrag}
 use Rattle.bodies.specs.declared.Ground.{Ground}
 use Rattle.bodies.specs.declared.Ground.TheVariants as grounds
-use Rattle.bodies.specs.declared.Flap.{Flap}
-use Rattle.bodies.specs.declared.Flap.TheVariants as flap
+use Rattle.std.specs.Prelude.{Option}
+use Rattle.std.specs.Prelude as option
 use Rattle.bodies.specs.declared.Body.{Body}
 use Rattle.bodies.specs.declared.Rules.{Rules}
 use Rattle.bodies.specs.declared.Motion.{Motion}
@@ -55,11 +55,11 @@ use Rattle.finite.proofs.Currents.{Flows, one-within, current-finds}
 use Rattle.finite.proofs.Frictions.{Sampled, sample-within, sampled-within}
 
 -- ---- a body and rules within their limits
-abbrev Wings : Flap → Type 0
-Wings flap.None = Unit {0}
-Wings (flap.Drag drag) = Within drag 16
+abbrev Wings : Option Float → Type 0
+Wings option.None = Unit {0}
+Wings (option.Some drag) = Within drag 16
 
-pub record Flaps (f : Flap) : Type 0 where
+pub record Flaps (f : Option Float) : Type 0 where
   pub is : Wings f
 
 pub record BodyFits (b : Body) : Type 0 where
@@ -169,10 +169,10 @@ damped-within horizontal axis h a = either-most _ _ _ fastest_step 1 (zero-withi
 fallen-within : (n : ℕ) (body : Body) (y : Float) → BodyFits body → Within y n → n + 16 ≤ 2 ^ 53 → (n + 16) * 16 ≤ 2 ^ 53 → Within (drag.fallen body y) ((n + 16) * 16)
 fallen-within n body y F h l m = mul-within _ body.vertical (n + 16) 16 (sub_within y body.gravity n 16 h F.gravity l) F.vertical m
 
-flapped-within : (f : Flap) (y : Float) → Flaps f → Within y 1536 → Within (drag.flapped f y) fastest_step
+flapped-within : (f : Option Float) (y : Float) → Flaps f → Within y 1536 → Within (drag.flapped f y) fastest_step
 unfolding drag.flapped
-flapped-within flap.None y F h = more y 1536 fastest_step h (lit≤ tt)
-flapped-within (flap.Drag d) y F h =
+flapped-within option.None y F h = more y 1536 fastest_step h (lit≤ tt)
+flapped-within (option.Some d) y F h =
     either-most _ _ _ fastest_step 1
     (more _ (1536 * 17) fastest_step (mul-within y _ 1536 17 h (sub_within one64 d 1 16 one-within F.is (lit≤ tt)) (lit≤ tt)) (lit≤ tt))
     (more y 1536 fastest_step h (lit≤ tt))

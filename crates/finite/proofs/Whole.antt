@@ -22,7 +22,7 @@ use Rattle.sweeps.specs.Lists.{cap_of}
 use Rattle.window.specs.Numbers.{with_air}
 use Rattle.lent.specs.Lent.{lent_refusal}
 use Rattle.collection.proofs.Refuses as may
-use Rattle.bodies.specs.declared.Flap.TheVariants as flap
+use Rattle.std.specs.Prelude as option
 use Rattle.bodies.specs.declared.BodyNumbers.{BodyNumbers}
 use Rattle.bodies.specs.declared.Rules.{Rules}
 use Rattle.bodies.specs.declared.MotionNumbers.{MotionNumbers}
@@ -54,7 +54,7 @@ flaps-fit : (b : BodyNumbers) → Within b.flap 16 → Flaps (flap_of b.flaps b.
 unfolding flap_of choose
 flaps-fit b f = go (is_yes b.flaps)
   where
-    go : (t : Bool) → Flaps (choose t (flap.Drag b.flap) flap.None)
+    go : (t : Bool) → Flaps (choose t (option.Some b.flap) option.None)
     go true = record { is = f }
     go false = record { is = tt }
 

@@ -8,16 +8,15 @@ use Rattle.boxes.specs.declared.Aabb.{Aabb}
 use Rattle.boxes.specs.Limits.{are_within, is_box, is_delta, is_step}
 use Rattle.sweeps.specs.declared.BoxList.{BoxList}
 use Rattle.sweeps.specs.declared.MoveResult.{MoveResult}
-use Rattle.sweeps.specs.declared.MoveAnswer.{MoveAnswer}
 use Rattle.sweeps.specs.Move.{move_over}
-use Rattle.sweeps.specs.Entry.{move_over_list}
+use Rattle.sweeps.specs.Entry.{MoveAnswer, move_over_list}
 use Rattle.table_check.specs.Check.{tables_fit}
 use Rattle.window.specs.declared.Window.{Window}
 use Rattle.moves.specs.Answers.{move_entry}
 use Rattle.bodies.specs.declared.BodyNumbers.{BodyNumbers}
 use Rattle.bodies.specs.declared.Rules.{Rules}
 use Rattle.bodies.specs.declared.MotionNumbers.{MotionNumbers}
-use Rattle.step_answers.specs.declared.StepAnswer.{StepAnswer}
+use Rattle.step_answers.specs.Records.{StepAnswer}
 use Rattle.step.specs.Answers.{checked_entry, step_entry}
 
 -- ---- the numbers

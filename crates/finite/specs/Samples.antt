@@ -14,7 +14,7 @@ use Rattle.window.specs.declared.Window.{Window}
 use Rattle.bodies.specs.declared.BodyNumbers.{BodyNumbers}
 use Rattle.bodies.specs.declared.Rules.{Rules}
 use Rattle.bodies.specs.declared.MotionNumbers.{MotionNumbers}
-use Rattle.step_answers.specs.declared.StepAnswer.{StepAnswer}
+use Rattle.step_answers.specs.Records.{StepAnswer}
 use Rattle.step.specs.Answers.{checked_entry, step_entry}
 use Rattle.small_scenes.specs.Palette.{first_words, unlinked, records, shapes, air, full_cube}
 use Rattle.finite.specs.Finite.{limit, farthest_move, longest_way, fastest_step}

@@ -1,9 +1,10 @@
 -- Finite numbers, their order and size, and what module 1 answers. `Float` is lib.Ieee's: `fin s m e` is m * 2 ^ e, negative where s is true.
-use Rattle.std.specs.Prelude.{Bool, true, false, Float}
+use Rattle.std.specs.Prelude.{Bool, true, false, ℕ, Result, Ok, Err, Float}
 use Rattle.std.specs.Float.{nan, inf, fin, binary64}
 use Rattle.std.specs.Float.Ieee.{of_bits, lt, le}
 use Rattle.base.specs.Choose.{choose}
-use Rattle.floats.specs.declared.Answer.{Answer}
+use Rattle.base.specs.declared.Refusal.{Refusal}
+use Rattle.base.specs.Refusals.{number_of}
 
 -- +0 and 1
 abbrev pub zero64 : Float
@@ -37,6 +38,15 @@ greatest_of a b = choose (lt a b) b a
 
 abbrev pub are_finite : Float → Float → Bool
 are_finite a b = choose (is_finite a) (is_finite b) false
+
+-- what module 1 answers: refusal 0 and the value, or a refusal's number and +0
+pub record Answer : Type 0 where
+  pub refusal : ℕ
+  pub value : Float
+
+abbrev pub answered : Result Float Refusal → Answer
+answered (Ok v) = record { refusal = 0; value = v }
+answered (Err e) = record { refusal = number_of e; value = zero64 }
 
 -- v where the arguments are taken; otherwise the refusal 4 and +0
 abbrev pub answer_where : Bool → Float → Answer

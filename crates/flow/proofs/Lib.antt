@@ -1,3 +1,2 @@
 -- What the proofs of flow share.
-pub mod Answers
 pub mod FourSides

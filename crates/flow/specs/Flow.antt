@@ -1,5 +1,5 @@
 -- The Rust's `liquid_flow`: how a liquid in a cell flows, by what is around it.
-use Rattle.std.specs.Prelude.{Bool, true, false, not, ◌&&◌, List, ℕ, leb}
+use Rattle.std.specs.Prelude.{Bool, true, false, not, ◌&&◌, Option, Some, None, List, ℕ, leb, Float}
 use Rattle.base.specs.Choose.{choose}
 use Rattle.base.specs.Ask.{Ask, found, ◌>>=◌, asking}
 use Rattle.boxes.specs.declared.Vec3.{Vec3}
@@ -8,8 +8,6 @@ use Rattle.cover.specs.declared.Side.{Side}
 use Rattle.tables.specs.declared.LiquidState.{LiquidState}
 use Rattle.window.specs.declared.Pos.{Pos}
 use Rattle.window.specs.Look.{Block, stepped}
-use Rattle.flow_sides.specs.declared.Gap.{Gap}
-use Rattle.flow_sides.specs.declared.Gap.TheVariants.{By, Nothing}
 use Rattle.flow.specs.Liquid.{alike, liquid_held, blocks_liquid_flow}
 pub use Rattle.flow_sides.specs.Sides.{side_step, six64}
 unfoldable pub use Rattle.flow_sides.specs.Sides.{step_beside, step_below, step_above, unit_to, effective_depth, difference_to, difference_below, flowed_by, normalised_flow, side_of}
@@ -17,19 +15,19 @@ unfoldable pub use Rattle.flow_sides.specs.Sides.{step_beside, step_below, step_
 -- ---- by how much the liquid on a side is deeper
 
 -- a liquid of the same kind beside; otherwise, where the side stops no flow, one of the same kind below the side
-unfoldable pub difference : (Pos → Ask Block) → List ℕ → Pos → LiquidState → Side → Ask Gap
+unfoldable pub difference : (Pos → Ask Block) → List ℕ → Pos → LiquidState → Side → Ask (Option Float)
 difference look records p state side = do
   other ← liquid_held look records (stepped p (step_beside side))
   choose (alike other.kind state.kind)
-      (found (By (difference_to (effective_depth other.depth) (effective_depth state.depth))))
+      (found (Some (difference_to (effective_depth other.depth) (effective_depth state.depth))))
       (do
         stopped ← blocks_liquid_flow look records (stepped p (step_beside side))
-        choose stopped (found Nothing)
+        choose stopped (found None)
             (do
               under ← liquid_held look records (stepped p (step_below side))
               choose (alike under.kind state.kind)
-                  (found (By (difference_below (effective_depth under.depth) (effective_depth state.depth))))
-                  (found Nothing)))
+                  (found (Some (difference_below (effective_depth under.depth) (effective_depth state.depth))))
+                  (found None)))
 
 -- ---- one side
 

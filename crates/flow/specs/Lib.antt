@@ -1,4 +1,3 @@
--- The definitions of module 7, below: liquids in cells, flow, and what the program's answers say.
+-- The definitions of module 7, below: liquids in cells, and flow.
 pub mod Liquid
 pub mod Flow
-pub mod Answers

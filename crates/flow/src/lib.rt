@@ -4,69 +4,36 @@
 mod sides;
 
 ghost use Rattle.std.specs.Prelude.{◌≡◌};
-ghost use Rattle.base.specs.Answers.{bool_asked};
-ghost use Rattle.window.specs.Look.{look_at, asked, stepped};
-ghost use Rattle.flow.specs.Liquid.{is_water, is_lava, is_liquid, alike, no_liquid, liquid_told, liquid_held, blocks_liquid_flow};
-ghost use Rattle.flow.specs.Answers.{liquid_asked};
+ghost use Rattle.base.specs.Refusals.{asked};
+ghost use Rattle.window.specs.Look.{block_there, stepped};
+ghost use Rattle.window.specs.Views.{look_in};
+ghost use Rattle.flow.specs.Liquid.{is_water, is_lava, is_liquid, alike, liquid_in, liquid_held, blocks_liquid_flow};
 
-use base::AskedBool;
-use flow_sides::Gap;
+use base::Refusal;
 pub use sides::liquid_flow;
-use tables::{LiquidKind, LiquidState};
-use window::{Cell, CellStep, Pos, Window};
-
-// The liquid of a cell, or the number of a refusal. Its kind is None where there is none.
-#[derive(Clone, Copy)]
-pub enum AskedLiquid {
-    Is(LiquidState),
-    Refused(u32),
-}
-
-// By how much the liquid on a side is deeper, or the number of a refusal.
-#[derive(Clone, Copy)]
-enum AskedGap {
-    Is(Gap),
-    Refused(u32),
-}
-
-// A flow, or the number of a refusal.
-#[derive(Clone, Copy)]
-pub enum AskedVec {
-    Is(boxes::Vec3),
-    Refused(u32),
-}
+use tables::{LiquidKind, LiquidState, Tables};
+use window::{CellStep, Pos, View};
 
 pub fn is_water(kind: LiquidKind) -> bool
     ensures { result ≡ is_water kind }
 {
-    match kind {
-        LiquidKind::None => false,
-        LiquidKind::Water => true,
-        LiquidKind::Lava => false,
-    }
+    matches!(kind, LiquidKind::Water)
 }
 
 pub fn is_lava(kind: LiquidKind) -> bool
     ensures { result ≡ is_lava kind }
 {
-    match kind {
-        LiquidKind::None => false,
-        LiquidKind::Water => false,
-        LiquidKind::Lava => true,
-    }
+    matches!(kind, LiquidKind::Lava)
 }
 
 pub fn is_liquid(kind: LiquidKind) -> bool
     ensures { result ≡ is_liquid kind }
 {
-    match kind {
-        LiquidKind::None => false,
-        LiquidKind::Water => true,
-        LiquidKind::Lava => true,
-    }
+    !matches!(kind, LiquidKind::None)
 }
 
-// Two liquids of one kind.
+/// Two liquids of one kind: where there is no liquid nothing is alike.
+#[tactic(auto, unfolding(crate::specs::Liquid::alike))]
 pub(crate) fn are_alike(kind: LiquidKind, other: LiquidKind) -> bool
     ensures { result ≡ alike kind other }
 {
@@ -77,53 +44,40 @@ pub(crate) fn are_alike(kind: LiquidKind, other: LiquidKind) -> bool
     }
 }
 
-fn no_liquid() -> LiquidState
-    ensures { result ≡ no_liquid }
+/// The liquid in a cell, from what was looked up there. It is small, so that it goes where it is called.
+pub fn liquid_told(tables: Tables<'_>, block: Option<u32>) -> LiquidState
+    ensures { result ≡ liquid_in tables.entry.records.now (block_there block) }
 {
-    LiquidState {
-        kind: LiquidKind::None,
-        depth: 0,
+    match block {
+        None => LiquidState {
+            kind: LiquidKind::None,
+            depth: 0,
+        },
+        Some(state) => tables.liquid(state),
     }
 }
 
-// The liquid in a cell, from what was looked up there. It is small, so that it goes where it is called.
-pub fn liquid_told(records: &[u32], cell: Cell) -> AskedLiquid
-    ensures { liquid_asked result ≡ liquid_told records.now (asked cell) }
+/// The liquid in the cell at p.
+#[tactic(auto, unfolding(crate::specs::Liquid::liquid_held))]
+pub fn liquid_at(tables: Tables<'_>, view: View<'_>, p: Pos) -> Result<LiquidState, Refusal>
+    ensures { asked result ≡ liquid_held (look_in view.entry) tables.entry.records.now p }
 {
-    match cell {
-        Cell::Outside => AskedLiquid::Refused(5),
-        Cell::Unloaded => AskedLiquid::Is(no_liquid()),
-        Cell::State(s) => AskedLiquid::Is(tables::liquid_state(records, s)),
-    }
+    Ok(liquid_told(tables, view.look(p)?))
 }
 
-// The liquid in the cell at p.
-pub fn liquid_at(records: &[u32], cells: &[u32], w: Window, p: Pos) -> AskedLiquid
-    ensures { liquid_asked result ≡ liquid_held (look_at cells.now w) records.now p }
-{
-    let cell = window::look(cells, w, p);
-    liquid_told(records, cell)
-}
-
-// Whether the cell a step away from p stops a flow. The Rust panics at an unregistered state.
+/// Whether the cell a step away from p stops a flow. The Rust panics at an unregistered state.
+#[tactic(auto, using(base::proofs::Cases::cases), unfolding(crate::specs::Liquid::blocks_liquid_flow, base::specs::Choose::choose))]
 pub fn blocks_liquid_flow(
-    records: &[u32],
-    cells: &[u32],
-    w: Window,
+    tables: Tables<'_>,
+    view: View<'_>,
     p: Pos,
     d: CellStep,
-) -> AskedBool
-    ensures { bool_asked result ≡ blocks_liquid_flow (look_at cells.now w) records.now (stepped p d) }
+) -> Result<bool, Refusal>
+    ensures { asked result ≡ blocks_liquid_flow (look_in view.entry) tables.entry.records.now (stepped p d) }
 {
-    let cell = window::look_by(cells, w, p, d);
-    match cell {
-        Cell::Outside => AskedBool::Refused(5),
-        Cell::Unloaded => AskedBool::Is(true),
-        Cell::State(s) => {
-            if tables::is_registered(records, s) {
-                return AskedBool::Is(tables::blocks_motion(records, s));
-            }
-            AskedBool::Refused(7)
-        }
+    match view.look_by(p, d)? {
+        None => Ok(true),
+        Some(state) if tables.is_registered(state) => Ok(tables.blocks_motion(state)),
+        Some(_) => Err(Refusal::Unregistered),
     }
 }

@@ -1,120 +1,84 @@
 // How a liquid flows, by what is around it.
 ghost use Rattle.std.specs.Prelude.{◌≡◌};
-ghost use Rattle.base.specs.Answers.{bool_asked};
-ghost use Rattle.window.specs.Look.{look_at};
+ghost use Rattle.base.specs.Refusals.{asked};
+ghost use Rattle.window.specs.Views.{look_in};
 ghost use Rattle.flow.specs.Flow.{difference, walled_by, liquid_flow};
-ghost use Rattle.flow.specs.Answers.{gap_asked, vec_asked};
 
-use crate::{AskedGap, AskedLiquid, AskedVec, are_alike, blocks_liquid_flow, liquid_told};
-use base::AskedBool;
+use crate::{are_alike, blocks_liquid_flow, liquid_told};
+use base::Refusal;
+use boxes::Vec3;
 use boxes::vectors::zero;
 use cover::Side;
 use flow_sides::{
-    Gap, asks_walls, difference_below, difference_to, effective_depth, flow_by, normalised_flow,
-    side_of, step_above, step_below, step_beside,
+    SIDES, asks_walls, difference_below, difference_to, effective_depth, flow_by, normalised_flow,
+    side_step,
 };
-use tables::LiquidState;
-use window::{Pos, Window};
+use tables::{LiquidState, Tables};
+use window::{Pos, View};
 
-// By how much the liquid on a side is deeper.
+/// By how much the liquid on a side is deeper: beside, or below that where nothing stops the flow.
+#[tactic(auto, using(base::proofs::Cases::cases), unfolding(crate::specs::Flow::difference, crate::specs::Liquid::liquid_held, flow_sides::specs::Sides::step_beside, flow_sides::specs::Sides::step_below, base::specs::Choose::choose))]
 fn difference_at(
-    records: &[u32],
-    cells: &[u32],
-    w: Window,
+    tables: Tables<'_>,
+    view: View<'_>,
     p: Pos,
     state: LiquidState,
     side: Side,
-) -> AskedGap
-    ensures { gap_asked result ≡ difference (look_at cells.now w) records.now p state side }
+) -> Result<Option<f64>, Refusal>
+    ensures { asked result ≡ difference (look_in view.entry) tables.entry.records.now p state side }
 {
-    let d = step_beside(side);
-    let kind = state.kind;
+    let way = side_step(side, 0);
     let depth = effective_depth(state.depth);
-    let near = window::look_by(cells, w, p, d);
-    match liquid_told(records, near) {
-        AskedLiquid::Refused(n) => AskedGap::Refused(n),
-        AskedLiquid::Is(other) => {
-            let beside = other.kind;
-            if are_alike(beside, kind) {
-                let d = difference_to(effective_depth(other.depth), depth);
-                return AskedGap::Is(Gap::By(d));
-            }
-            match blocks_liquid_flow(records, cells, w, p, d) {
-                AskedBool::Refused(n) => AskedGap::Refused(n),
-                AskedBool::Is(stopped) => {
-                    if stopped {
-                        return AskedGap::Is(Gap::Nothing);
-                    }
-                    let low = window::look_by(cells, w, p, step_below(side));
-                    match liquid_told(records, low) {
-                        AskedLiquid::Refused(n) => AskedGap::Refused(n),
-                        AskedLiquid::Is(under) => {
-                            let lower = under.kind;
-                            if are_alike(lower, kind) {
-                                let d = difference_below(effective_depth(under.depth), depth);
-                                return AskedGap::Is(Gap::By(d));
-                            }
-                            AskedGap::Is(Gap::Nothing)
-                        }
-                    }
-                }
-            }
-        }
+    let beside = liquid_told(tables, view.look_by(p, way)?);
+    if are_alike(beside.kind, state.kind) {
+        return Ok(Some(difference_to(effective_depth(beside.depth), depth)));
     }
+    if blocks_liquid_flow(tables, view, p, way)? {
+        return Ok(None);
+    }
+    let under = liquid_told(tables, view.look_by(p, side_step(side, -1))?);
+    if are_alike(under.kind, state.kind) {
+        return Ok(Some(difference_below(effective_depth(under.depth), depth)));
+    }
+    Ok(None)
 }
 
-// Whether a falling liquid is beside a wall: the side, then the cell above it, until one is found.
+/// Whether a falling liquid is beside a wall: the side, then the cell above it, until one is found.
+#[tactic(auto, using(base::proofs::Cases::cases), unfolding(crate::specs::Flow::walled_by, flow_sides::specs::Sides::step_beside, flow_sides::specs::Sides::step_above, base::specs::Choose::choose))]
 fn walled_by(
-    records: &[u32],
-    cells: &[u32],
-    w: Window,
+    tables: Tables<'_>,
+    view: View<'_>,
     p: Pos,
     state: LiquidState,
     side: Side,
     walled: bool,
-) -> AskedBool
-    ensures { bool_asked result ≡ walled_by (look_at cells.now w) records.now p state side walled }
+) -> Result<bool, Refusal>
+    ensures { asked result ≡ walled_by (look_in view.entry) tables.entry.records.now p state side walled }
 {
-    if asks_walls(state.depth, walled) {
-        return match blocks_liquid_flow(records, cells, w, p, step_beside(side)) {
-            AskedBool::Refused(n) => AskedBool::Refused(n),
-            AskedBool::Is(stopped) => {
-                if stopped {
-                    return AskedBool::Is(true);
-                }
-                blocks_liquid_flow(records, cells, w, p, step_above(side))
-            }
-        };
+    if !asks_walls(state.depth, walled) {
+        return Ok(walled);
     }
-    AskedBool::Is(walled)
+    if blocks_liquid_flow(tables, view, p, side_step(side, 0))? {
+        return Ok(true);
+    }
+    blocks_liquid_flow(tables, view, p, side_step(side, 1))
 }
 
-// How the liquid at p, which is `state`, flows. It refuses 5 and 7 alone, at the first such cell.
+/// How the liquid at p, which is `state`, flows. It refuses 5 and 7 alone, at the first such cell.
 pub fn liquid_flow(
-    records: &[u32],
-    cells: &[u32],
-    w: Window,
+    tables: Tables<'_>,
+    view: View<'_>,
     p: Pos,
     state: LiquidState,
-) -> AskedVec
-    ensures { vec_asked result ≡ liquid_flow (look_at cells.now w) records.now p state }
+) -> Result<Vec3, Refusal>
+    ensures { asked result ≡ liquid_flow (look_in view.entry) tables.entry.records.now p state }
 {
     let mut flow = zero();
     let mut walled = false;
-    let mut k = 0u32;
-    while k < 4 {
-        let side = side_of(k);
-        let gap = match difference_at(records, cells, w, p, state, side) {
-            AskedGap::Refused(n) => return AskedVec::Refused(n),
-            AskedGap::Is(g) => g,
-        };
-        let wall = match walled_by(records, cells, w, p, state, side, walled) {
-            AskedBool::Refused(n) => return AskedVec::Refused(n),
-            AskedBool::Is(b) => b,
-        };
-        flow = flow_by(flow, side, gap);
-        walled = wall;
-        k += 1;
+    for side in SIDES {
+        let difference = difference_at(tables, view, p, state, side)?;
+        walled = walled_by(tables, view, p, state, side, walled)?;
+        flow = flow_by(flow, side, difference);
     }
-    AskedVec::Is(normalised_flow(flow, walled))
+    Ok(normalised_flow(flow, walled))
 }

@@ -1,3 +1,2 @@
 -- What the proofs of a flow's sides share.
 pub mod Constants
-pub mod Gaps

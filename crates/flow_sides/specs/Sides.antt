@@ -1,5 +1,5 @@
 -- The four sides of a cell in the Rust's `liquid_flow`, and what they add to a flow: what it works out without asking for a cell.
-use Rattle.std.specs.Prelude.{Bool, ℕ, leb, eqb, ℤ, pos, negsuc, ◌-ℤ◌, Float}
+use Rattle.std.specs.Prelude.{Bool, Option, Some, None, ℕ, leb, eqb, ℤ, pos, negsuc, ◌-ℤ◌, Float}
 use Rattle.std.specs.Float.{binary64}
 use Rattle.std.specs.Float.Ieee.{of_int, of_bits, neg}
 use Rattle.base.specs.Choose.{choose}
@@ -10,8 +10,6 @@ use Rattle.boxes.specs.Vectors.{unit_y, scaled, normalised}
 use Rattle.cover.specs.declared.Side.{Side}
 use Rattle.cover.specs.declared.Side.TheVariants.{North, East, South, West}
 use Rattle.window.specs.declared.CellStep.{CellStep}
-use Rattle.flow_sides.specs.declared.Gap.{Gap}
-use Rattle.flow_sides.specs.declared.Gap.TheVariants.{By, Nothing}
 
 -- ---- sides: east is IVec3::X, west NEG_X, south Z, north NEG_Z
 
@@ -54,9 +52,9 @@ difference_below other depth = of_int binary64 (pos other -ℤ (pos depth -ℤ p
 -- ---- what a side adds to a flow, and what the flow comes to
 
 -- if let Some(difference) = difference { flow += side.as_dvec3() * difference; }
-unfoldable pub flowed_by : Vec3 → Side → Gap → Vec3
-flowed_by flow side (By d) = plus flow (scaled (unit_to side) d)
-flowed_by flow side Nothing = flow
+unfoldable pub flowed_by : Vec3 → Side → Option Float → Vec3
+flowed_by flow side (Some d) = plus flow (scaled (unit_to side) d)
+flowed_by flow side None = flow
 
 -- 6.0
 abbrev pub six64 : Float

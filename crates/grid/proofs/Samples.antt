@@ -12,7 +12,7 @@ use Rattle.base.specs.Ask as A
 use Rattle.base.specs.Every as Y
 use Rattle.floats.specs.Numbers as N
 use Rattle.wholes.specs.Whole as H
-use Rattle.sweeps.specs.declared.MoveAnswer.{MoveAnswer}
+use Rattle.sweeps.specs.Entry.{MoveAnswer}
 use Rattle.sweeps.specs.Move as M
 use Rattle.boxes.specs.Limits as L
 use Rattle.sweeps.specs.Entry as E

@@ -19,7 +19,7 @@ use Rattle.base.proofs.Tests.{T_true, no-not}
 use Rattle.boxes.specs.declared.Vec3.{Vec3}
 use Rattle.boxes.specs.declared.Aabb.{Aabb}
 use Rattle.sweeps.specs.declared.MoveResult.{MoveResult}
-use Rattle.sweeps.specs.declared.MoveAnswer.{MoveAnswer}
+use Rattle.sweeps.specs.Entry.{MoveAnswer}
 use Rattle.boxes.specs.Boxes.{meet, overlap}
 use Rattle.sweeps.specs.Move.{move_over}
 use Rattle.boxes.specs.Limits.{is_box, is_delta, is_step}

@@ -1,6 +1,6 @@
 -- How many groups and words there are in a window that passes its check, and which group is number i of them. Assumes nothing.
 use mathlib.Core.Path.{◌≡◌, subst}
-use Prim.Native.Nat.{ℕ, ◌+◌, ◌*◌, ◌/◌, ◌%◌, ◌≤◌, ◌<◌}
+use Prim.Native.Nat.{ℕ, ◌+◌, ◌*◌, ◌/◌, ◌≤◌, ◌<◌}
 use native.Mathlib.Nat.{mul-le-mul, mod-lt, div-lt_iff_lt-mul}
 use native.Mathlib.Omega.{arith}
 use mir.Syntax.{w8, w32}
@@ -56,9 +56,6 @@ module _ (s : Sizes) (k : AllSmall s) (i : ℕ) (h : i < group_count s) where
 -- ---- where the words of a summary stand
 pub word_fits : (s : Sizes) → AllSmall s → (at n i : ℕ) → at ≡ words_before s → n ≡ group_count s → i < n → Fits w32 (at + i)
 word_fits s k at n i e f h = let a = all-groups s k in let b = all_words s k in record { fits = omega arith }
-
-pub next_fits : (s : Sizes) → AllSmall s → (n i : ℕ) → n ≡ group_count s → i < n → Fits w32 (i + 1)
-next_fits s k n i f h = let a = all-groups s k in record { fits = omega arith }
 
 -- ---- where a group's word stands
 module _ (s : Sizes) (small : AllSmall s) (gx gy gz across deep : ℕ) (hx : gx < 16) (hy : gy < 16) (hz : gz < 16) (ea : across ≡ groups_on s.x) (ed : deep ≡ groups_on s.z) where

@@ -1,65 +1,56 @@
 -- How far a cell lies from the origin, in i64s and as an index: the set at such a place is the set of the cell. Assumes nothing.
-use mathlib.Core.Path.{◌≡◌, refl, sym, ap, ◌∙◌, subst}
-use mathlib.Core.Bool.{Bool, true, false, ◌&&◌, false≢true}
+use mathlib.Core.Path.{◌≡◌, refl, sym, ap, ◌∙◌}
+use mathlib.Core.Bool.{Bool, true, false, ◌&&◌}
 use mathlib.Core.List.{List}
 use Prim.Native.Nat.{ℕ, ◌+◌, ◌*◌, ◌/◌, ◌≤◌, ◌<◌, ◌^◌}
 use native.Mathlib.Nat.{mul-le-mul}
 use native.Mathlib.Omega.{arith}
-use lib.Dec.{T, ltb}
-use lib.IntN.{ℤ, pos, negsuc, neg_ℤ, nat_abs, ◌+ℤ◌, ◌-ℤ◌, +ℤ_comm, +ℤ-neg_ℤ_cancel}
-use lib.Signed.{mag, le_z, lt_z, non_neg}
+use lib.Dec.{ltb}
+use lib.IntN.{ℤ, pos, neg_ℤ, nat_abs, ◌+ℤ◌, ◌-ℤ◌, +ℤ_comm, +ℤ-neg_ℤ_cancel}
+use lib.Signed.{mag, le_z, lt_z}
 use mir.Syntax.{w32, w64}
 use mir.Val.{SFits, Fits, to_z, of_z}
 use mir.ValLaws.{to_z-of_z, to_z_pos}
 use borrow.Author.Tests.{ltb-true, lt-ltb, le-ltb, le-leb}
 use Rattle.base.specs.Choose.{choose}
-use Rattle.base.proofs.Every.{both}
+use Rattle.base.proofs.Every.{both, and_right}
 use Rattle.window.specs.declared.Pos.{Pos}
 use Rattle.window.specs.declared.Sizes.{Sizes}
 use Rattle.window.specs.declared.Window.{Window}
 use Rattle.window.specs.Window.{within, column_inside, height_inside, index_of, sizes_fit}
 use Rattle.window.specs.Offsets.{is_ahead}
 use Rattle.window.proofs.Check.{AllSmall, sizes-small}
-use Rattle.window.proofs.Offsets.{within_by, ahead-below, below-size}
+use Rattle.window.proofs.Offsets.{within_by, below-size}
 use Rattle.window.proofs.Cells.{is-inside}
 use Rattle.window.proofs.Signs.{mag-add, mag-neg, widens32, wide, wide_is}
 use Rattle.group_words.proofs.Cells.{Near}
 use Rattle.groups.specs.declared.Place.{Place}
 use Rattle.groups.specs.Groups.{cell_at}
-use Rattle.groups.specs.Summary.{is_inside, set_in}
-use Rattle.groups.specs.Places.{offset_in, place_in, is_in, group_in, set_at}
+use Rattle.groups.specs.Summary.{is_inside, has_summary, set_in, set_refusal, after_set}
+use Rattle.groups.specs.Places.{offset_in, place_in, is_in, group_in, set_at, placed_refusal, after_placed}
 
 -- ---- c - o in i64
-pub record Apart (c o : ℤ) : Type 0 where
-  pub fits : SFits w64 (wide w32 c -ℤ wide w32 o)
-  pub value : to_z w64 (of_z w64 (wide w32 c -ℤ wide w32 o)) ≡ c -ℤ o
-
-pub apart : (c o : ℤ) → SFits w32 c → SFits w32 o → Apart c o
+pub apart : (c o : ℤ) → SFits w32 c → SFits w32 o → to_z w64 (of_z w64 (wide w32 c -ℤ wide w32 o)) ≡ c -ℤ o
 apart c o f g =
     let m : mag (c -ℤ o) < 2 ^ 31 + (2 ^ 31 + 1) = mag-add c (neg_ℤ o) (2 ^ 31) (2 ^ 31 + 1) f.sfits (mag-neg o (2 ^ 31) g.sfits) in
-    let d : SFits w64 (c -ℤ o) = record { sfits = omega arith } in
-    let wc = wide_is w32 c f (widens32 f) in
-    let wo = wide_is w32 o g (widens32 g) in
-    record { fits = rw (wc, wo) d; value = rw (wc, wo, to_z-of_z w64 (c -ℤ o) d) }
+    rw (wide_is w32 c f (widens32 f), wide_is w32 o g (widens32 g)) (to_z-of_z w64 (c -ℤ o) record { sfits = omega arith })
 
--- the test of the program is whether the offset is one of so many
-pub tested : (c o : ℤ) (n : ℕ) (z : ℤ) (t : Bool) → Fits w32 n → z ≡ c -ℤ o → (le_z (pos 0) z && lt_z z (to_z w64 n)) ≡ t → is_ahead (c -ℤ o) n ≡ t
-tested c o n z t f e h = let l = f.fits in rw (e, to_z_pos w64 n (omega arith)) at h
+-- the tests of the program: whether the offset is one of so many
+module _ (c o : ℤ) (n : ℕ) (f : Fits w32 n) where
+  as-pos : to_z w64 n ≡ pos n
+  as-pos = let l = f.fits in to_z_pos w64 n (omega arith)
 
-narrow : (d : ℤ) (n : ℕ) → is_ahead d n ≡ true → n < 2 ^ 32 → T (non_neg d) × Fits w32 (nat_abs d)
-narrow (pos k) n e h = let b = ahead-below (pos k) n e in (tt, record { fits = omega arith })
-narrow (negsuc k) n e h = absurd (false≢true e)
+  pub inside : le_z (pos 0) (c -ℤ o) ≡ true → lt_z (c -ℤ o) (to_z w64 n) ≡ true → nat_abs (c -ℤ o) ≡ offset_in c o n
+  unfolding offset_in choose
+  inside low high = rw (within_by o n c, low, rw as-pos at high)
 
-pub narrowed : (c o : ℤ) (n : ℕ) (z : ℤ) → Fits w32 n → z ≡ c -ℤ o → is_ahead (c -ℤ o) n ≡ true → T (non_neg z) × Fits w32 (nat_abs z)
-narrowed c o n z f e h = rw e (narrow (c -ℤ o) n h f.fits)
+  pub below-all : le_z (pos 0) (c -ℤ o) ≡ false → n ≡ offset_in c o n
+  unfolding offset_in choose
+  below-all low = rw (within_by o n c, low)
 
-pub offset-inside : (c o : ℤ) (n : ℕ) (z : ℤ) → z ≡ c -ℤ o → is_ahead (c -ℤ o) n ≡ true → nat_abs z ≡ offset_in c o n
-unfolding offset_in choose
-offset-inside c o n z e h = rw (e, within_by o n c, h)
-
-pub offset-outside : (c o : ℤ) (n : ℕ) → is_ahead (c -ℤ o) n ≡ false → n ≡ offset_in c o n
-unfolding offset_in choose
-offset-outside c o n h = rw (within_by o n c, h)
+  pub beyond : lt_z (c -ℤ o) (to_z w64 n) ≡ false → n ≡ offset_in c o n
+  unfolding offset_in choose
+  beyond high = rw (within_by o n c, and_right _ _ (rw as-pos at high))
 
 -- ---- a place that is in
 pub record In (s : Sizes) (t : Place) : Type 0 where
@@ -163,3 +154,31 @@ counted-place w t e =
     let y = counted-axis w.origin.y t.y w.sizes.y i.y in
     let z = counted-axis w.origin.z t.z w.sizes.z i.z in
     λ k. record { x = x k; y = y k; z = z k }
+
+-- ---- the set at a place is the set of its cell
+module _ (records words : List ℕ) (w : Window) where
+  pub cell-refused : (p : Pos) → placed_refusal words w (place_in w p) ≡ set_refusal words w p
+  unfolding placed_refusal set_refusal
+  cell-refused p = rw (placed w p)
+
+  pub cell-after : (p : Pos) (state : ℕ) → after_placed records words w (place_in w p) state ≡ after_set records words w p state
+  unfolding after_placed after_set choose
+  cell-after p state = rw (placed w p) (go (is_inside w p) refl)
+    where
+      go : (t : Bool) → is_inside w p ≡ t
+          → choose (has_summary words w) (choose t (set_at records words w (place_in w p) state) words) words ≡ choose (has_summary words w) (choose t (set_in records words w p state) words) words
+      go true e = ap (λ (l : List ℕ). choose (has_summary words w) l words) (set-placed records words w p state (place_in w p) refl e)
+      go false e = refl
+
+  pub counted-refused : (t : Place) → placed_refusal words w t ≡ set_refusal words w (cell_at w t.x t.y t.z)
+  unfolding placed_refusal set_refusal
+  counted-refused t = rw (counted-in w t)
+
+  pub counted-after : (t : Place) (state : ℕ) → after_placed records words w t state ≡ after_set records words w (cell_at w t.x t.y t.z) state
+  unfolding after_placed after_set choose
+  counted-after t state = rw (counted-in w t) (go (is_in w.sizes t) refl)
+    where
+      go : (b : Bool) → is_in w.sizes t ≡ b
+          → choose (has_summary words w) (choose b (set_at records words w t state) words) words ≡ choose (has_summary words w) (choose b (set_in records words w (cell_at w t.x t.y t.z) state) words) words
+      go true e = ap (λ (l : List ℕ). choose (has_summary words w) l words) (set-placed records words w (cell_at w t.x t.y t.z) state t (counted-place w t e) (counted-in w t ∙ e))
+      go false e = refl

@@ -15,16 +15,16 @@ use borrow.Author.Tests.{eqb-true}
 use Rattle.base.specs.Choose.{choose}
 use Rattle.base.specs.Every.{every}
 use Rattle.base.specs.Loop.{listed, stored}
-use Rattle.base.proofs.Every.{both, every-at, every-from}
+use Rattle.base.proofs.Every.{both}
 use Rattle.window.specs.declared.Pos.{Pos}
 use Rattle.window.specs.declared.Sizes.{Sizes}
 use Rattle.window.specs.declared.Window.{Window}
-use Rattle.window.specs.Window.{column_inside, height_inside, cell_count, column_count, index_of, column_index_of, sizes_fit}
+use Rattle.window.specs.Window.{column_inside, height_inside, index_of, column_index_of, sizes_fit}
 use Rattle.window.specs.Look.{look_at}
-use Rattle.window.proofs.Cells.{Inside, is-inside, Near, is-near, index_below, index-unique}
+use Rattle.window.proofs.Cells.{Inside, is-inside, is-near, index_below, index-unique}
 use Rattle.group_words.specs.declared.Group.{Group}
 use Rattle.groups.specs.Groups.{groups_on, group_count, group_index, group_at, group_of, cut, cell_at, is_empty, is_empty_line, is_empty_layer, is_empty_group, group_word}
-use Rattle.groups.specs.Summary.{summary_of, words_before, has_summary, built, is_inside, mended, set_in, after_set, PlacedSet, after_sets}
+use Rattle.groups.specs.Summary.{summary_of, words_before, has_summary, built, is_inside, set_in, after_set, PlacedSet, after_sets}
 use Rattle.groups.proofs.Same.{Alike, itself, behind, look-same, word-alike}
 
 -- ---- words of what was stored
@@ -138,6 +138,9 @@ has words w e =
     let n = words_before w.sizes + group_count w.sizes in
     let b = both (sizes_fit w.sizes) (eqb (length words) n) e in
     record { sizes = b.one; long = eqb-true (length words) n b.two }
+
+pub sizes_there : (words : List ℕ) (w : Window) (t : Bool) → t ≡ has_summary words w → t ≡ true → sizes_fit w.sizes ≡ true
+sizes_there words w t e h = (has words w (sym e ∙ h)).sizes
 
 there-by : (a b : List ℕ) (w : Window) → length a ≡ length b → has_summary b w ≡ true → has_summary a w ≡ true
 unfolding has_summary

@@ -4,35 +4,29 @@
 
 ghost use Rattle.std.specs.Prelude.{◌≡◌, true, ◌+◌, ◌<◌, ◌≤◌, get_or, set};
 ghost use Rattle.base.specs.Loop.{stored};
+ghost use Rattle.base.specs.Refusals.{verdict};
 ghost use Rattle.window.specs.Window.{sizes_fit, index_at};
 ghost use Rattle.groups.specs.Groups.{groups_on, group_count, group_index, group_at, cell_at, group_word};
 ghost use Rattle.groups.specs.Summary.{summary_of, words_before, summed_words, has_summary, build_refusal, built, agrees, summary_refusal, set_refusal, after_set};
-ghost use Rattle.groups.specs.Places.{layout_of, offset_in, place_in, is_in, set_at};
+ghost use Rattle.groups.specs.Places.{layout_of, layout_seen, offset_in, place_in, is_in, set_at, placed_refusal, after_placed};
 
+use base::Refusal;
 use group_words::Group;
-use window::{Pos, Sizes, Window};
-
-fn wide(x: u32) -> usize
-    ensures { result ≡ x }
-{
-    x as usize
-}
+use tables::Tables;
+use window::{Pos, Sizes, View, Window};
 
 fn groups_on(size: u32) -> u32
     requires { size ≤ 64 }
     ensures { result ≡ groups_on size }
 {
-    (size + 3) / 4
+    size.div_ceil(4)
 }
 
 fn group_count(s: Sizes) -> u32
     requires { sizes_fit s ≡ true }
     ensures { result ≡ group_count s }
 {
-    let x = groups_on(s.x);
-    let y = groups_on(s.y);
-    let z = groups_on(s.z);
-    x * y * z
+    groups_on(s.x) * groups_on(s.y) * groups_on(s.z)
 }
 
 fn words_before(s: Sizes) -> u32
@@ -42,35 +36,27 @@ fn words_before(s: Sizes) -> u32
     s.x * s.y * s.z + s.x * s.z
 }
 
-// Where the words of groups stand among all that are lent, and how many groups there are along x and z; nothing where the sizes break their limit.
+/// Where the words of groups stand among all that are lent, and how many groups there are along x and z.
 #[derive(Clone, Copy)]
 pub struct Layout {
-    pub fits: bool,
     pub before: u32,
     pub across: u8,
     pub deep: u8,
 }
 
-pub fn layout_of(s: Sizes) -> Layout
-    ensures { result ≡ layout_of s }
+/// The layout of a window of these sizes: none where they break their limit.
+#[tactic(auto, using(base::proofs::Cases::cases), unfolding(crate::specs::Places::layout_of, base::specs::Choose::choose))]
+pub fn layout_of(s: Sizes) -> Option<Layout>
+    ensures { layout_seen result ≡ layout_of s }
 {
-    if window_check::sizes_fit(s) {
-        let before = words_before(s);
-        let across = groups_on(s.x) as u8;
-        let deep = groups_on(s.z) as u8;
-        return Layout {
-            fits: true,
-            before,
-            across,
-            deep,
-        };
+    if !window_check::sizes_fit(s) {
+        return None;
     }
-    Layout {
-        fits: false,
-        before: 0,
-        across: 0,
-        deep: 0,
-    }
+    Some(Layout {
+        before: words_before(s),
+        across: groups_on(s.x) as u8,
+        deep: groups_on(s.z) as u8,
+    })
 }
 
 // Group number i, in the cells' order.
@@ -88,126 +74,118 @@ fn group_at(s: Sizes, i: u32) -> Group
     }
 }
 
-fn word_of(records: &[u32], words: &[u32], w: Window, i: u32) -> u32
-    requires sizes_value { sizes_fit w.sizes ≡ true }
-    requires i_bound { i < group_count w.sizes }
-    ensures { result ≡ group_word records.now words.now w (group_at w.sizes i) }
+fn word_of(tables: Tables<'_>, view: View<'_>, i: u32) -> u32
+    requires sizes_value { sizes_fit view.window.sizes ≡ true }
+    requires i_bound { i < group_count view.window.sizes }
+    ensures { result ≡ group_word tables.entry.records.now view.entry.words.now view.entry.window (group_at view.entry.window.sizes i) }
 {
-    let g = group_at(w.sizes, i);
-    group_words::group_word(records, words, w, g)
+    group_words::group_word(tables, view, group_at(view.window.sizes, i))
 }
 
-// How many words a host lends with a summary: those of cells, columns and groups; none where the sizes break their limit.
+/// How many words a host lends with a summary: those of cells, columns and groups; none where the sizes break their limit.
+#[tactic(auto, using(base::proofs::Cases::cases), unfolding(crate::specs::Summary::summed_words, base::specs::Choose::choose))]
 pub fn summed_words(s: Sizes) -> u32
     ensures { result ≡ summed_words s }
 {
     if window_check::sizes_fit(s) {
-        let before = words_before(s);
-        let groups = group_count(s);
-        return before + groups;
+        words_before(s) + group_count(s)
+    } else {
+        0
     }
-    0
 }
 
-// Whether there are as many words behind cells and columns as the window has groups.
-pub fn has_summary(words: &[u32], w: Window) -> bool
-    ensures { result ≡ has_summary words.now w }
+/// Whether there are as many words behind cells and columns as the window has groups.
+#[tactic(auto, using(base::proofs::Cases::cases), unfolding(crate::specs::Summary::has_summary, crate::specs::Summary::summed_words, base::specs::Choose::choose))]
+pub fn has_summary(view: View<'_>) -> bool
+    ensures { result ≡ has_summary view.entry.words.now view.entry.window }
 {
-    if window_check::sizes_fit(w.sizes) {
-        let before = words_before(w.sizes);
-        let groups = group_count(w.sizes);
-        return words.len() == wide(before + groups);
-    }
-    false
+    let sizes = view.window.sizes;
+    window_check::sizes_fit(sizes) && view.words.len() == summed_words(sizes) as usize
 }
 
 // A word written at place i: dropped where that is not there.
 fn put(words: &mut [u32], i: u32, x: u32)
     ensures { words.new ≡ set words.old i x }
 {
-    let i = wide(i);
+    let i = i as usize;
     if i < words.len() {
-        words[i] = x;
+        words[i] = x; // by `get_mut` tried: what it leaves in the slice is not told
     }
 }
 
-fn build_in(records: &[u32], words: &mut [u32], w: Window)
+// The slice is written, so that it goes beside its window, and not as a view of both; and so in each function that writes.
+fn build_in(tables: Tables<'_>, words: &mut [u32], w: Window)
     requires { sizes_fit w.sizes ≡ true }
-    ensures { words.new ≡ stored words.old (words_before w.sizes) (summary_of records.now words.old w) }
+    ensures { words.new ≡ stored words.old (words_before w.sizes) (summary_of tables.entry.records.now words.old w) }
 {
     let at = words_before(w.sizes);
-    let n = group_count(w.sizes);
-    let mut i = 0u32;
-    while i < n {
-        let word = word_of(records, words, w, i);
+    for i in 0..group_count(w.sizes) {
+        let word = word_of(tables, View { words, window: w }, i);
         put(words, at + i, word);
-        i += 1;
     }
 }
 
-// The summary, built into its place: 0, or 11 where that is of the wrong length, and nothing is written.
-pub fn build(records: &[u32], words: &mut [u32], w: Window) -> u32
-    ensures value { result ≡ build_refusal words.old w }
-    ensures words_after { words.new ≡ built records.now words.old w }
+/// The summary, built into its place: refused with `Room` where that is of the wrong length, and nothing is written.
+#[tactic(auto, using(base::proofs::Cases::cases, crate::proofs::Sets::sizes_there), unfolding(crate::specs::Summary::build_refusal, crate::specs::Summary::built, base::specs::Choose::choose))]
+pub fn build(tables: Tables<'_>, words: &mut [u32], w: Window) -> Result<(), Refusal>
+    ensures value { verdict result ≡ build_refusal words.old w }
+    ensures words_after { words.new ≡ built tables.entry.records.now words.old w }
 {
-    if has_summary(words, w) {
-        build_in(records, words, w);
-        return 0;
+    if !has_summary(View { words, window: w }) {
+        return Err(Refusal::Room);
     }
-    11
+    build_in(tables, words, w);
+    Ok(())
 }
 
 fn word_at(words: &[u32], i: u32) -> u32
     ensures { result ≡ get_or words.now i 0 }
 {
-    let i = wide(i);
-    if i < words.len() { words[i] } else { 0 }
+    words.get(i as usize).copied().unwrap_or(0)
 }
 
-fn agrees_all(records: &[u32], words: &[u32], w: Window) -> bool
-    requires { sizes_fit w.sizes ≡ true }
-    ensures { result ≡ agrees records.now words.now w }
+#[tactic(auto, using(base::proofs::Every::each), unfolding(crate::specs::Summary::agrees))]
+fn agrees_all(tables: Tables<'_>, view: View<'_>) -> bool
+    requires { sizes_fit view.window.sizes ≡ true }
+    ensures { result ≡ agrees tables.entry.records.now view.entry.words.now view.entry.window }
 {
-    let at = words_before(w.sizes);
-    let n = group_count(w.sizes);
-    let mut i = 0u32;
-    while i < n {
-        let lent = word_at(words, at + i);
-        let fresh = word_of(records, words, w, i);
-        if lent == fresh {
-            i += 1;
-        } else {
+    let at = words_before(view.window.sizes);
+    for i in 0..group_count(view.window.sizes) {
+        if word_at(view.words, at + i) != word_of(tables, view, i) {
             return false;
         }
     }
     true
 }
 
-// The check of a summary that was lent: 0; 11 for a wrong length, 13 for a word that disagrees with its cells.
-pub fn check_summary(records: &[u32], words: &[u32], w: Window) -> u32
-    ensures { result ≡ summary_refusal records.now words.now w }
+/// The check of a summary that was lent: refused with `Room` for a wrong length, with `Summary` for a word that disagrees with its cells.
+#[tactic(auto, using(base::proofs::Cases::cases, crate::proofs::Sets::sizes_there), unfolding(crate::specs::Summary::summary_refusal, base::specs::Choose::choose))]
+pub fn check_summary(tables: Tables<'_>, view: View<'_>) -> Result<(), Refusal>
+    ensures { verdict result ≡ summary_refusal tables.entry.records.now view.entry.words.now view.entry.window }
 {
-    if has_summary(words, w) {
-        if agrees_all(records, words, w) {
-            return 0;
-        }
-        return 13;
+    if !has_summary(view) {
+        return Err(Refusal::Room);
     }
-    11
+    if agrees_all(tables, view) {
+        Ok(())
+    } else {
+        Err(Refusal::Summary)
+    }
 }
 
 // How far c lies above the origin, where it lies within so many; else as many as that.
 fn offset_in(c: i32, origin: i32, size: u32) -> u32
     ensures { result ≡ offset_in c origin size }
 {
-    let n = (c as i64) - (origin as i64);
-    if (0 <= n) & (n < size as i64) {
-        return n as u32;
+    let n = i64::from(c) - i64::from(origin);
+    if 0 <= n && n < i64::from(size) {
+        n as u32
+    } else {
+        size
     }
-    size
 }
 
-// How far a cell lies from the origin on each axis; as far as the window's size where it lies outside.
+/// How far a cell lies from the origin on each axis; as far as the window's size where it lies outside.
 #[derive(Clone, Copy)]
 pub struct Place {
     pub x: u32,
@@ -215,19 +193,21 @@ pub struct Place {
     pub z: u32,
 }
 
+/// Where the cell at p lies in the window.
 pub fn place_in(w: Window, p: Pos) -> Place
     ensures { result ≡ place_in w p }
 {
-    let x = offset_in(p.x, w.origin.x, w.sizes.x);
-    let y = offset_in(p.y, w.origin.y, w.sizes.y);
-    let z = offset_in(p.z, w.origin.z, w.sizes.z);
-    Place { x, y, z }
+    Place {
+        x: offset_in(p.x, w.origin.x, w.sizes.x),
+        y: offset_in(p.y, w.origin.y, w.sizes.y),
+        z: offset_in(p.z, w.origin.z, w.sizes.z),
+    }
 }
 
 fn is_in(s: Sizes, t: Place) -> bool
     ensures { result ≡ is_in s t }
 {
-    (t.x < s.x) & (t.z < s.z) & (t.y < s.y)
+    t.x < s.x && t.z < s.z && t.y < s.y
 }
 
 fn cell_place(s: Sizes, t: Place) -> u32
@@ -252,10 +232,10 @@ fn group_place(s: Sizes, g: Group) -> u32
 }
 
 // One cell set, and the word of its group mended.
-fn set_in(records: &[u32], words: &mut [u32], w: Window, t: Place, state: u32)
+fn set_in(tables: Tables<'_>, words: &mut [u32], w: Window, t: Place, state: u32)
     requires sizes_value { sizes_fit w.sizes ≡ true }
     requires t_value { is_in w.sizes t ≡ true }
-    ensures { words.new ≡ set_at records.now words.old w t state }
+    ensures { words.new ≡ set_at tables.entry.records.now words.old w t state }
 {
     put(words, cell_place(w.sizes, t), state);
     let g = Group {
@@ -263,38 +243,57 @@ fn set_in(records: &[u32], words: &mut [u32], w: Window, t: Place, state: u32)
         y: t.y / 4,
         z: t.z / 4,
     };
-    let word = group_words::group_word(records, words, w, g);
+    let word = group_words::group_word(tables, View { words, window: w }, g);
     put(words, group_place(w.sizes, g), word);
 }
 
-// One cell set, and the word of its group mended, over a summary that is there: 0; 11 for a summary of the wrong length, 5 for a cell outside the
-// window, and nothing is written.
-pub fn set_cell(records: &[u32], words: &mut [u32], w: Window, p: Pos, state: u32) -> u32
-    ensures value { result ≡ set_refusal words.old w p }
-    ensures words_after { words.new ≡ after_set records.now words.old w p state }
+// The same over a summary that is there, for a place that lies in the window.
+#[tactic(auto, using(base::proofs::Cases::cases, crate::proofs::Sets::sizes_there), unfolding(crate::specs::Places::placed_refusal, crate::specs::Places::after_placed, base::specs::Choose::choose))]
+fn set_placed(
+    tables: Tables<'_>,
+    words: &mut [u32],
+    w: Window,
+    place: Place,
+    state: u32,
+) -> Result<(), Refusal>
+    ensures value { verdict result ≡ placed_refusal words.old w place }
+    ensures words_after { words.new ≡ after_placed tables.entry.records.now words.old w place state }
 {
-    if has_summary(words, w) {
-        let t = place_in(w, p);
-        if is_in(w.sizes, t) {
-            set_in(records, words, w, t, state);
-            return 0;
-        }
-        return 5;
+    if !has_summary(View { words, window: w }) {
+        return Err(Refusal::Room);
     }
-    11
+    if !is_in(w.sizes, place) {
+        return Err(Refusal::OutsideWindow);
+    }
+    set_in(tables, words, w, place, state);
+    Ok(())
 }
 
-// The same of a cell counted from the window's origin.
-pub fn set_at(records: &[u32], words: &mut [u32], w: Window, place: Place, state: u32) -> u32
-    ensures value { result ≡ set_refusal words.old w (cell_at w place.x place.y place.z) }
-    ensures words_after { words.new ≡ after_set records.now words.old w (cell_at w place.x place.y place.z) state }
+/// One cell set, and the word of its group mended, over a summary that is there: refused with `Room` for a summary of the wrong length, with
+/// `OutsideWindow` for a cell outside the window, and nothing is written.
+pub fn set_cell(
+    tables: Tables<'_>,
+    words: &mut [u32],
+    w: Window,
+    p: Pos,
+    state: u32,
+) -> Result<(), Refusal>
+    ensures value { verdict result ≡ set_refusal words.old w p }
+    ensures words_after { words.new ≡ after_set tables.entry.records.now words.old w p state }
 {
-    if has_summary(words, w) {
-        if is_in(w.sizes, place) {
-            set_in(records, words, w, place, state);
-            return 0;
-        }
-        return 5;
-    }
-    11
+    set_placed(tables, words, w, place_in(w, p), state)
+}
+
+/// The same of a cell counted from the window's origin.
+pub fn set_at(
+    tables: Tables<'_>,
+    words: &mut [u32],
+    w: Window,
+    place: Place,
+    state: u32,
+) -> Result<(), Refusal>
+    ensures value { verdict result ≡ set_refusal words.old w (cell_at w place.x place.y place.z) }
+    ensures words_after { words.new ≡ after_set tables.entry.records.now words.old w (cell_at w place.x place.y place.z) state }
+{
+    set_placed(tables, words, w, place, state)
 }

@@ -3,13 +3,12 @@
 #![tactic(auto)]
 
 ghost use Rattle.std.specs.Prelude.{◌≡◌};
-ghost use Rattle.base.specs.Choose.{choose};
 ghost use Rattle.idents.specs.Connects.{connects_number, connects_as};
 ghost use Rattle.idents.specs.Posts.{post_number, raised, facing, is_wooden_trapdoor, wall_post_of};
 
 use suffixes::{contains, ends_with, equals};
 
-#[derive(Clone, Copy)]
+#[derive(Clone, Copy, Debug, PartialEq, Eq)]
 pub enum Connects {
     Nothing,
     Fence,
@@ -18,7 +17,7 @@ pub enum Connects {
     Wall,
 }
 
-#[derive(Clone, Copy)]
+#[derive(Clone, Copy, Debug, PartialEq, Eq)]
 pub enum Post {
     Never,
     Always,
@@ -31,8 +30,8 @@ pub enum Post {
 }
 
 // A state's properties as the wall post rule reads them: the presence of the two north properties, and values, 255 where a property is absent.
-// A torch's facing is 1 for top and 0 for another.
-#[derive(Clone, Copy)]
+// A torch's facing is 1 for top and 0 for another. They stay the numbers that the definitions and the hosts have.
+#[derive(Clone, Copy, Debug, PartialEq, Eq)]
 pub struct Properties {
     pub wall_north: bool,
     pub fence_north: bool,
@@ -43,25 +42,25 @@ pub struct Properties {
     pub direction: u32,
 }
 
+#[tactic(auto, using(base::proofs::Cases::cases), unfolding(crate::specs::Connects::connects_as, crate::specs::Connects::family, base::specs::Choose::choose))]
 pub fn connects_as(id: &[u8], has_wall_north: bool, has_fence_north: bool) -> Connects
     ensures { connects_number result ≡ connects_as id.now has_wall_north has_fence_north }
 {
     if has_wall_north {
-        return Connects::Wall;
-    }
-    if !has_fence_north {
-        return Connects::Nothing;
-    }
-    if ends_with(id, b"_fence") {
+        Connects::Wall
+    } else if !has_fence_north {
+        Connects::Nothing
+    } else if ends_with(id, b"_fence") {
         if equals(id, b"minecraft:nether_brick_fence") {
-            return Connects::NetherBrickFence;
+            Connects::NetherBrickFence
+        } else {
+            Connects::Fence
         }
-        return Connects::Fence;
+    } else if ends_with(id, b"glass_pane") || ends_with(id, b"_bars") {
+        Connects::Thin
+    } else {
+        Connects::Nothing
     }
-    if ends_with(id, b"glass_pane") | ends_with(id, b"_bars") {
-        return Connects::Thin;
-    }
-    Connects::Nothing
 }
 
 // Document 01's number of what a block connects as: word 4.
@@ -77,12 +76,16 @@ pub fn connects_number(c: Connects) -> u32
     }
 }
 
+#[tactic(auto, using(base::proofs::Cases::cases), unfolding(crate::specs::Posts::is_wooden_trapdoor))]
 fn is_wooden_trapdoor(id: &[u8]) -> bool
     ensures { result ≡ is_wooden_trapdoor id.now }
 {
-    ends_with(id, b"trapdoor") & !equals(id, b"minecraft:iron_trapdoor") & !contains(id, b"copper")
+    ends_with(id, b"trapdoor")
+        && !equals(id, b"minecraft:iron_trapdoor")
+        && !contains(id, b"copper")
 }
 
+#[tactic(auto, using(base::proofs::Cases::cases), unfolding(crate::specs::Posts::facing, base::specs::Choose::choose))]
 fn facing_side(direction: u32) -> Post
     ensures { result ≡ facing direction }
 {
@@ -95,32 +98,31 @@ fn facing_side(direction: u32) -> Post
     }
 }
 
+#[tactic(auto, using(base::proofs::Cases::cases), unfolding(base::specs::Choose::choose))]
 fn raised_if(raises: bool) -> Post
     ensures { result ≡ raised raises }
 {
     if raises { Post::Always } else { Post::Never }
 }
 
-// What a rule says where it applies, or else what the rules after it say.
-fn rule(applies: bool, says: Post, otherwise: Post) -> Post
-    ensures { result ≡ choose applies says otherwise }
-{
-    if applies { says } else { otherwise }
-}
-
 // The wall post rule. Of the rules that apply the first decides: lantern, standing sign, torch, wall, open wooden trapdoor.
+#[tactic(auto, using(base::proofs::Cases::cases), unfolding(crate::specs::Posts::wall_post_of, crate::specs::Posts::post_rule, base::specs::Choose::choose))]
 pub fn wall_post(id: &[u8], p: Properties) -> Post
     ensures { post_number result ≡ wall_post_of id.now p }
 {
-    let wall = connects_number(connects_as(id, p.wall_north, p.fence_north)) == 4;
-    let open = is_wooden_trapdoor(id) & (p.open == 1);
-    let torch = p.torch != 255;
-    let by_torch = raised_if(p.torch == 1);
-    let by_wall = raised_if(p.wall_post == 1);
-    let by_trapdoor = rule(open, facing_side(p.direction), Post::Never);
-    let solid = rule(torch, by_torch, rule(wall, by_wall, by_trapdoor));
-    let sign = rule(ends_with(id, b"standing_sign"), Post::Always, solid);
-    rule(ends_with(id, b"lantern"), raised_if(p.hanging == 0), sign)
+    if ends_with(id, b"lantern") {
+        raised_if(p.hanging == 0)
+    } else if ends_with(id, b"standing_sign") {
+        Post::Always
+    } else if p.torch != 255 {
+        raised_if(p.torch == 1)
+    } else if connects_as(id, p.wall_north, p.fence_north) == Connects::Wall {
+        raised_if(p.wall_post == 1)
+    } else if is_wooden_trapdoor(id) && p.open == 1 {
+        facing_side(p.direction)
+    } else {
+        Post::Never
+    }
 }
 
 // Document 01's number of a wall post rule: word 6, or 255 where the Rust panics.

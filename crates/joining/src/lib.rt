@@ -1,14 +1,15 @@
 // Module 5, without asking for a cell: what a record joins on a side, the states that it turns to, and the post of a wall.
 #![tactic(auto)]
 
-ghost use Rattle.std.specs.Prelude.{◌≡◌, ◌&&◌};
+ghost use Rattle.std.specs.Prelude.{◌≡◌};
 ghost use Rattle.window.specs.Look.{some};
 ghost use Rattle.joining.specs.Joining.{along_x, connect_kind, is_fence, is_thin_or_wall, opposite_face, gate_decides, gate_joins, registered_connects, side_word, transition, transitions, straight, raises, raised_by, post_transition};
 
 use cover::Side;
+use tables::Tables;
 
-// Which sides join.
-#[derive(Clone, Copy)]
+/// Which sides join.
+#[derive(Clone, Copy, Debug, PartialEq, Eq)]
 pub struct Joined {
     pub north: bool,
     pub east: bool,
@@ -19,60 +20,37 @@ pub struct Joined {
 fn along_x(side: Side) -> bool
     ensures { result ≡ along_x side }
 {
-    match side {
-        Side::North => false,
-        Side::East => true,
-        Side::South => false,
-        Side::West => true,
-    }
+    matches!(side, Side::East | Side::West)
 }
 
-pub fn connect_kind(records: &[u32], state: u32) -> u32
-    ensures { result ≡ connect_kind records.now state }
+/// What a state connects as: 0 nothing, 1 fence, 2 nether brick fence, 3 thin, 4 wall.
+#[tactic(auto, using(base::proofs::Cases::cases), unfolding(crate::specs::Joining::connect_kind, base::specs::Choose::choose))]
+pub fn connect_kind(tables: Tables<'_>, state: u32) -> u32
+    ensures { result ≡ connect_kind tables.entry.records.now state }
 {
-    if tables::is_registered(records, state) {
-        return tables::word(records, state, 4);
+    if tables.is_registered(state) {
+        tables.word(state, 4)
+    } else {
+        0
     }
-    0
 }
 
+#[tactic(auto, using(base::proofs::Cases::cases), unfolding(crate::specs::Joining::is_fence, base::specs::Choose::choose))]
 fn is_fence(kind: u32) -> bool
     ensures { result ≡ is_fence kind }
 {
-    if kind == 1 {
-        return true;
-    }
-    kind == 2
+    matches!(kind, 1 | 2)
 }
 
+#[tactic(auto, using(base::proofs::Cases::cases), unfolding(crate::specs::Joining::is_thin_or_wall, base::specs::Choose::choose))]
 fn is_thin_or_wall(kind: u32) -> bool
     ensures { result ≡ is_thin_or_wall kind }
 {
-    if kind == 3 {
-        return true;
-    }
-    kind == 4
-}
-
-fn both_fences(a: u32, b: u32) -> bool
-    ensures { result ≡ is_fence a && is_fence b }
-{
-    if is_fence(a) {
-        return is_fence(b);
-    }
-    false
-}
-
-fn both_thin_or_wall(a: u32, b: u32) -> bool
-    ensures { result ≡ is_thin_or_wall a && is_thin_or_wall b }
-{
-    if is_thin_or_wall(a) {
-        return is_thin_or_wall(b);
-    }
-    false
+    matches!(kind, 3 | 4)
 }
 
 // Whether the neighbour's face towards us, which is opposite to its side, is full.
+#[tactic(auto, unfolding(crate::specs::Joining::opposite_face))]
 fn opposite_face(faces: u32, side: Side) -> bool
     ensures { result ≡ opposite_face faces side }
 {
@@ -84,46 +62,44 @@ fn opposite_face(faces: u32, side: Side) -> bool
     }
 }
 
+#[tactic(auto, using(base::proofs::Cases::cases), unfolding(crate::specs::Joining::gate_decides, base::specs::Choose::choose))]
 fn gate_decides(kind: u32, gate: u32) -> bool
     ensures { result ≡ gate_decides kind gate }
 {
-    if kind == 3 {
-        return false;
-    }
-    gate != 0
+    kind != 3 && gate != 0
 }
 
+#[tactic(auto, using(base::proofs::Cases::cases), unfolding(crate::specs::Joining::gate_joins, base::specs::Choose::choose))]
 fn gate_joins(gate: u32, side: Side) -> bool
     ensures { result ≡ gate_joins gate side }
 {
-    if along_x(side) {
-        return gate == 1;
-    }
-    gate != 1
+    if along_x(side) { gate == 1 } else { gate != 1 }
 }
 
-// Whether what connects as `kind` joins a neighbour of this state on this side.
-pub fn connects(records: &[u32], kind: u32, side: Side, state: u32) -> bool
-    ensures { result ≡ registered_connects records.now kind side state }
+/// Whether what connects as `kind` joins a neighbour of this state on this side.
+#[tactic(auto, using(base::proofs::Cases::cases), unfolding(crate::specs::Joining::registered_connects, base::specs::Choose::choose))]
+pub fn connects(tables: Tables<'_>, kind: u32, side: Side, state: u32) -> bool
+    ensures { result ≡ registered_connects tables.entry.records.now kind side state }
 {
-    if tables::is_registered(records, state) {
-        let other = tables::word(records, state, 4);
-        if both_fences(kind, other) {
-            return kind == other;
-        }
-        if both_thin_or_wall(kind, other) {
-            return true;
-        }
-        let gate = tables::word(records, state, 5);
-        if gate_decides(kind, gate) {
-            return gate_joins(gate, side);
-        }
-        let faces = tables::word(records, state, 19);
-        return opposite_face(faces, side);
+    if !tables.is_registered(state) {
+        return false;
     }
-    false
+    let other = tables.word(state, 4);
+    if is_fence(kind) && is_fence(other) {
+        return kind == other;
+    }
+    if is_thin_or_wall(kind) && is_thin_or_wall(other) {
+        return true;
+    }
+    let gate = tables.word(state, 5);
+    if gate_decides(kind, gate) {
+        gate_joins(gate, side)
+    } else {
+        opposite_face(tables.word(state, 19), side)
+    }
 }
 
+#[tactic(auto, using(base::proofs::Cases::cases), unfolding(crate::specs::Joining::side_word, base::specs::Choose::choose))]
 fn side_word(side: Side, on: bool) -> u32
     ensures { result ≡ side_word side on }
 {
@@ -135,63 +111,58 @@ fn side_word(side: Side, on: bool) -> u32
     }
 }
 
-fn turned(records: &[u32], state: u32, side: Side, on: bool) -> u32
-    ensures { result ≡ transition records.now side on state }
+#[tactic(auto, unfolding(crate::specs::Joining::transition))]
+fn turned(tables: Tables<'_>, state: u32, side: Side, on: bool) -> u32
+    ensures { result ≡ transition tables.entry.records.now side on state }
 {
-    tables::word(records, state, side_word(side, on))
+    tables.word(state, side_word(side, on))
 }
 
-// The transitions side by side, north first.
-pub fn turn_all(records: &[u32], j: Joined, state: u32) -> u32
-    ensures { result ≡ transitions records.now j state }
+/// The transitions side by side, north first.
+#[tactic(auto, unfolding(crate::specs::Joining::transitions))]
+pub fn turn_all(tables: Tables<'_>, j: Joined, state: u32) -> u32
+    ensures { result ≡ transitions tables.entry.records.now j state }
 {
-    let a = turned(records, state, Side::North, j.north);
-    let b = turned(records, a, Side::East, j.east);
-    let c = turned(records, b, Side::South, j.south);
-    turned(records, c, Side::West, j.west)
+    let a = turned(tables, state, Side::North, j.north);
+    let b = turned(tables, a, Side::East, j.east);
+    let c = turned(tables, b, Side::South, j.south);
+    turned(tables, c, Side::West, j.west)
 }
 
+/// Whether exactly north and south join, or exactly east and west.
+#[tactic(auto, unfolding(crate::specs::Joining::straight))]
 pub fn is_straight(j: Joined) -> bool
     ensures { result ≡ straight j }
 {
     (j.north & !j.east & j.south & !j.west) | (!j.north & j.east & !j.south & j.west)
 }
 
+#[tactic(auto, using(base::proofs::Cases::cases), unfolding(crate::specs::Joining::raises, base::specs::Choose::choose))]
 fn raises_post(rule: u32, j: Joined) -> bool
     ensures { result ≡ raises rule j }
 {
-    if rule == 1 {
-        return true;
+    match rule {
+        1 => true,
+        2 => j.north,
+        3 => j.east,
+        4 => j.south,
+        5 => j.west,
+        _ => false,
     }
-    if rule == 2 {
-        return j.north;
-    }
-    if rule == 3 {
-        return j.east;
-    }
-    if rule == 4 {
-        return j.south;
-    }
-    if rule == 5 {
-        return j.west;
-    }
-    false
 }
 
-pub fn raised_by(records: &[u32], j: Joined, above: u32) -> bool
-    ensures { result ≡ raised_by records.now j (some above) }
+/// Whether the record above raises the post of a wall whose sides join so.
+#[tactic(auto, using(base::proofs::Cases::cases), unfolding(crate::specs::Joining::raised_by, base::specs::Choose::choose))]
+pub fn raised_by(tables: Tables<'_>, j: Joined, above: u32) -> bool
+    ensures { result ≡ raised_by tables.entry.records.now j (some above) }
 {
-    if tables::is_registered(records, above) {
-        return raises_post(tables::word(records, above, 6), j);
-    }
-    false
+    tables.is_registered(above) && raises_post(tables.word(above, 6), j)
 }
 
-pub fn posted(records: &[u32], state: u32, on: bool) -> u32
-    ensures { result ≡ post_transition records.now on state }
+/// The state with its post, or without.
+#[tactic(auto, using(base::proofs::Cases::cases), unfolding(crate::specs::Joining::post_transition, base::specs::Choose::choose))]
+pub fn posted(tables: Tables<'_>, state: u32, on: bool) -> u32
+    ensures { result ≡ post_transition tables.entry.records.now on state }
 {
-    if on {
-        return tables::word(records, state, 18);
-    }
-    tables::word(records, state, 17)
+    tables.word(state, if on { 18 } else { 17 })
 }

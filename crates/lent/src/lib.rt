@@ -2,31 +2,31 @@
 #![tactic(auto)]
 
 ghost use Rattle.std.specs.Prelude.{◌≡◌};
+ghost use Rattle.base.specs.Refusals.{verdict};
 ghost use Rattle.lent.specs.Lent.{lent_refusal, direct_refusal};
 
-use window::Window;
+use base::Refusal;
+use tables::Tables;
+use window::View;
 
-// 0; 1 where the tables break a rule; else 2 where the window does.
-pub fn check_lent(records: &[u32], shapes: &[f32], cells: &[u32], w: Window) -> u32
-    ensures { result ≡ lent_refusal records.now shapes.now cells.now w }
+/// Refused by 1 where the tables break a rule; else by 2 where the window does.
+#[tactic(auto, using(base::proofs::Cases::cases), unfolding(crate::specs::Lent::lent_refusal))]
+pub fn check_lent(tables: Tables<'_>, view: View<'_>) -> Result<(), Refusal>
+    ensures { verdict result ≡ lent_refusal tables.entry.records.now tables.entry.shapes.now view.entry.words.now view.entry.window }
 {
-    let tables = table_check::check_tables(records, shapes);
-    if tables == 0 {
-        return window_check::check_window(cells, w);
-    }
-    tables
+    table_check::check_tables(tables)?;
+    window_check::check_window(view)
 }
 
-// The same where the window's air state is handed in beside no rules: 3 where it has no registered record.
-pub fn check_direct(records: &[u32], shapes: &[f32], cells: &[u32], w: Window) -> u32
-    ensures { result ≡ direct_refusal records.now shapes.now cells.now w }
+/// The same where the window's air state is handed in beside no rules: 3 where it has no registered record.
+#[tactic(auto, using(base::proofs::Cases::cases), unfolding(crate::specs::Lent::direct_refusal))]
+pub fn check_direct(tables: Tables<'_>, view: View<'_>) -> Result<(), Refusal>
+    ensures { verdict result ≡ direct_refusal tables.entry.records.now tables.entry.shapes.now view.entry.words.now view.entry.window }
 {
-    let lent = check_lent(records, shapes, cells, w);
-    if lent == 0 {
-        if tables::is_registered(records, w.air) {
-            return 0;
-        }
-        return 3;
+    check_lent(tables, view)?;
+    if tables.is_registered(view.window.air) {
+        Ok(())
+    } else {
+        Err(Refusal::Number)
     }
-    lent
 }

@@ -1,11 +1,12 @@
 -- Boxes that are lent: they are gone through where they lie. w is what the whole comes to. Assumes nothing.
-use mathlib.Core.Path.{◌≡◌, ap, ◌∙◌}
-use mathlib.Core.Bool.{Bool, true, false}
+use mathlib.Core.Path.{◌≡◌, refl, ap}
+use mathlib.Core.Bool.{Bool, ◌&&◌}
 use mathlib.Core.List.{List, [], ◌∷◌}
-use Prim.Native.Nat.{ℕ, suc, ◌+◌, ◌-◌, ◌≤◌, ◌<◌}
+use Prim.Native.Nat.{ℕ, zero, suc, ◌+◌, ◌-◌, ◌≤◌, ◌<◌}
 use native.Mathlib.Omega.{arith}
 use lib.ListN.{length, get_or}
 use lib.Ieee.{Float}
+use Rattle.std.specs.List.{list_all, range_with_len}
 use Rattle.base.specs.Loop.{listed}
 use Rattle.floats.specs.Numbers.{zero64}
 use Rattle.boxes.specs.declared.Aabb.{Aabb}
@@ -53,16 +54,8 @@ module _ (g : ℕ → Aabb) (n i : ℕ) where
     unfolding clip_all
     clip-end d w h inv = rw (no_more h) at inv
 
-  -- whether they are boxes
-  module _ (w : Bool) (inv : are_boxes (listed g (n - i) i) ≡ w) where
-    pub sound-turn : (b : Aabb) (r : Bool) → i < n → b ≡ g i → r ≡ is_box b → r ≡ true → are_boxes (listed g (n - (i + 1)) (i + 1)) ≡ w
-    unfolding are_boxes
-    sound-turn b r h eb er o = let q : r ≡ is_box (g i) = er ∙ ap is_box eb in rw (one_more h, ← q, o) at inv
-
-    pub sound-stop : (b : Aabb) (r : Bool) → i < n → b ≡ g i → r ≡ is_box b → r ≡ false → false ≡ w
-    unfolding are_boxes
-    sound-stop b r h eb er o = let q : r ≡ is_box (g i) = er ∙ ap is_box eb in rw (one_more h, ← q, o) at inv
-
-    pub sound-end : n ≤ i → true ≡ w
-    unfolding are_boxes
-    sound-end h = rw (no_more h) at inv
+-- whether they are boxes, as the library asks of each
+pub all-listed : (g : ℕ → Aabb) (n i : ℕ) → list_all (λ k. is_box (g k)) (range_with_len i n) ≡ are_boxes (listed g n i)
+unfolding are_boxes listed
+all-listed g zero i = refl
+all-listed g (suc n) i = ap (λ (t : Bool). is_box (g i) && t) (all-listed g n (i + 1))

@@ -2,22 +2,24 @@
 #![tactic(auto)]
 
 ghost use Rattle.std.specs.Prelude.{◌≡◌, ◌+◌, ◌/◌, ◌<◌, min, length};
+ghost use Rattle.base.specs.Refusals.{verdict};
 ghost use Rattle.boxes.specs.Limits.{are_boxes};
 ghost use Rattle.sweeps.specs.Move.{clip_all};
-ghost use Rattle.sweeps.specs.Passes.{clip_along};
+ghost use Rattle.sweeps.specs.Passes.{axis_number, clip_along};
 ghost use Rattle.movers.specs.Movers.{aabb_at};
 ghost use Rattle.lent_boxes.specs.Boxes.{boxes_of, first_boxes, put_in, lent_fit};
 ghost use Rattle.lent_boxes.specs.Refusals.{list_refusal};
 
+use base::Refusal;
 use boxes::{Aabb, Vec3};
-use movers::mover_refusal;
+use movers::check_mover;
+use sweeps::Along;
 
 // How many boxes of n so many numbers hold.
 pub fn at_most(n: usize, places: usize) -> usize
     ensures { result ≡ min n (places / 6) }
 {
-    let whole = places / 6;
-    if n < whole { n } else { whole }
+    n.min(places / 6)
 }
 
 // The box whose six numbers begin at a place; they are there, so that reading them takes no test.
@@ -41,16 +43,14 @@ fn aabb_at(numbers: &[f64], at: usize) -> Aabb
 
 // How far one pass of a move gets along an axis, before the first n boxes or before as many as there are. They are read where they lie: a list of
 // them would be made at each call, and copied where it is handed on.
-pub fn clip_all(numbers: &[f64], n: usize, axis: u32, mover: Aabb, way: f64) -> f64
-    ensures { result ≡ clip_all (clip_along axis) (first_boxes n numbers.now) mover way }
+pub fn clip_all(numbers: &[f64], n: usize, axis: Along, mover: Aabb, way: f64) -> f64
+    ensures { result ≡ clip_all (clip_along (axis_number axis)) (first_boxes n numbers.now) mover way }
 {
     let count = at_most(n, numbers.len());
     let mut d = way;
-    let mut k = 0usize;
-    while k < count {
+    for k in 0..count {
         let b = aabb_at(numbers, k * 6);
         d = sweeps::clip_along(axis, b, mover, d);
-        k += 1;
     }
     d
 }
@@ -74,50 +74,35 @@ pub fn put_box(numbers: &mut [f64], k: usize, b: Aabb)
 fn are_boxes(numbers: &[f64]) -> bool
     ensures { result ≡ are_boxes (boxes_of numbers.now) }
 {
-    let n = numbers.len() / 6;
-    let mut i = 0usize;
-    while i < n {
-        let b = aabb_at(numbers, i * 6);
-        if boxes::is_box(b) {
-            i += 1;
-        } else {
-            return false;
-        }
-    }
-    true
+    (0..numbers.len() / 6).all(|k| boxes::is_box(aabb_at(numbers, k * 6)))
 }
 
 // Whether the numbers are boxes and nothing else.
+#[tactic(auto, using(base::proofs::Cases::cases), unfolding(crate::specs::Boxes::lent_fit))]
 fn lent_fit(numbers: &[f64]) -> bool
     ensures { result ≡ lent_fit numbers.now }
 {
-    if numbers.len() % 6 == 0 {
-        return are_boxes(numbers);
-    }
-    false
+    numbers.len() % 6 == 0 && are_boxes(numbers)
 }
 
-// What a move over lent boxes is refused by: 3, 4, 11 and 6 in order, or 0.
-pub fn list_refusal(
+/// What a move over lent boxes is refused by: Err(Number), Err(Place), Err(Room) or Err(TooManyBoxes), in this order.
+#[tactic(auto, using(base::proofs::Cases::cases, base::proofs::Answers::some_number), unfolding(crate::specs::Refusals::list_refusal, base::specs::Choose::choose))]
+pub fn check_list(
     cap: u32,
     boxes: &[f64],
     mover: &[f64],
     step: f64,
     grounded: u32,
     places: usize,
-) -> u32
-    ensures { result ≡ list_refusal cap boxes.now mover.now step grounded places }
+) -> Result<(), Refusal>
+    ensures { verdict result ≡ list_refusal cap boxes.now mover.now step grounded places }
 {
-    let sound = lent_fit(boxes);
-    let early = mover_refusal(cap, mover, step, grounded, sound);
-    if early != 0 {
-        return early;
-    }
+    check_mover(cap, mover, step, grounded, lent_fit(boxes))?;
     if places < 10 {
-        return 11;
+        return Err(Refusal::Room);
     }
     if boxes.len() / 6 > sweeps::cap_of(cap) {
-        return 6;
+        return Err(Refusal::TooManyBoxes);
     }
-    0
+    Ok(())
 }

@@ -16,7 +16,7 @@ use Rattle.summary.specs.Calls.{plain_words, summed}
 use Rattle.window.specs.Numbers.{with_air}
 use Rattle.step_answers.specs.declared.Tick.{Tick}
 use Rattle.window.specs.declared.Window.{Window}
-use Rattle.step_answers.specs.declared.StepAnswer.{StepAnswer}
+use Rattle.step_answers.specs.Records.{StepAnswer}
 use Rattle.step.specs.Answers.{step_answer, step_entry, checked_entry, step_summed}
 use Rattle.lent_steps.specs.Steps.{step_places}
 use Rattle.lent_room.specs.Room.{short_of, whole_body, answer_written}

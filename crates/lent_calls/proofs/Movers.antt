@@ -8,9 +8,13 @@ use lib.ListN.{length}
 use lib.Ieee.{Float}
 use Rattle.base.specs.Choose.{choose}
 use Rattle.base.specs.Ask.{Ask, refused}
+use Rattle.std.specs.Prelude.{Result, Ok, Err}
+use Rattle.base.specs.declared.Refusal.{Refusal}
+use Rattle.base.specs.Refusals.{asked, verdict}
+use Rattle.boxes.specs.declared.Aabb.{Aabb}
 use Rattle.base.proofs.Every.{both}
 use Rattle.sweeps.specs.declared.MoveResult.{MoveResult}
-use Rattle.sweeps.specs.declared.MoveAnswer.{MoveAnswer}
+use Rattle.sweeps.specs.Entry.{MoveAnswer}
 use Rattle.sweeps.specs.Lists.{is_cap}
 use Rattle.boxes.specs.Limits.{is_box, is_delta, is_step}
 use Rattle.lent.specs.Lent.{direct_refusal, direct, unless}
@@ -22,6 +26,11 @@ use Rattle.moves.specs.Answers.{move_answer, move_entry, move_summed}
 use Rattle.lent_room.specs.Room.{short_of}
 use Rattle.lent_calls.specs.Moves.{moved_by, moving_at, move_at, move_summed_at}
 use Rattle.lent_room.proofs.Short.{no_room, no-early, never-0}
+
+-- a move's answer has the number of its refusal
+pub told : (b : Aabb) (r : Result MoveResult Refusal) → (move_answer b (asked r)).refusal ≡ verdict r
+told b (Ok m) = refl
+told b (Err e) = refl
 
 -- 3, then 4, one by one
 tests : {A : Type 0} (s f : Bool) (ask : Ask A) → choose (not s) (refused 3) (choose (not f) (refused 4) ask)

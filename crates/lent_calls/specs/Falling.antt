@@ -8,7 +8,7 @@ use Rattle.summary.specs.Calls.{plain_words}
 use Rattle.step_answers.specs.declared.Tick.{Tick}
 use Rattle.step.specs.Answers.{step_answer}
 use Rattle.fall_rule.specs.declared.Fall.{Fall}
-use Rattle.step_answers.specs.declared.FallingAnswer.{FallingAnswer}
+use Rattle.step_answers.specs.Records.{FallingAnswer}
 use Rattle.fall_rule.specs.Rule.{fall_fits}
 use Rattle.falls.specs.Answers.{with_fall}
 use Rattle.lent_steps.specs.Falling.{falling_places}

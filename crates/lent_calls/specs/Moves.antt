@@ -1,7 +1,7 @@
 -- The move through a window, in lent numbers: `mover` is the box that moves and its delta, nine numbers, and `places` are how many numbers
 -- there is room for in what is lent to be written to.
 use Rattle.std.specs.Prelude.{true, List, ℕ, eqb, leb, Float}
-use Rattle.sweeps.specs.declared.MoveAnswer.{MoveAnswer}
+use Rattle.sweeps.specs.Entry.{MoveAnswer}
 use Rattle.base.specs.Ask.{Ask}
 use Rattle.sweeps.specs.declared.MoveResult.{MoveResult}
 use Rattle.sweeps.specs.Lists.{cap_of}

@@ -10,7 +10,7 @@ use Rattle.summary.specs.Calls.{plain_words, summed}
 use Rattle.window.specs.declared.Window.{Window}
 use Rattle.window.specs.Look.{look_at}
 use Rattle.window.specs.Numbers.{with_air}
-use Rattle.step_answers.specs.declared.StepAnswer.{StepAnswer}
+use Rattle.step_answers.specs.Records.{StepAnswer}
 use Rattle.step_answers.specs.declared.Tick.{Tick}
 use Rattle.step.specs.Answers.{step_answer}
 use Rattle.ticks.specs.Step.{step_body_sensed, step_body_past}

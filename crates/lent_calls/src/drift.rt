@@ -1,38 +1,32 @@
 // Currents, in lent numbers.
 ghost use Rattle.std.specs.Prelude.{◌≡◌};
-ghost use Rattle.window.specs.Look.{look_at};
+ghost use Rattle.base.specs.Refusals.{verdict};
+ghost use Rattle.window.specs.Views.{look_in};
 ghost use Rattle.lent_calls.specs.Currents.{current_at, current_refusal, current_written};
 
+use base::Refusal;
 use boxes::{Aabb, Vec3};
-use currents::AskedCurrent;
-use flow::AskedLiquid;
 use lent_numbers::put_flagged;
-use window::Window;
+use tables::Tables;
+use window::View;
 
-// The currents at an item: the cell of its feet is asked for first.
+/// The currents at an item: the cell of its feet is asked for first. A refusal writes nothing.
+#[tactic(auto, using(base::proofs::Cases::cases), unfolding(crate::specs::Currents::current_at))]
 pub fn current_into(
-    records: &[u32],
-    cells: &[u32],
-    w: Window,
+    tables: Tables<'_>,
+    view: View<'_>,
     feet: Vec3,
     width: f64,
     height: f64,
     out: &mut [f64],
-) -> u32
-    ensures value { result ≡ current_refusal (current_at (look_at cells.now w) records.now feet width height) }
-    ensures out_after { out.new ≡ current_written out.old (current_at (look_at cells.now w) records.now feet width height) }
+) -> Result<(), Refusal>
+    ensures value { verdict result ≡ current_refusal (current_at (look_in view.entry) tables.entry.records.now feet width height) }
+    ensures out_after { out.new ≡ current_written out.old (current_at (look_in view.entry) tables.entry.records.now feet width height) }
 {
     let foot = ranges::cell_holding(feet);
-    let state = match flow::liquid_at(records, cells, w, foot) {
-        AskedLiquid::Refused(n) => return n,
-        AskedLiquid::Is(s) => s,
-    };
+    let state = flow::liquid_at(tables, view, foot)?;
     let aabb = Aabb::from_feet(feet, width, height);
-    match currents::item_current(records, cells, w, aabb, foot, state) {
-        AskedCurrent::Refused(n) => n,
-        AskedCurrent::Is(c) => {
-            put_flagged(out, c.flow, c.water);
-            0
-        }
-    }
+    let current = currents::item_current(tables, view, aabb, foot, state)?;
+    put_flagged(out, current.flow, current.water);
+    Ok(())
 }

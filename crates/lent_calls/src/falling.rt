@@ -1,75 +1,82 @@
 // The step with a fall record over a window, in lent numbers.
 ghost use Rattle.std.specs.Prelude.{◌≡◌, length};
+ghost use Rattle.base.specs.Refusals.{verdict};
 ghost use Rattle.lent_steps.specs.Falling.{falling_written};
 ghost use Rattle.lent_calls.specs.Falling.{falling_refusal, falling_at, falling_summed_at};
 
+use base::Refusal;
+use bodies::{body_from, check_body, motion_from, rules_from};
 use fall_rule::Fall;
+use lent::check_lent;
 use lent_room::{short_of, whole_falling};
 use lent_steps::falling_into;
-use window::Window;
+use tables::Tables;
+use window::View;
 
-// 3, then 4, or 0.
-fn falling_refusal(records: &[u32], numbers: &[f64], words: &[u32], fall: Fall) -> u32
-    ensures { result ≡ falling_refusal records.now numbers.now words.now fall }
+// `Number` also for the record.
+#[tactic(auto, using(base::proofs::Cases::cases), unfolding(crate::specs::Falling::falling_refusal, base::specs::Choose::choose))]
+fn check_falling(
+    tables: Tables<'_>,
+    numbers: &[f64],
+    words: &[u32],
+    fall: Fall,
+) -> Result<(), Refusal>
+    ensures { verdict result ≡ falling_refusal tables.entry.records.now numbers.now words.now fall }
 {
-    if fall_rule::fall_fits(fall) {
-        return bodies::body_refusal(records, numbers, words);
+    if !fall_rule::fall_fits(fall) {
+        return Err(Refusal::Number);
     }
-    3
+    check_body(tables, numbers, words)
 }
 
-// The step with 1 and 2.
+/// The step with 1 and 2.
 pub fn falling_lent(
-    records: &[u32],
-    shapes: &[f32],
-    cells: &[u32],
-    w: Window,
+    tables: Tables<'_>,
+    view: View<'_>,
     numbers: &[f64],
     words: &[u32],
     age: u64,
     fall: Fall,
     out: &mut [f64],
-) -> u32
-    ensures value { result ≡ (falling_at records.now shapes.now cells.now w numbers.now words.now age fall (length out.old)).step.refusal }
-    ensures out_after { out.new ≡ falling_written out.old (falling_at records.now shapes.now cells.now w numbers.now words.now age fall (length out.old)) }
+) -> Result<(), Refusal>
+    ensures value { verdict result ≡ (falling_at tables.entry.records.now tables.entry.shapes.now view.entry.words.now view.entry.window numbers.now words.now age fall (length out.old)).step.refusal }
+    ensures out_after { out.new ≡ falling_written out.old (falling_at tables.entry.records.now tables.entry.shapes.now view.entry.words.now view.entry.window numbers.now words.now age fall (length out.old)) }
 {
-    if whole_falling(numbers, words, out.len()) {
-        let rules = bodies::rules_from(numbers, words);
-        let body = bodies::body_from(numbers, words);
-        let given = bodies::motion_from(numbers, words);
-        let a = falls::step_falling(records, shapes, cells, w, rules, body, given, age, fall);
-        return falling_into(out, a);
+    if !whole_falling(numbers, words, out.len()) {
+        return short_of(
+            check_lent(tables, view),
+            check_falling(tables, numbers, words, fall),
+        );
     }
-    let early = falling_refusal(records, numbers, words, fall);
-    short_of(lent::check_lent(records, shapes, cells, w), early)
+    let rules = rules_from(numbers, words);
+    let body = body_from(numbers, words);
+    let given = motion_from(numbers, words);
+    let answer = falls::step_falling(tables, view, rules, body, given, age, fall);
+    falling_into(out, given, fall, answer)
 }
 
-// The same over a window with a summary of the body's air state: 11 and 13 after 4.
+/// The same over a window with a summary of the body's air state: 11 and 13 after 4.
 pub fn falling_summed_lent(
-    records: &[u32],
-    shapes: &[f32],
-    cells: &[u32],
-    w: Window,
+    tables: Tables<'_>,
+    view: View<'_>,
     numbers: &[f64],
     words: &[u32],
     age: u64,
     fall: Fall,
     out: &mut [f64],
-) -> u32
-    ensures value { result ≡ (falling_summed_at records.now shapes.now cells.now w numbers.now words.now age fall (length out.old)).step.refusal }
-    ensures out_after { out.new ≡ falling_written out.old (falling_summed_at records.now shapes.now cells.now w numbers.now words.now age fall (length out.old)) }
+) -> Result<(), Refusal>
+    ensures value { verdict result ≡ (falling_summed_at tables.entry.records.now tables.entry.shapes.now view.entry.words.now view.entry.window numbers.now words.now age fall (length out.old)).step.refusal }
+    ensures out_after { out.new ≡ falling_written out.old (falling_summed_at tables.entry.records.now tables.entry.shapes.now view.entry.words.now view.entry.window numbers.now words.now age fall (length out.old)) }
 {
-    if whole_falling(numbers, words, out.len()) {
-        let rules = bodies::rules_from(numbers, words);
-        let body = bodies::body_from(numbers, words);
-        let given = bodies::motion_from(numbers, words);
-        let a = falls::step_falling_summed(
-            records, shapes, cells, w, rules, body, given, age, fall,
+    if !whole_falling(numbers, words, out.len()) {
+        return short_of(
+            check_lent(tables, summary::plain(view)),
+            check_falling(tables, numbers, words, fall),
         );
-        return falling_into(out, a);
     }
-    let plain = summary::plain_words(cells, w);
-    let first = lent::check_lent(records, shapes, plain, w);
-    let early = falling_refusal(records, numbers, words, fall);
-    short_of(first, early)
+    let rules = rules_from(numbers, words);
+    let body = body_from(numbers, words);
+    let given = motion_from(numbers, words);
+    let answer = falls::step_falling_summed(tables, view, rules, body, given, age, fall);
+    falling_into(out, given, fall, answer)
 }

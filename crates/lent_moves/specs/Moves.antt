@@ -2,10 +2,9 @@
 use Rattle.std.specs.Prelude.{List, ℕ, ltb, Float}
 use Rattle.base.specs.Choose.{choose}
 use Rattle.sweeps.specs.declared.Request.{Request}
-use Rattle.sweeps.specs.declared.MoveAnswer.{MoveAnswer}
 use Rattle.sweeps.specs.Lists.{room}
 use Rattle.sweeps.specs.Move.{move_over}
-use Rattle.sweeps.specs.Entry.{answer_of}
+use Rattle.sweeps.specs.Entry.{MoveAnswer, answer_of}
 use Rattle.movers.specs.Movers.{request_of}
 use Rattle.lent_boxes.specs.Boxes.{lent_count, boxes_of}
 use Rattle.lent_boxes.specs.Refusals.{list_refusal}

@@ -1,12 +1,13 @@
 -- What is written into lent numbers.
 use Rattle.std.specs.Prelude.{Bool, List, [], ◌∷◌, eqb, Float}
+use Rattle.base.specs.Ask.{Ask, refused, found}
 use Rattle.base.specs.Choose.{choose}
 use Rattle.base.specs.Loop.{stored}
 use Rattle.floats.specs.Numbers.{zero64}
 use Rattle.boxes.specs.declared.Vec3.{Vec3}
 use Rattle.boxes.specs.Limits.{two_to}
 use Rattle.sweeps.specs.declared.MoveResult.{MoveResult}
-use Rattle.sweeps.specs.declared.MoveAnswer.{MoveAnswer}
+use Rattle.sweeps.specs.Entry.{MoveAnswer}
 
 -- 1.0 or 0.0
 abbrev pub flag_of : Bool → Float
@@ -27,3 +28,8 @@ numbers_of m =
 -- what stands in the lent place afterwards: a refusal writes nothing
 unfoldable pub written_by : List Float → MoveAnswer → List Float
 written_by out a = choose (eqb a.refusal 0) (stored out 0 (numbers_of a.result)) out
+
+-- the same of a move that was asked for (`asked-written` of proofs/Answers.antt)
+abbrev pub written_asked : List Float → Ask MoveResult → List Float
+written_asked out (found m) = stored out 0 (numbers_of m)
+written_asked out (refused k) = out

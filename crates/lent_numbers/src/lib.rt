@@ -3,10 +3,12 @@
 
 ghost use Rattle.std.specs.Prelude.{◌≡◌, [], ◌∷◌, set};
 ghost use Rattle.base.specs.Loop.{stored};
-ghost use Rattle.lent_numbers.specs.Written.{flag_of, flagged, numbers_of, written_by};
+ghost use Rattle.base.specs.Refusals.{asked, verdict};
+ghost use Rattle.lent_numbers.specs.Written.{flag_of, flagged, numbers_of, written_asked};
 
+use base::Refusal;
 use boxes::Vec3;
-use sweeps::{MoveAnswer, MoveResult};
+use sweeps::MoveResult;
 
 pub fn put(out: &mut [f64], i: usize, x: f64)
     ensures { out.new ≡ set out.old i x }
@@ -22,6 +24,7 @@ pub fn flag_of(holds: bool) -> f64
     if holds { 1.0 } else { 0.0 }
 }
 
+#[tactic(auto, unfolding(base::specs::Loop::stored))]
 pub fn put_vec(out: &mut [f64], i: u8, v: Vec3)
     ensures { out.new ≡ stored out.old i (v.x ∷ v.y ∷ v.z ∷ []) }
 {
@@ -32,6 +35,7 @@ pub fn put_vec(out: &mut [f64], i: u8, v: Vec3)
 }
 
 // Four numbers, as `flagged` has them.
+#[tactic(auto, unfolding(base::specs::Loop::stored))]
 pub fn put_flagged(out: &mut [f64], v: Vec3, holds: bool)
     ensures { out.new ≡ stored out.old 0 (flagged v holds) }
 {
@@ -40,6 +44,7 @@ pub fn put_flagged(out: &mut [f64], v: Vec3, holds: bool)
 }
 
 // Ten numbers, as `numbers_of` has them.
+#[tactic(auto, unfolding(base::specs::Loop::stored, crate::specs::Written::numbers_of))]
 pub fn put_result(out: &mut [f64], m: MoveResult)
     ensures { out.new ≡ stored out.old 0 (numbers_of m) }
 {
@@ -49,13 +54,12 @@ pub fn put_result(out: &mut [f64], m: MoveResult)
     put(out, 9, flag_of(m.on_ground));
 }
 
-pub fn move_into(out: &mut [f64], a: MoveAnswer) -> u32
-    ensures value { result ≡ a.refusal }
-    ensures out_after { out.new ≡ written_by out.old a }
+/// What a move comes to: ten numbers, or a refusal, which writes nothing.
+#[tactic(auto, using(base::proofs::Cases::cases))]
+pub fn move_into(out: &mut [f64], answer: Result<MoveResult, Refusal>) -> Result<(), Refusal>
+    ensures value { verdict result ≡ verdict answer }
+    ensures out_after { out.new ≡ written_asked out.old (asked answer) }
 {
-    if a.refusal != 0 {
-        return a.refusal;
-    }
-    put_result(out, a.result);
-    0
+    put_result(out, answer?);
+    Ok(())
 }

@@ -5,7 +5,7 @@ use Rattle.base.specs.Choose.{choose}
 use Rattle.base.specs.Loop.{stored}
 use Rattle.base.specs.Ask.{Ask, unless}
 use Rattle.bodies.specs.Numbers.{lengths_fit}
-use Rattle.step_answers.specs.declared.StepAnswer.{StepAnswer}
+use Rattle.step_answers.specs.Records.{StepAnswer}
 use Rattle.lent_steps.specs.Steps.{step_places, step_numbers}
 use Rattle.lent_steps.specs.Falling.{falling_places}
 

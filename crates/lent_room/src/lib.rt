@@ -2,46 +2,47 @@
 #![tactic(auto)]
 
 ghost use Rattle.std.specs.Prelude.{◌≡◌};
+ghost use Rattle.base.specs.Refusals.{asked, verdict};
+ghost use Rattle.bodies.specs.declared.MotionNumbers.{MotionNumbers};
+ghost use Rattle.step_answers.specs.Answers.{step_answer};
 ghost use Rattle.lent_room.specs.Room.{short_of, whole_body, whole_falling, answer_written};
 
+use base::Refusal;
 use lent_steps::put_step;
-use step_answers::StepAnswer;
+use step_answers::Tick;
 
-// A body's lengths, and room for ten numbers.
+/// Whether a body's lengths fit, and there is room for ten numbers.
+#[tactic(auto, using(base::proofs::Cases::cases))]
 pub fn whole_body(numbers: &[f64], words: &[u32], places: usize) -> bool
     ensures { result ≡ whole_body numbers.now words.now places }
 {
-    bodies::lengths_fit(numbers, words) & (places >= 10)
+    bodies::lengths_fit(numbers, words) && places >= 10
 }
 
-// The same with a fall record: twelve numbers.
+/// The same with a fall record: twelve numbers.
+#[tactic(auto, using(base::proofs::Cases::cases))]
 pub fn whole_falling(numbers: &[f64], words: &[u32], places: usize) -> bool
     ensures { result ≡ whole_falling numbers.now words.now places }
 {
-    bodies::lengths_fit(numbers, words) & (places >= 12)
+    bodies::lengths_fit(numbers, words) && places >= 12
 }
 
-// Where there is no room, or a slice has another length than it should: 1 or 2, then 3 or 4, then 11.
-pub fn short_of(first: u32, early: u32) -> u32
-    ensures { result ≡ short_of first early }
+/// Where there is no room, or a slice has another length than it should: what is lent comes first, then what is handed over, then `Room`.
+#[tactic(auto, using(base::proofs::Cases::cases), unfolding(base::specs::Choose::choose))]
+pub fn short_of(lent: Result<(), Refusal>, early: Result<(), Refusal>) -> Result<(), Refusal>
+    ensures { verdict result ≡ short_of (verdict lent) (verdict early) }
 {
-    if first == 0 {
-        if early == 0 {
-            return 11;
-        }
-        return early;
-    }
-    first
+    lent?;
+    early?;
+    Err(Refusal::Room)
 }
 
-// A step's answer, where there is room for it.
-pub fn answer_into(out: &mut [f64], a: StepAnswer) -> u32
-    ensures value { result ≡ a.refusal }
-    ensures out_after { out.new ≡ answer_written out.old a }
+/// A step's answer, where there is room for it: a refusal writes nothing, so that it is all one what the step was given.
+#[tactic(auto, using(base::proofs::Cases::cases), unfolding(crate::specs::Room::answer_written, base::specs::Choose::choose))]
+pub fn answer_into(out: &mut [f64], answer: Result<Tick, Refusal>) -> Result<(), Refusal>
+    ensures value { (given : MotionNumbers) → verdict result ≡ (step_answer given (asked answer)).refusal }
+    ensures out_after { (given : MotionNumbers) → out.new ≡ answer_written out.old (step_answer given (asked answer)) }
 {
-    if a.refusal != 0 {
-        return a.refusal;
-    }
-    put_step(out, a);
-    0
+    put_step(out, answer?);
+    Ok(())
 }

@@ -1,7 +1,7 @@
 -- What is returned and written for a step that is refused early, has no room, is refused late, or is accepted. Assumes nothing.
-use mathlib.Core.Bool.{Bool, true, false, false≢true}
+use mathlib.Core.Bool.{true, false, false≢true}
 use mathlib.Core.List.{List}
-use mathlib.Core.Path.{◌≡◌, refl, sym, ap, ◌∙◌}
+use mathlib.Core.Path.{◌≡◌, refl, sym}
 use Prim.Native.Nat.{ℕ, zero, suc, ◌≤◌, ◌<◌}
 use native.Mathlib.Omega.{arith}
 use lib.Dec.{eqb}
@@ -10,13 +10,24 @@ use lib.Ieee.{Float}
 use borrow.Author.Tests.{eq-eqb, ne_eqb, lt-ltb, le-ltb}
 use Rattle.base.specs.Choose.{choose}
 use Rattle.base.specs.Loop.{stored}
-use Rattle.step_answers.specs.declared.StepAnswer.{StepAnswer}
+use Rattle.std.specs.Prelude.{Result, Ok, Err}
+use Rattle.base.specs.declared.Refusal.{Refusal}
+use Rattle.base.specs.Refusals.{asked, verdict}
+use Rattle.bodies.specs.declared.MotionNumbers.{MotionNumbers}
+use Rattle.step_answers.specs.declared.Tick.{Tick}
+use Rattle.step_answers.specs.Answers.{step_answer}
+use Rattle.step_answers.specs.Records.{StepAnswer}
 use Rattle.lent_steps.specs.Steps.{step_numbers, step_places, comes_first, step_refusal, step_written}
 
 -- what is returned, and what the lent numbers are then
 pub record Told (out after : List Float) (r : ℕ) (a : StepAnswer) : Type 0 where
   pub refusal : r ≡ step_refusal (length out) a
   pub numbers : after ≡ step_written out a
+
+-- the number that a host is handed
+pub told : (given : MotionNumbers) (answer : Result Tick Refusal) → (step_answer given (asked answer)).refusal ≡ verdict answer
+told given (Ok t) = refl
+told given (Err e) = refl
 
 -- 0 is no refusal
 not-zero : (n : ℕ) → comes_first n ≡ true → eqb n 0 ≡ false

@@ -2,7 +2,7 @@
 use Rattle.std.specs.Prelude.{List, ◌∷◌, ◌++◌, ℕ, eqb, Float}
 use Rattle.base.specs.Choose.{choose}
 use Rattle.base.specs.Loop.{stored}
-use Rattle.step_answers.specs.declared.FallingAnswer.{FallingAnswer}
+use Rattle.step_answers.specs.Records.{FallingAnswer}
 use Rattle.lent_steps.specs.Steps.{motion_numbers, support_numbers}
 
 -- the motion's eight numbers, then the record after it, sum and landed, then the sample: twelve numbers

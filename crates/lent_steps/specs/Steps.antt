@@ -4,17 +4,24 @@ use Rattle.std.specs.Float.{binary64}
 use Rattle.std.specs.Float.Ieee.{of_int}
 use Rattle.base.specs.Choose.{choose}
 use Rattle.base.specs.Loop.{stored}
+use Rattle.tables.specs.declared.LiquidKind.{LiquidKind}
 use Rattle.tables.specs.Tables.{kind_number}
+use Rattle.bodies.specs.declared.MotionNumbers.{MotionNumbers}
+use Rattle.bodies.specs.Body.{yes_number}
 use Rattle.drags.specs.declared.Support.{Support}
 use Rattle.drags.specs.Cases.{case_number, sampled_number}
-use Rattle.step_answers.specs.declared.StepAnswer.{StepAnswer}
+use Rattle.step_answers.specs.declared.Tick.{Tick}
+use Rattle.step_answers.specs.Records.{StepAnswer}
 
 -- feet, velocity, ground, and the liquid: 0 none, 1 water, 2 lava; eight numbers
+abbrev pub moved_numbers : MotionNumbers → LiquidKind → List Float
+moved_numbers m liquid =
+    m.feet.x ∷ m.feet.y ∷ m.feet.z
+    ∷ m.velocity.x ∷ m.velocity.y ∷ m.velocity.z
+    ∷ of_int binary64 (pos m.on_ground) ∷ of_int binary64 (pos (kind_number liquid)) ∷ []
+
 abbrev pub motion_numbers : StepAnswer → List Float
-motion_numbers a =
-    a.motion.feet.x ∷ a.motion.feet.y ∷ a.motion.feet.z
-    ∷ a.motion.velocity.x ∷ a.motion.velocity.y ∷ a.motion.velocity.z
-    ∷ of_int binary64 (pos a.motion.on_ground) ∷ of_int binary64 (pos (kind_number a.liquid)) ∷ []
+motion_numbers a = moved_numbers a.motion a.liquid
 
 -- the case of its sample: 0 not asked, 1 sampled, 2 air, 3 unloaded, 4 unregistered; and the sampled number, 0 in every other case
 abbrev pub support_numbers : Support → List Float
@@ -25,6 +32,16 @@ step_places = 10
 
 abbrev pub step_numbers : StepAnswer → List Float
 step_numbers a = motion_numbers a ++ support_numbers a.support
+
+-- a step that was made has one answer, whatever it was given
+abbrev pub made : Tick → StepAnswer
+made t =
+    record {
+      motion = record { feet = t.motion.feet; velocity = t.motion.velocity; on_ground = yes_number t.motion.on_ground };
+      liquid = t.liquid;
+      support = t.support;
+      refusal = 0;
+    }
 
 -- 8, and 1 to 4: what is refused before any cell is asked for
 unfoldable pub comes_first : ℕ → Bool

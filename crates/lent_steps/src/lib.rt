@@ -7,13 +7,18 @@ ghost use Rattle.std.specs.Prelude.{◌≡◌, pos, length};
 ghost use Rattle.std.specs.Float.{binary64};
 ghost use Rattle.std.specs.Float.Ieee.{of_int};
 ghost use Rattle.base.specs.Loop.{stored};
+ghost use Rattle.base.specs.Refusals.{asked, verdict};
 ghost use Rattle.tables.specs.Tables.{kind_number};
-ghost use Rattle.lent_steps.specs.Steps.{motion_numbers, support_numbers, step_numbers, comes_first, step_refusal, step_written};
+ghost use Rattle.bodies.specs.declared.MotionNumbers.{MotionNumbers};
+ghost use Rattle.step_answers.specs.Answers.{step_answer};
+ghost use Rattle.lent_steps.specs.Steps.{moved_numbers, support_numbers, step_numbers, made, comes_first, step_refusal, step_written};
 
+use base::Refusal;
+use bodies::{MotionNumbers, yes_number};
 use drags::Support;
 pub use falling::{falling_into, put_falling};
 use lent_numbers::{put, put_vec};
-use step_answers::StepAnswer;
+use step_answers::Tick;
 use tables::LiquidKind;
 
 fn kind_number(kind: LiquidKind) -> u32
@@ -32,31 +37,28 @@ pub fn float_of(n: u32) -> f64
     n as f64
 }
 
-// 8, and 1 to 4.
-fn comes_first(refusal: u32) -> bool
-    ensures { result ≡ comes_first refusal }
+// What is refused before any cell is asked for: 8, and 1 to 4.
+#[tactic(auto, using(base::proofs::Cases::cases), unfolding(crate::specs::Steps::comes_first))]
+fn comes_first(answer: Result<Tick, Refusal>) -> bool
+    ensures { result ≡ comes_first (verdict answer) }
 {
-    if refusal == 8 {
-        return true;
-    }
-    if 1 <= refusal {
-        return refusal <= 4;
-    }
-    false
+    use base::Refusal::{Malformed, Number, Place, Tables, Window};
+    matches!(answer, Err(Malformed | Tables | Window | Number | Place))
 }
 
-// Eight numbers, as `motion_numbers` has them; one whose place is not there is dropped.
-fn put_motion(out: &mut [f64], a: StepAnswer)
-    ensures { out.new ≡ stored out.old 0 (motion_numbers a) }
+// Eight numbers, as `moved_numbers` has them; one whose place is not there is dropped.
+#[tactic(auto, unfolding(base::specs::Loop::stored))]
+fn put_motion(out: &mut [f64], motion: MotionNumbers, liquid: LiquidKind)
+    ensures { out.new ≡ stored out.old 0 (moved_numbers motion liquid) }
 {
-    let liquid = a.liquid;
-    put_vec(out, 0, a.motion.feet);
-    put_vec(out, 3, a.motion.velocity);
-    put(out, 6, float_of(a.motion.on_ground));
+    put_vec(out, 0, motion.feet);
+    put_vec(out, 3, motion.velocity);
+    put(out, 6, float_of(motion.on_ground));
     put(out, 7, float_of(kind_number(liquid)));
 }
 
 // From place i on: the case of a step's sample, and the sampled number.
+#[tactic(auto, unfolding(base::specs::Loop::stored))]
 fn put_support(out: &mut [f64], i: u8, s: Support)
     ensures { out.new ≡ stored out.old i (support_numbers s) }
 {
@@ -65,29 +67,30 @@ fn put_support(out: &mut [f64], i: u8, s: Support)
     put(out, k + 1, drags::sampled_number(s));
 }
 
-// Ten numbers, as `step_numbers` has them; one whose place is not there is dropped.
-pub fn put_step(out: &mut [f64], a: StepAnswer)
-    ensures { out.new ≡ stored out.old 0 (step_numbers a) }
+/// Ten numbers of a step that was made, as `step_numbers` has them; one whose place is not there is dropped.
+#[tactic(auto, unfolding(base::specs::Loop::stored))]
+pub fn put_step(out: &mut [f64], tick: Tick)
+    ensures { out.new ≡ stored out.old 0 (step_numbers (made tick)) }
 {
-    let support = a.support;
-    put_motion(out, a);
-    put_support(out, 8, support);
+    let motion = MotionNumbers {
+        feet: tick.motion.feet,
+        velocity: tick.motion.velocity,
+        on_ground: yes_number(tick.motion.on_ground),
+    };
+    put_motion(out, motion, tick.liquid);
+    put_support(out, 8, tick.support);
 }
 
-// Feet, velocity, ground, liquid, and the sample: ten numbers. It returns 0; or a refusal, and writes nothing. 11 is for less room than that.
-pub fn step_into(out: &mut [f64], a: StepAnswer) -> u32
-    ensures value { result ≡ step_refusal (length out.old) a }
-    ensures out_after { out.new ≡ step_written out.old a }
+/// Feet, velocity, ground, liquid, and the sample: ten numbers. A refusal writes nothing, so that it is all one what the step was given. `Room` is for
+/// less room than that: behind what is refused before any cell is asked for, and before all else.
+#[tactic(auto, using(base::proofs::Cases::cases, crate::proofs::Refusals::told), unfolding(crate::specs::Steps::comes_first, crate::specs::Steps::step_refusal, crate::specs::Steps::step_written, base::specs::Choose::choose))]
+pub fn step_into(out: &mut [f64], answer: Result<Tick, Refusal>) -> Result<(), Refusal>
+    ensures value { (given : MotionNumbers) → verdict result ≡ step_refusal (length out.old) (step_answer given (asked answer)) }
+    ensures out_after { (given : MotionNumbers) → out.new ≡ step_written out.old (step_answer given (asked answer)) }
 {
-    if comes_first(a.refusal) {
-        return a.refusal;
+    if out.len() < 10 && !comes_first(answer) {
+        return Err(Refusal::Room);
     }
-    if out.len() < 10 {
-        return 11;
-    }
-    if a.refusal != 0 {
-        return a.refusal;
-    }
-    put_step(out, a);
-    0
+    put_step(out, answer?);
+    Ok(())
 }

@@ -11,22 +11,15 @@ use window::Window;
 fn signed_of(w: u32) -> i32
     ensures { result ≡ signed_word w }
 {
-    if w < 2147483648 {
-        return w as i32;
-    }
-    let n = (4294967295 - w) as i32;
-    -1 - n
+    w.cast_signed()
 }
 
 // A signed number as a word.
+#[tactic(auto, unfolding(crate::specs::Words::unsigned_word))]
 fn unsigned_of(z: i32) -> u32
     ensures { result ≡ unsigned_word z }
 {
-    if z < 0 {
-        let n = -1 - z;
-        return 4294967295 - n as u32;
-    }
-    z as u32
+    z.cast_unsigned()
 }
 
 // Two words as one number, the low word first.
@@ -64,22 +57,31 @@ pub fn window_from(
 ) -> Window
     ensures { result ≡ window_of (signed_word ox) (signed_word oy) (signed_word oz) sx sy sz (signed_word lowest) (signed_word highest) air }
 {
-    let x = signed_of(ox);
-    let y = signed_of(oy);
-    let z = signed_of(oz);
-    let low = signed_of(lowest);
-    let high = signed_of(highest);
-    window::window_of(x, y, z, sx, sy, sz, low, high, air)
+    window::window_of(
+        signed_of(ox),
+        signed_of(oy),
+        signed_of(oz),
+        sx,
+        sy,
+        sz,
+        signed_of(lowest),
+        signed_of(highest),
+        air,
+    )
 }
 
 // The words of a window, but for its air state.
 pub fn window_words(w: Window) -> [u32; 8]
     ensures { result ≡ window_words w }
 {
-    let ox = unsigned_of(w.origin.x);
-    let oy = unsigned_of(w.origin.y);
-    let oz = unsigned_of(w.origin.z);
-    let lowest = unsigned_of(w.lowest);
-    let highest = unsigned_of(w.highest);
-    [ox, oy, oz, w.sizes.x, w.sizes.y, w.sizes.z, lowest, highest]
+    [
+        unsigned_of(w.origin.x),
+        unsigned_of(w.origin.y),
+        unsigned_of(w.origin.z),
+        w.sizes.x,
+        w.sizes.y,
+        w.sizes.z,
+        unsigned_of(w.lowest),
+        unsigned_of(w.highest),
+    ]
 }

@@ -1,4 +1,4 @@
--- What the program's answers say, and what a host is handed.
+-- What a turn of the search says, and what a host is handed.
 use Rattle.std.specs.Prelude.{Bool, not, List, ℕ, Float}
 use Rattle.base.specs.Ask.{Ask, refused, found, Turn, next, done}
 use Rattle.boxes.specs.declared.Aabb.{Aabb}
@@ -8,23 +8,21 @@ use Rattle.tables.specs.declared.LiquidKind.TheVariants.{None}
 use Rattle.window.specs.declared.Window.{Window}
 use Rattle.window.specs.Look.{look_at}
 use Rattle.lent.specs.Lent.{unless, direct}
-use Rattle.liquids.specs.declared.AskedKind.{AskedKind}
-use Rattle.liquids.specs.declared.AskedKind.TheVariants as kinds
-use Rattle.liquids.specs.declared.Search.{Search}
-use Rattle.liquids.specs.declared.Search.TheVariants as searches
-use Rattle.liquids.specs.declared.LiquidAnswer.{LiquidAnswer}
+use Rattle.std.specs.declared.ops.ControlFlow.{ControlFlow}
+use Rattle.std.specs.declared.ops.ControlFlow.TheVariants.{Continue, Break}
 use Rattle.liquids.specs.Living.{living_liquid}
 
-abbrev pub kind_asked : AskedKind → Ask LiquidKind
-kind_asked (kinds.Is kind) = found kind
-kind_asked (kinds.Refused n) = refused n
-
-abbrev pub search_asked : Search → Ask (Turn Bool LiquidKind)
-search_asked (searches.On lava) = found (next lava)
-search_asked (searches.Done kind) = found (done kind)
-search_asked (searches.Refused n) = refused n
+-- what one cell's turn says
+abbrev pub search_of : ControlFlow LiquidKind Bool → Turn Bool LiquidKind
+search_of (Continue lava) = next lava
+search_of (Break kind) = done kind
 
 -- ---- what a host is handed
+
+-- refusal 0 and the liquid, or a refusal and none
+pub record LiquidAnswer : Type 0 where
+  pub refusal : ℕ
+  pub kind : LiquidKind
 
 -- a refused call answers none
 abbrev pub liquid_answer : Ask LiquidKind → LiquidAnswer

@@ -1,2 +1,2 @@
--- A law of the loop that checks a list.
+-- What the check of a list comes to.
 pub mod Limits

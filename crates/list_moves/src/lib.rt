@@ -3,53 +3,42 @@
 #![tactic(auto)]
 
 ghost use Rattle.std.specs.Prelude.{◌≡◌};
+ghost use Rattle.base.specs.Refusals.{asked, verdict};
 ghost use Rattle.boxes.specs.Limits.{are_boxes};
 ghost use Rattle.sweeps.specs.Lists.{list_of};
 ghost use Rattle.sweeps.specs.Move.{clip_sequence, move_over};
 ghost use Rattle.sweeps.specs.Passes.{sweep_of};
-ghost use Rattle.sweeps.specs.Entry.{refusal_of, move_over_list};
+ghost use Rattle.sweeps.specs.Entry.{refusal_of, move_answer, move_over_list};
 
+use base::Refusal;
 use boxes::{Aabb, Vec3, is_box, is_delta, is_step};
-use sweeps::{BoxList, MoveAnswer, MoveResult, Request, Sweep, Swept, counted};
+use sweeps::{BoxList, MoveResult, Request, Sweep, Swept};
 
 // All passes of a move over a list. The axis is fixed while the boxes are gone through.
 pub fn swept_over(list: BoxList, q: Request) -> Sweep
     ensures { result ≡ sweep_of (list_of list) q }
 {
-    let n = counted(list.count);
+    let boxes = list.as_slice();
     let mut s = attempts::begun(q);
-    let mut pass = 0u32;
-    while pass < 7 {
+    for pass in 0..7u32 {
         let axis = sweeps::axis_of(pass);
         let now = s.now;
-        let mover = now.aabb;
         let mut d = attempts::wanted(pass, axis, q, now);
-        let mut i = 0usize;
-        while i < n {
-            let b = list.boxes[i];
-            d = sweeps::clip_along(axis, b, mover, d);
-            i += 1;
+        for b in boxes {
+            d = sweeps::clip_along(axis, *b, now.aabb, d);
         }
-        let first = s.first;
-        s = attempts::next_sweep(pass, q, first, attempts::gone(pass, axis, now, d));
+        s = attempts::next_sweep(pass, q, s.first, attempts::gone(pass, axis, now, d));
         if s.over {
             return s;
         }
-        pass += 1;
     }
     s
 }
 
-// The move of a box over a list, for any boxes and any numbers: step is the step height, ground whether the body was on the ground.
-pub fn move_over(list: BoxList, aabb: Aabb, delta: Vec3, step: f64, grounded: bool) -> MoveResult
-    ensures { result ≡ move_over (list_of list) aabb delta step grounded }
+// The move of a box over a list, for any boxes and any numbers.
+pub fn move_over(list: BoxList, q: Request) -> MoveResult
+    ensures { result ≡ move_over (list_of list) q.aabb q.delta q.step q.on_ground }
 {
-    let q = Request {
-        aabb,
-        delta,
-        step,
-        on_ground: grounded,
-    };
     sweeps::ended(q, swept_over(list, q))
 }
 
@@ -69,63 +58,34 @@ pub fn clip_sequence(list: BoxList, aabb: Aabb, delta: Vec3) -> Swept
     s.now
 }
 
-fn are_boxes(list: BoxList) -> bool
-    ensures { result ≡ are_boxes (list_of list) }
+fn are_boxes(boxes: &[Aabb]) -> bool
+    ensures { result ≡ are_boxes boxes.now }
 {
-    let n = counted(list.count);
-    let mut i = 0usize;
-    while i < n {
-        let b = list.boxes[i];
-        if is_box(b) {
-            i += 1;
-        } else {
-            return false;
-        }
-    }
-    true
+    boxes.iter().all(|b| is_box(*b))
 }
 
-// 3, then 4, then 6; sound says whether the list's boxes are boxes.
-pub fn refusal_of(cap: u32, aabb: Aabb, delta: Vec3, step: f64, sound: bool, count: usize) -> u32
-    ensures { result ≡ refusal_of cap aabb delta step sound count }
+/// Err(Number), then Err(Place), then Err(TooManyBoxes); `sound` says whether the list's boxes are boxes.
+#[tactic(auto, using(base::proofs::Cases::cases), unfolding(base::specs::Choose::choose))]
+pub fn check_move(cap: u32, q: Request, sound: bool, count: usize) -> Result<(), Refusal>
+    ensures { verdict result ≡ refusal_of cap q.aabb q.delta q.step sound count }
 {
-    if sweeps::is_cap(cap) & is_step(step) {
-        if is_box(aabb) {
-            if is_delta(delta) {
-                if sound {
-                    if count > sweeps::cap_of(cap) {
-                        return 6;
-                    }
-                    return 0;
-                }
-            }
-        }
-        return 4;
+    if !(sweeps::is_cap(cap) && is_step(q.step)) {
+        return Err(Refusal::Number);
     }
-    3
+    if !(is_box(q.aabb) && is_delta(q.delta) && sound) {
+        return Err(Refusal::Place);
+    }
+    if count > sweeps::cap_of(cap) {
+        return Err(Refusal::TooManyBoxes);
+    }
+    Ok(())
 }
 
-// The move over a list that is handed in: step is the step height, ground whether the body was on the ground.
-pub fn move_over_list(
-    cap: u32,
-    list: BoxList,
-    aabb: Aabb,
-    delta: Vec3,
-    step: f64,
-    grounded: bool,
-) -> MoveAnswer
-    ensures { result ≡ move_over_list cap list aabb delta step grounded }
+/// The move over a list that is handed in: Err(Number), Err(Place) or Err(TooManyBoxes) for what breaks a limit.
+#[tactic(auto, using(base::proofs::Cases::cases), unfolding(sweeps::specs::Entry::move_over_list, base::specs::Choose::choose))]
+pub fn move_over_list(cap: u32, list: BoxList, q: Request) -> Result<MoveResult, Refusal>
+    ensures { move_answer q.aabb (asked result) ≡ move_over_list cap list q.aabb q.delta q.step q.on_ground }
 {
-    let sound = are_boxes(list);
-    let refusal = refusal_of(cap, aabb, delta, step, sound, list.count);
-    if refusal == 0 {
-        return MoveAnswer {
-            refusal,
-            result: move_over(list, aabb, delta, step, grounded),
-        };
-    }
-    MoveAnswer {
-        refusal,
-        result: MoveResult::refused(aabb),
-    }
+    check_move(cap, q, are_boxes(list.as_slice()), list.count)?;
+    Ok(move_over(list, q))
 }

@@ -17,7 +17,6 @@ use Rattle.base.proofs.Stored.{stored-parts}
 use Rattle.blocks.specs.Blocks.{marked, is_second, per_block, blocks_of, end_of, part_fits, part_word, body_part}
 use Rattle.block_rules.proofs.Blocks.{block-is}
 use Rattle.files.specs.Files.{is_scene}
-use Rattle.files.specs.Contents.{Contents}
 use Rattle.files.proofs.Told.{tells}
 use Rattle.part_writer.specs.Bytes.{word_in}
 use Rattle.part_writer.proofs.Parts.{Holds, part_length, holds-last, holds_fits, holds-word}

@@ -14,7 +14,6 @@ use Rattle.base.proofs.Every.{both}
 use Rattle.blocks.specs.declared.Part.{Part}
 use Rattle.blocks.specs.Blocks.{block_of, per_block, end_of, part_word, body_part, window_part}
 use Rattle.block_rules.proofs.Blocks.{block-is}
-use Rattle.files.specs.declared.Counts.{Counts}
 use Rattle.files.specs.Places.{states_place, boxes_place}
 use Rattle.files.specs.Files.{body_word, flap_fits, window_in, sizes_in, counts_in, counts_fit, counts_of, blocks_for, blocks_fit, is_scene}
 use Rattle.files.proofs.Told.{Told, tells}

@@ -7,8 +7,7 @@ use Rattle.blocks.specs.declared.Part.{Part}
 use Rattle.blocks.specs.Blocks.{marked, log_part}
 use Rattle.files.specs.Files.{is_scene}
 use Rattle.part_writer.specs.Bytes.{part_bytes, word_in}
-use Rattle.writer.specs.declared.Written.{Written}
-use Rattle.writer.specs.Written.{room_for}
+use Rattle.writer.specs.Written.{Written, room_for}
 use Rattle.logs.specs.declared.Event.{Event}
 use Rattle.logs.specs.Logs.{event_fits, event_at, scene_in, blocks_in}
 

@@ -4,8 +4,11 @@ use mathlib.Core.List.{List}
 use mathlib.Core.Path.{◌≡◌, refl, sym, ap, ◌∙◌}
 use Prim.Native.Nat.{ℕ}
 use lib.ListN.{take}
+use Rattle.std.specs.Prelude.{Result, Err}
 use Rattle.base.specs.Choose.{choose}
 use Rattle.base.specs.Ask.{refused, found}
+use Rattle.base.specs.declared.Refusal.{Refusal}
+use Rattle.base.specs.Refusals.{number_of, asked}
 use Rattle.base.proofs.Cases.{yes, no}
 use Rattle.base.proofs.Every.{both}
 use Rattle.files.specs.declared.Counts.{Counts}
@@ -20,6 +23,12 @@ use Rattle.logs.proofs.First.{first-events}
 use Rattle.scene.specs.Scene.{malformed as unread, tick_of}
 use Rattle.scene.proofs.Refusals.{tick-8}
 use Rattle.logged.specs.Logged.{malformed_log, minute_over, minute_in, minute_first}
+
+-- what the program answers with an error, whichever, is refused by 8
+pub unfit_file : {A : Type 0} (r : Result A Refusal) (e : Refusal) → r ≡ Err e → (b : Bool) (m : A) → asked r ≡ choose b (found m) (refused 8) → refused 8 ≡ choose b (found m) (refused 8)
+unfolding choose
+unfit_file r e is true m q = let n : refused (number_of e) ≡ found m = ap asked (sym is) ∙ q in cc
+unfit_file r e is false m q = refl
 
 module _ (file : List ℕ) where
   pub no-log : refused 8 ≡ choose (is_log file) (found (log_of file)) (refused 8) → malformed_log ≡ minute_in file

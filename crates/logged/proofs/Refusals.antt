@@ -21,7 +21,7 @@ use Rattle.lent.specs.Lent.{unless, lent_refusal}
 use Rattle.step.specs.Answers.{step_answer}
 use Rattle.step.proofs.Refuses.{Named, step-refusal}
 use Rattle.fall_rule.specs.declared.Fall.{Fall}
-use Rattle.step_answers.specs.declared.FallingAnswer.{FallingAnswer}
+use Rattle.step_answers.specs.Records.{FallingAnswer}
 use Rattle.fall_rule.specs.Rule.{fall_fits}
 use Rattle.falls.specs.Answers.{with_fall, falling_entry}
 use Rattle.falls.proofs.Laws.{beside, unfit}

@@ -1,10 +1,10 @@
 -- How long what is printed of a log file's minute is: 215,050 bytes hold all of it. Assumes nothing.
 use mathlib.Core.List.{List}
 use mathlib.Core.Path.{◌≡◌}
-use Prim.Native.Nat.{ℕ, ◌+◌, ◌*◌, ◌≤◌, min, max}
+use Prim.Native.Nat.{ℕ, ◌≤◌}
 use native.Mathlib.Omega.{arith}
 use lib.ListN.{length}
-use Rattle.text.specs.Cursor.{behind, Put}
+use Rattle.text.specs.Cursor.{Put}
 use Rattle.minute_told.specs.Printed.{minute_text}
 use Rattle.minute_told.proofs.Room.{text-length}
 use Rattle.logged.specs.Logged.{minute_in}

@@ -26,7 +26,7 @@ use Rattle.groups.proofs.Counts.{all-groups}
 use Rattle.summary.specs.Calls.{plain_words}
 use Rattle.blocks.specs.Blocks.{part_word, record_part, box_part, window_part, cell_part}
 use Rattle.files.specs.declared.Counts.{Counts}
-use Rattle.files.specs.Files.{body_word, window_in, sizes_in, counts_in, counts_fit, counts_of, flap_fits, blocks_for, blocks_fit, is_scene}
+use Rattle.files.specs.Files.{body_word, window_in, sizes_in, counts_in, counts_fit, counts_of, flap_fits, blocks_fit, is_scene}
 use Rattle.files.specs.Places.{states_place, boxes_place}
 use Rattle.files.specs.Contents.{Contents, contents_of, numbers_in, late_words, body_age, words_of, singles_of, contents_behind}
 use Rattle.files.proofs.Scenes.{rooms}

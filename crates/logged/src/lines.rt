@@ -13,11 +13,11 @@ fn feet_room() -> [f64; 11520]
     [0.0; 11520]
 }
 
-// What `oneminute` prints for a file, as far as there is room for it, and how many bytes that is: 215,050 hold every answer.
+/// What `oneminute` prints for a file, as far as there is room for it, and how many bytes that is: 215,050 hold every answer.
 pub fn answer(file: &[u8], out: &mut [u8]) -> usize
     ensures { Put out.old 0 (minute_text (minute_in file.now)) out.new result }
 {
     let mut feet = feet_room();
     let m = run_log(file, &mut feet);
-    minute_told::put_text(out, &feet, m.ticks, m.refusal)
+    minute_told::put_text(out, &feet, m.ticks, m.ended)
 }

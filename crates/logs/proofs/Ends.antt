@@ -1,23 +1,33 @@
--- The loop that looks for the end: what it finds from here on is what it finds. Assumes nothing.
-use mathlib.Core.Path.{◌≡◌}
-use Prim.Native.Nat.{ℕ, suc, ◌+◌, ◌-◌, ◌*◌, ◌<◌, ◌≤◌}
-use native.Mathlib.Omega.{arith}
+-- The first event whose number is 0, as the library finds it. Assumes nothing.
+use Rattle.std.proofs.Common.{◌≡◌, ℕ, zero, suc, ◌+◌, ◌*◌, ◌≤◌, ◌<◌, arith}
+use Rattle.std.specs.Prelude.{Option, None, Some, MatchOption}
+use Rattle.std.specs.Option.{unwrap_or}
+use native.Mathlib.Decide.{dec_lt}
 use borrow.Author.Tests.{eq-eqb, ne_eqb}
 use Rattle.base.specs.Choose.{choose}
 use Rattle.logs.specs.Logs.{end_from}
 
-pub end-begins : (word : ℕ → ℕ) (n : ℕ) → end_from word (n - 0) 0 ≡ end_from word n 0
-end-begins word n = let q : n - 0 ≡ n = omega arith in rw q
+module _ (word : ℕ → ℕ) where
+  -- no event from s on and before i is the end
+  abbrev pub NoneIn : ℕ → ℕ → Type 0
+  NoneIn s i = (k : ℕ) → s ≤ k → k < i → word (k * 4) ≡ 0 → ⊥
 
-module _ (word : ℕ → ℕ) (n i w : ℕ) where
-  pub end-here : i < n → word (i * 4) ≡ 0 → end_from word (n - i) i ≡ w → i ≡ w
+  found-at : (n s i : ℕ) → s ≤ i → i < s + n → NoneIn s i → word (i * 4) ≡ 0 → i ≡ end_from word n s
   unfolding end_from choose
-  end-here h z inv = let q : n - i ≡ suc (n - (i + 1)) = omega arith in rw (q, eq-eqb (word (i * 4)) 0 z) at inv
+  found-at zero s i h g before here = absurd (omega arith)
+  found-at (suc n) s i h g before here = go (dec_lt s i) (λ (l : s < i). found-at n (s + 1) i (omega arith) (omega arith) (λ k a b. before k (omega arith) b) here)
+    where
+      go : Dec (s < i) → (s < i → i ≡ end_from word n (s + 1)) → i ≡ end_from word (suc n) s
+      go (yes l) later = rw (ne_eqb _ _ (before s (omega arith) l)) (later l)
+      go (no l) later = let e : i ≡ s = omega arith in let z : word (s * 4) ≡ 0 = rw e at here in rw (eq-eqb _ _ z) e
 
-  pub end_on : i < n → (word (i * 4) ≡ 0 → ⊥) → end_from word (n - i) i ≡ w → end_from word (n - (i + 1)) (i + 1) ≡ w
+  none-at : (n s : ℕ) → NoneIn s (s + n) → s + n ≡ end_from word n s
   unfolding end_from choose
-  end_on h z inv = let q : n - i ≡ suc (n - (i + 1)) = omega arith in rw (q, ne_eqb (word (i * 4)) 0 z) at inv
+  none-at zero s h = omega arith
+  none-at (suc n) s h =
+      let e : s + suc n ≡ s + 1 + n = omega arith in
+      rw (ne_eqb _ _ (h s (omega arith) (omega arith)), e) (none-at n (s + 1) (λ k a b. h k (omega arith) (omega arith)))
 
-  pub end_none : n ≤ i → end_from word (n - i) i ≡ w → i ≡ w
-  unfolding end_from
-  end_none h inv = let q : n - i ≡ 0 = omega arith in rw q at inv
+  pub end-is : (n : ℕ) (r : Option ℕ) → MatchOption r (NoneIn 0 n) (λ i. (0 ≤ i) × (i < n) × (word (i * 4) ≡ 0) × NoneIn 0 i) → unwrap_or r n ≡ end_from word n 0
+  end-is n None h = let z : 0 + n ≡ n = omega arith in rw z at (none-at n 0 (λ k a b. h k a (omega arith)))
+  end-is n (Some i) h = found-at n 0 i (omega arith) (omega arith) h.3 h.2

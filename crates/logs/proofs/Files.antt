@@ -1,20 +1,18 @@
 -- From what the program finds of a file to what the definitions say of it. Assumes nothing.
 use mathlib.Core.Bool.{Bool, true, false, ◌&&◌}
 use mathlib.Core.List.{List, []}
-use mathlib.Core.Path.{◌≡◌, refl, sym, ap, ◌∙◌}
-use Prim.Native.Nat.{ℕ, ◌+◌, ◌-◌, ◌*◌, ◌%◌, ◌≤◌}
+use mathlib.Core.Path.{◌≡◌, sym, ap, ◌∙◌}
+use Prim.Native.Nat.{ℕ, ◌+◌, ◌-◌, ◌*◌, ◌%◌, ◌≤◌, ◌<◌, min}
+use native.Mathlib.Decide.{dec_lt}
 use native.Mathlib.Omega.{arith}
 use lib.Dec.{eqb, ltb, leb}
-use lib.ListN.{length, take, drop, length-take}
+use lib.ListN.{length, take, length-take}
 use lib.Seq.{take_all}
 use borrow.Author.Tests.{le-leb, le-ltb}
 use Rattle.base.specs.Choose.{choose}
-use Rattle.base.specs.Ask.{refused, found}
 use Rattle.base.proofs.Every.{both, and_right}
 use Rattle.blocks.specs.Blocks.{part_fits, log_part}
-use Rattle.files.specs.declared.Counts.{Counts}
 use Rattle.files.specs.Files.{counts_fit, counts_of, flap_fits, blocks_for, blocks_fit, is_scene}
-use Rattle.files.proofs.Scenes.{unfit, are}
 use Rattle.files.proofs.Told.{tells}
 use Rattle.logs.specs.declared.Log.{Log}
 use Rattle.logs.specs.Logs.{end_fits, events_fit, first_blocks, scene_in, blocks_in, log_word, log_of, log_fits, whole_log, is_log}
@@ -22,18 +20,13 @@ use Rattle.logs.specs.Logs.{end_fits, events_fit, first_blocks, scene_in, blocks
 -- ---- the scene at a file's start
 
 module _ (file : List ℕ) where
-  pub none_in : refused 8 ≡ choose (counts_fit file) (found (counts_of file)) (refused 8) → [] ≡ scene_in file
-  unfolding scene_in choose
-  none_in e = rw (unfit (counts_fit file) (counts_of file) e)
-
-  pub some_in : (n : Counts) → found n ≡ choose (counts_fit file) (found (counts_of file)) (refused 8) → first_blocks file (blocks_for n) ≡ scene_in file
-  unfolding scene_in choose
-  some_in n e = let a = are (counts_fit file) n (counts_of file) e in rw (a.test, a.same)
-
-  -- a file that has no more than these blocks
-  pub first-whole : (b : ℕ) → b ≤ 128 → length file ≤ b * 512 → take (length file - 0) (drop 0 file) ≡ first_blocks file b
-  unfolding first_blocks choose
-  first-whole b h l = rw (le-leb b 128 h) (take_all (length file - 0) file (omega arith) ∙ sym (take_all (b * 512) file l))
+  -- no more bytes than there are
+  pub cut : (n : ℕ) → take (min (length file) n) file ≡ take n file
+  cut n = go (dec_lt n (length file))
+    where
+      go : Dec (n < length file) → take (min (length file) n) file ≡ take n file
+      go (yes l) = let e : min (length file) n ≡ n = omega arith in rw e
+      go (no l) = let e : min (length file) n ≡ length file = omega arith in rw e (take_all (length file) file (omega arith) ∙ sym (take_all n file (omega arith)))
 
   -- it is a part of the file
   first-most : (b : ℕ) → length (first_blocks file b) ≤ length file
@@ -51,6 +44,10 @@ module _ (file : List ℕ) where
       go : (t : Bool) → length (choose t (first_blocks file (blocks_for (counts_of file))) []) ≤ length file
       go true = first-most (blocks_for (counts_of file))
       go false = omega arith
+
+pub ruleset most = (scene-most)
+
+pub ruleset cuts = (cut)
 
 -- ---- a file that is a scene is no log: nothing lies behind it
 

@@ -1,22 +1,12 @@
--- A log cut behind its first events. Assumes nothing.
+-- The events of a log that is cut are the first of the log's. Assumes nothing.
 use mathlib.Core.List.{List, ◌∷◌}
 use mathlib.Core.Path.{◌≡◌, ap}
-use Prim.Native.Nat.{ℕ, zero, suc, ◌+◌, ◌≤◌, ◌<◌, min}
+use Prim.Native.Nat.{ℕ, zero, suc, ◌+◌, min}
 use native.Mathlib.Omega.{arith}
 use lib.ListN.{take}
 use Rattle.base.specs.Loop.{listed}
 use Rattle.logs.specs.declared.Log.{Log}
 use Rattle.logs.specs.Logs.{event_at, log_word, events_by, first_of}
-
--- ---- how the program cuts it
-
-pub cut-few : (log : Log) (n : ℕ) → n < log.events → record { scene = log.scene; blocks = log.blocks; events = n } ≡ first_of log n
-cut-few log n h = let e : n ≡ min n log.events = omega arith in λ i. record { scene = log.scene; blocks = log.blocks; events = e i }
-
-pub cut_all : (log : Log) (n : ℕ) → log.events ≤ n → log ≡ first_of log n
-cut_all log n h = let e : log.events ≡ min n log.events = omega arith in λ i. record { scene = log.scene; blocks = log.blocks; events = e i }
-
--- ---- its events are the first of the log's
 
 -- so many of a list that is made by a loop, and no more than there are
 listed-first : {A : Type 0} (f : ℕ → A) (n k i : ℕ) → listed f (min n k) i ≡ take n (listed f k i)

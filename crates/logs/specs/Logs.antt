@@ -3,16 +3,12 @@ use Rattle.std.specs.Prelude.{Bool, ◌&&◌, ◌||◌, List, [], ℕ, zero, suc
 use Rattle.base.specs.Choose.{choose}
 use Rattle.base.specs.Every.{every}
 use Rattle.base.specs.Loop.{listed}
-use Rattle.base.specs.Ask.{Ask, refused, found}
-use Rattle.blocks.specs.declared.Part.{Part}
 use Rattle.blocks.specs.Blocks.{part_fits, part_word, log_part}
 use Rattle.files.specs.Files.{counts_fit, counts_of, blocks_for, is_scene}
 use Rattle.logs.specs.declared.CellSet.{CellSet}
 use Rattle.logs.specs.declared.Event.{Event}
 use Rattle.logs.specs.declared.Event.TheVariants as event
 use Rattle.logs.specs.declared.Log.{Log}
-use Rattle.logs.specs.declared.Logged.{Logged}
-use Rattle.logs.specs.declared.Logged.TheVariants as logged
 
 -- ---- events: "30 events each of four words"; `word` is word i of the log's part, and event i has four from i × 4 on
 
@@ -104,8 +100,3 @@ events_of file = events_by file (log_of file)
 -- a log cut behind its first n events
 abbrev pub first_of : Log → ℕ → Log
 first_of l n = record { scene = l.scene; blocks = l.blocks; events = min n l.events }
-
--- what the program finds of a file
-abbrev pub log_asked : Logged → Ask Log
-log_asked (logged.Is l) = found l
-log_asked logged.Unfit = refused 8

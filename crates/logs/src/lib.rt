@@ -1,15 +1,16 @@
 // Which files are logs of a minute, a scene and the blocks of events behind it, and the events that they hold.
 #![tactic(auto)]
 
-ghost use Rattle.std.specs.Prelude.{◌≡◌, ◌+◌, ◌-◌, ◌*◌, ◌≤◌, length};
+ghost use Rattle.std.specs.Prelude.{◌≡◌, ◌+◌, ◌*◌, ◌≤◌, length};
 ghost use Rattle.base.specs.Choose.{choose};
 ghost use Rattle.base.specs.Every.{every};
 ghost use Rattle.base.specs.Ask.{refused, found};
+ghost use Rattle.base.specs.Refusals.{asked};
 ghost use Rattle.blocks.specs.Blocks.{part_word};
-ghost use Rattle.logs.specs.Logs.{is_tick, is_set, event_fits, set_of, event_at, end_from, end_fits, rest_of_log_zero, events_fit, first_blocks, scene_in, log_word, log_behind, log_from, log_of, log_fits, whole_log, is_log, first_of, log_asked};
+ghost use Rattle.logs.specs.Logs.{is_tick, is_set, event_fits, set_of, event_at, end_from, end_fits, rest_of_log_zero, events_fit, first_blocks, scene_in, log_word, log_behind, log_from, log_of, log_fits, whole_log, is_log, first_of};
 
+use base::Refusal;
 use blocks::{Part, log_part, part_fits, part_word};
-use files::Counted;
 
 // A cell that is set: how far it lies from the window's origin, and the state that it becomes.
 #[derive(Clone, Copy)]
@@ -34,13 +35,6 @@ pub struct Log {
     pub events: u16,
 }
 
-// The log in a file, or none where the file is no log.
-#[derive(Clone, Copy)]
-pub enum Logged {
-    Is(Log),
-    Unfit,
-}
-
 // Word k of event i.
 fn event_word(file: &[u8], p: Part, i: u16, k: u8) -> u32
     ensures { result ≡ part_word file.now p (i * 4 + k) }
@@ -54,112 +48,66 @@ fn number_at(file: &[u8], p: Part, i: u16) -> u32
     part_word(file, p, i as u32 * 4)
 }
 
+#[tactic(auto, using(base::proofs::Cases::cases), unfolding(crate::specs::Logs::is_tick))]
 fn is_tick(file: &[u8], p: Part, i: u16) -> bool
     ensures { result ≡ is_tick (part_word file.now p) i }
 {
-    if number_at(file, p, i) == 1 {
-        if event_word(file, p, i, 1) == 0 {
-            if event_word(file, p, i, 2) == 0 {
-                return event_word(file, p, i, 3) == 0;
-            }
-        }
-    }
-    false
+    number_at(file, p, i) == 1
+        && event_word(file, p, i, 1) == 0
+        && event_word(file, p, i, 2) == 0
+        && event_word(file, p, i, 3) == 0
 }
 
+#[tactic(auto, using(base::proofs::Cases::cases), unfolding(crate::specs::Logs::is_set))]
 fn is_set(file: &[u8], p: Part, i: u16) -> bool
     ensures { result ≡ is_set (part_word file.now p) i }
 {
-    if number_at(file, p, i) == 2 {
-        if event_word(file, p, i, 1) < 16777216 {
-            return event_word(file, p, i, 3) == 0;
-        }
-    }
-    false
+    number_at(file, p, i) == 2
+        && event_word(file, p, i, 1) < 16777216
+        && event_word(file, p, i, 3) == 0
 }
 
+#[tactic(auto, unfolding(crate::specs::Logs::event_fits))]
 fn event_fits(file: &[u8], p: Part, i: u16) -> bool
     ensures { result ≡ event_fits (part_word file.now p) i }
 {
-    if is_tick(file, p, i) {
-        return true;
-    }
-    is_set(file, p, i)
+    is_tick(file, p, i) || is_set(file, p, i)
 }
 
 // Each of the first so many events.
 fn all_fit(file: &[u8], p: Part, n: u16) -> bool
     ensures { result ≡ every n (event_fits (part_word file.now p)) }
 {
-    let mut i = 0u16;
-    while i < n {
-        if event_fits(file, p, i) {
-            i += 1;
-        } else {
-            return false;
-        }
-    }
-    true
+    (0..n).all(|i| event_fits(file, p, i))
 }
 
 // The first of so many events whose number is 0.
 fn end_in(file: &[u8], p: Part, n: u16) -> u16
     ensures { result ≡ end_from (part_word file.now p) n 0 }
 {
-    let mut i = 0u16;
-    while i < n {
-        if number_at(file, p, i) == 0 {
-            return i;
-        }
-        i += 1;
-    }
-    i
+    (0..n).find(|i| number_at(file, p, *i) == 0).unwrap_or(n)
 }
 
+#[tactic(auto, using(base::proofs::Cases::cases), unfolding(crate::specs::Logs::end_fits))]
 fn end_fits(blocks: u16, e: u16) -> bool
     ensures { result ≡ end_fits blocks e }
 {
     let all = blocks as u32 * 30;
-    if all <= e as u32 + 30 {
-        return (e as u32) < all;
-    }
-    false
-}
-
-// How many words of the log there are from the end on.
-fn words_left(blocks: u16, e: u16) -> u32
-    ensures { result ≡ blocks * 120 - e * 4 }
-{
-    let all = blocks as u32 * 120;
-    let at = e as u32 * 4;
-    if at < all { all - at } else { 0 }
+    let end = e as u32;
+    all <= end + 30 && end < all
 }
 
 fn rest_of_log_zero(file: &[u8], p: Part, blocks: u16, e: u16) -> bool
     ensures { result ≡ rest_of_log_zero (part_word file.now p) blocks e }
 {
-    let at = e as u32 * 4;
-    let n = words_left(blocks, e);
-    let mut k = 0u32;
-    while k < n {
-        if part_word(file, p, at + k) == 0 {
-            k += 1;
-        } else {
-            return false;
-        }
-    }
-    true
+    (e as u32 * 4..blocks as u32 * 120).all(|k| part_word(file, p, k) == 0)
 }
 
+#[tactic(auto, using(base::proofs::Cases::cases), unfolding(crate::specs::Logs::events_fit))]
 fn events_fit(file: &[u8], p: Part, blocks: u16, e: u16) -> bool
     ensures { result ≡ events_fit (part_word file.now p) blocks e }
 {
-    if end_fits(blocks, e) {
-        if all_fit(file, p, e) {
-            return rest_of_log_zero(file, p, blocks, e);
-        }
-    }
-    false
+    end_fits(blocks, e) && all_fit(file, p, e) && rest_of_log_zero(file, p, blocks, e)
 }
 
 // The log behind so many blocks of a scene.
@@ -167,73 +115,71 @@ fn log_behind(file: &[u8], scene: u32, blocks: u16) -> Log
     requires { blocks ≤ 128 }
     ensures { result ≡ log_behind file.now scene blocks }
 {
-    let events = end_in(file, log_part(scene, blocks), blocks * 30);
     Log {
         scene,
         blocks,
-        events,
+        events: end_in(file, log_part(scene, blocks), blocks * 30),
     }
 }
 
+#[tactic(auto, using(base::proofs::Cases::cases), unfolding(crate::specs::Logs::log_fits))]
 fn log_fits(file: &[u8], l: Log) -> bool
     ensures { result ≡ log_fits file.now l }
 {
     let p = log_part(l.scene, l.blocks);
-    if part_fits(file, p) {
-        return events_fit(file, p, l.blocks, l.events);
-    }
-    false
+    part_fits(file, p) && events_fit(file, p, l.blocks, l.events)
 }
 
+#[tactic(auto, using(base::proofs::Cases::cases, crate::proofs::Files::cuts), unfolding(crate::specs::Logs::first_blocks, base::specs::Choose::choose))]
 fn first_blocks(file: &[u8], count: usize) -> &[u8]
     ensures { result.now ≡ first_blocks file.now count }
 {
-    if count <= 128 {
-        let n = count * 512;
-        if n < file.len() {
-            return &file[0..n];
-        }
-        return &file[0..];
+    if count > 128 {
+        return &[];
     }
-    &file[0..0]
+    &file[..file.len().min(count * 512)]
 }
 
 // The scene at a file's start: as many blocks as its counts need.
+#[tactic(auto, using(base::proofs::Cases::cases), unfolding(crate::specs::Logs::scene_in, base::specs::Choose::choose))]
 pub fn scene_in(file: &[u8]) -> &[u8]
     ensures { result.now ≡ scene_in file.now }
 {
     match files::counts_within(file) {
-        Counted::Unfit => &file[0..0],
-        Counted::Are(n) => first_blocks(file, files::blocks_for(n)),
+        Err(_) => &[],
+        Ok(n) => first_blocks(file, files::blocks_for(n)),
     }
 }
 
 // What is left to ask of a file whose scene has so many blocks.
-fn log_in(file: &[u8], scene: usize) -> Logged
+#[tactic(auto, using(base::proofs::Cases::cases), unfolding(crate::specs::Logs::whole_log, base::specs::Choose::choose))]
+fn log_in(file: &[u8], scene: usize) -> Result<Log, Refusal>
     requires { scene * 512 ≤ length file.now }
-    ensures { log_asked result ≡ choose (whole_log file.now (log_from file.now scene)) (found (log_from file.now scene)) (refused 8) }
+    ensures { asked result ≡ choose (whole_log file.now (log_from file.now scene)) (found (log_from file.now scene)) (refused 8) }
 {
     let blocks = file.len() / 512;
-    if blocks <= 128 {
-        if file.len() % 512 == 0 {
-            let l = log_behind(file, scene as u32, (blocks - scene) as u16);
-            if log_fits(file, l) {
-                return Logged::Is(l);
-            }
-        }
+    if blocks > 128 || file.len() % 512 != 0 {
+        return Err(Refusal::Malformed);
     }
-    Logged::Unfit
+    let l = log_behind(file, scene as u32, (blocks - scene) as u16);
+    if log_fits(file, l) {
+        Ok(l)
+    } else {
+        Err(Refusal::Malformed)
+    }
 }
 
-// The log in a file; none where the file is no log, and refused by 8.
-pub fn log_of(file: &[u8]) -> Logged
-    ensures { log_asked result ≡ choose (is_log file.now) (found (log_of file.now)) (refused 8) }
+/// The log in a file. Where the file is no log the answer is `Malformed`.
+#[tactic(auto, using(base::proofs::Cases::cases, crate::proofs::Files::most), unfolding(crate::specs::Logs::is_log, base::specs::Choose::choose))]
+pub fn log_of(file: &[u8]) -> Result<Log, Refusal>
+    ensures { asked result ≡ choose (is_log file.now) (found (log_of file.now)) (refused 8) }
 {
     let scene = scene_in(file);
     if files::is_scene(scene) {
-        return log_in(file, scene.len() / 512);
+        log_in(file, scene.len() / 512)
+    } else {
+        Err(Refusal::Malformed)
     }
-    Logged::Unfit
 }
 
 fn set_of(position: u32, state: u32) -> CellSet
@@ -248,26 +194,24 @@ fn set_of(position: u32, state: u32) -> CellSet
 }
 
 // Event i of a log.
+#[tactic(auto, using(base::proofs::Cases::cases), unfolding(crate::specs::Logs::event_at, base::specs::Choose::choose))]
 pub fn event_at(file: &[u8], l: Log, i: u16) -> Event
     ensures { result ≡ event_at (log_word file.now l.scene l.blocks) i }
 {
     let p = log_part(l.scene, l.blocks);
     if number_at(file, p, i) == 1 {
-        return Event::Tick;
+        Event::Tick
+    } else {
+        Event::Set(set_of(event_word(file, p, i, 1), event_word(file, p, i, 2)))
     }
-    let position = event_word(file, p, i, 1);
-    let state = event_word(file, p, i, 2);
-    Event::Set(set_of(position, state))
 }
 
 // The log cut behind its first so many events.
 pub fn first_of(l: Log, events: u16) -> Log
     ensures { result ≡ first_of l events }
 {
-    let n = if events < l.events { events } else { l.events };
     Log {
-        scene: l.scene,
-        blocks: l.blocks,
-        events: n,
+        events: events.min(l.events),
+        ..l
     }
 }

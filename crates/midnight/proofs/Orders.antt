@@ -12,11 +12,11 @@ use lib.Ieee.{Float}
 use lib.Seq.{take_at, drop_at, drop-append-add}
 use borrow.Author.Tests.{ne_eqb}
 use Rattle.base.specs.Choose.{choose}
-use Rattle.base.specs.Loop.{listed, stored}
-use Rattle.table_check.specs.Check.{table_refusal}
+use Rattle.base.specs.Loop.{stored}
+use Rattle.table_check.specs.Check.{tables_fit, table_refusal}
 use Rattle.night_rows.specs.Rows.{Row, row_of, row_at, window_at, named_in}
 use Rattle.answer_rows.specs.Answers.{answer_width, answer_numbers, count_refusal}
-use Rattle.night_answers.specs.Answers.{NightLent, single_step, row_answer}
+use Rattle.night_answers.specs.Answers.{NightLent, single_step}
 use Rattle.base.proofs.Stored.{stored-first}
 use Rattle.base.proofs.Listed.{listed-length, listed_at, map-listed}
 use Rattle.midnight.specs.Run.{run_refusal, bodies_of, answer_row, rows_of, checked_written, run_written, answers_in}
@@ -125,6 +125,15 @@ module _ (older : Bool) (lent : NightLent) (numbers : List Float) (words : List 
     answers = map-listed (answer_row lent) (row_at older numbers words) (row_of answer_width after) bodies 0 (λ k l m. answer k (omega arith))
 
 -- ---- by what the program returns
+
+-- tables are refused by 1 alone
+pub tables_alone : (records : List ℕ) (shapes : List Float) → (table_refusal records shapes ≡ 0 → ⊥) → table_refusal records shapes ≡ 1
+unfolding choose
+tables_alone records shapes = go (tables_fit records shapes)
+  where
+    go : (t : Bool) → (choose {A = ℕ} t 0 1 ≡ 0 → ⊥) → choose {A = ℕ} t 0 1 ≡ 1
+    go true none = absurd (none refl)
+    go false none = refl
 
 module _ (older : Bool) (lent : NightLent) (numbers : List Float) (words : List ℕ) (bodies : ℕ) (out : List Float) where
   module _ (r : ℕ) (told : r ≡ count_refusal lent.count bodies (length out)) where

@@ -1,13 +1,13 @@
 -- The loop that stores a row at each turn: what it has stored by turn i, and the rows still to come, are the whole. Assumes nothing.
-use mathlib.Core.Path.{◌≡◌, refl, sym, ap, ◌∙◌}
-use mathlib.Core.List.{List, ◌∷◌, ◌++◌}
+use mathlib.Core.Path.{◌≡◌, ap, ◌∙◌}
+use mathlib.Core.List.{List, ◌++◌}
 use Prim.Native.Nat.{ℕ, suc, ◌+◌, ◌-◌, ◌*◌, ◌≤◌, ◌<◌}
 use native.Mathlib.Omega.{arith}
-use lib.ListN.{length, get_or}
+use lib.ListN.{get_or}
 use lib.Ieee.{Float}
 use Rattle.base.specs.Loop.{listed, stored}
 use Rattle.base.proofs.Fill.{stored-then}
-use Rattle.step_answers.specs.declared.FallingAnswer.{FallingAnswer}
+use Rattle.step_answers.specs.Records.{FallingAnswer}
 use Rattle.night_rows.specs.Rows.{Row, named_in}
 use Rattle.answer_rows.specs.Answers.{answer_width, answer_numbers}
 use Rattle.night_windows.specs.Windows.{refusal_within}

@@ -6,100 +6,56 @@
 
 ghost use Rattle.std.specs.Prelude.{◌≡◌, ◌≤◌, length};
 ghost use Rattle.base.specs.Loop.{stored};
+ghost use Rattle.base.specs.Refusals.{verdict};
 ghost use Rattle.answer_rows.specs.Answers.{count_refusal};
 ghost use Rattle.night_answers.specs.Answers.{lent_with};
 ghost use Rattle.midnight.specs.Run.{run_refusal, bodies_of, rows_of, checked_written, run_written};
 
-use answer_rows::{count_refusal, put_row};
-use night_rows::{numbers_at, words_at};
+use answer_rows::{check_counts, put_row};
+use base::Refusal;
+use night_answers::row_answer;
+use night_rows::{Bodies, Windows};
+use tables::Tables;
 
 // The answers of so many bodies, each in its row.
-fn answer_all(
-    older: bool,
-    records: &[u32],
-    shapes: &[f32],
-    windows: &[u32],
-    count: u32,
-    cells: &[u32],
-    numbers: &[f64],
-    words: &[u32],
-    bodies: u32,
-    out: &mut [f64],
-)
-    requires { count ≤ 16 }
-    ensures { out.new ≡ stored out.old 0 (rows_of (lent_with records.now shapes.now windows.now count cells.now) (bodies_of older numbers.now words.now bodies)) }
+fn answer_all(tables: Tables<'_>, windows: Windows<'_>, bodies: Bodies<'_>, out: &mut [f64])
+    requires { windows.count ≤ 16 }
+    ensures { out.new ≡ stored out.old 0 (rows_of (lent_with tables.entry.records.now tables.entry.shapes.now windows.entry.rows.now windows.entry.count windows.entry.cells.now) (bodies_of bodies.entry.older bodies.entry.numbers.now bodies.entry.words.now bodies.entry.count)) }
 {
-    let checked = night_windows::check_all(records, windows, count, cells);
-    let mut i = 0u32;
-    while i < bodies {
-        let own_numbers = numbers_at(numbers, i);
-        let own_words = words_at(older, words, i);
-        let a = night_answers::row_answer(
-            older,
-            records,
-            shapes,
-            windows,
-            count,
-            cells,
-            &checked,
-            own_numbers,
-            own_words,
-        );
-        put_row(out, i, a);
-        i += 1;
+    let checked = night_windows::check_all(tables, windows);
+    for i in 0..bodies.count {
+        let row = bodies.row(i);
+        let answer = row_answer(tables, windows, &checked, row);
+        put_row(out, i, row.given(), row.fall(), answer);
     }
 }
 
-// The call over tables that passed their check before, once for several calls; `older` where the rows are an older caller's, who names no cap. It
-// returns 0; or 14 or 11, and writes nothing.
+/// The call over tables that passed their check before, once for several calls. Refused with `TooMany` or `Room`, and nothing is written.
 pub fn run_checked(
-    older: bool,
-    records: &[u32],
-    shapes: &[f32],
-    windows: &[u32],
-    count: u32,
-    cells: &[u32],
-    numbers: &[f64],
-    words: &[u32],
-    bodies: u32,
+    tables: Tables<'_>,
+    windows: Windows<'_>,
+    bodies: Bodies<'_>,
     out: &mut [f64],
-) -> u32
-    ensures value { result ≡ count_refusal count bodies (length out.old) }
-    ensures out_after { out.new ≡ checked_written (lent_with records.now shapes.now windows.now count cells.now) (bodies_of older numbers.now words.now bodies) out.old }
+) -> Result<(), Refusal>
+    ensures value { verdict result ≡ count_refusal windows.entry.count bodies.entry.count (length out.old) }
+    ensures out_after { out.new ≡ checked_written (lent_with tables.entry.records.now tables.entry.shapes.now windows.entry.rows.now windows.entry.count windows.entry.cells.now) (bodies_of bodies.entry.older bodies.entry.numbers.now bodies.entry.words.now bodies.entry.count) out.old }
 {
-    let refusal = count_refusal(count, bodies, out.len());
-    if refusal != 0 {
-        return refusal;
-    }
-    answer_all(
-        older, records, shapes, windows, count, cells, numbers, words, bodies, out,
-    );
-    0
+    check_counts(windows.count, bodies.count, out.len())?;
+    answer_all(tables, windows, bodies, out);
+    Ok(())
 }
 
-// For hosts, the call whole. Tables as ever; `windows` has ten words for each of `count` windows, over the words `cells` of all of them; `numbers`
-// has 21 numbers and `words` ten words for each of so many bodies; 13 numbers are written for each body (crates/night_rows/specs/Rows.antt has what
-// stands where). Rows that are `older` are of callers who rely on 6 at the 129th box: nine words, without the cap, which is 128. It returns 0; or 1,
-// 14 or 11, and writes nothing.
+/// For hosts, the call whole: one tick of each body. 13 numbers are written for each (crates/night_rows/specs/Rows.antt has what stands where in a
+/// body's row, and crates/answer_rows/specs/Answers.antt in an answer's). Refused with `Tables`, `TooMany` or `Room`, and nothing is written.
 pub fn run(
-    older: bool,
-    records: &[u32],
-    shapes: &[f32],
-    windows: &[u32],
-    count: u32,
-    cells: &[u32],
-    numbers: &[f64],
-    words: &[u32],
-    bodies: u32,
+    tables: Tables<'_>,
+    windows: Windows<'_>,
+    bodies: Bodies<'_>,
     out: &mut [f64],
-) -> u32
-    ensures value { result ≡ run_refusal (lent_with records.now shapes.now windows.now count cells.now) bodies (length out.old) }
-    ensures out_after { out.new ≡ run_written (lent_with records.now shapes.now windows.now count cells.now) (bodies_of older numbers.now words.now bodies) out.old }
+) -> Result<(), Refusal>
+    ensures value { verdict result ≡ run_refusal (lent_with tables.entry.records.now tables.entry.shapes.now windows.entry.rows.now windows.entry.count windows.entry.cells.now) bodies.entry.count (length out.old) }
+    ensures out_after { out.new ≡ run_written (lent_with tables.entry.records.now tables.entry.shapes.now windows.entry.rows.now windows.entry.count windows.entry.cells.now) (bodies_of bodies.entry.older bodies.entry.numbers.now bodies.entry.words.now bodies.entry.count) out.old }
 {
-    if table_check::check_tables(records, shapes) != 0 {
-        return 1;
-    }
-    run_checked(
-        older, records, shapes, windows, count, cells, numbers, words, bodies, out,
-    )
+    table_check::check_tables(tables)?;
+    run_checked(tables, windows, bodies, out)
 }

@@ -1,71 +1,37 @@
 // The rows that the runs hand over: bodies by their number, each a change of case A.
 
-// Number k of case A, with a fresh fall record.
-fn case_number(k: usize) -> f64 {
-    match k {
-        0 => 0.5,
-        1 => 1.25,
-        2 => 0.5,
-        3 => 0.25,
-        6 => 1.0,
-        7 => 1.0,
-        9 => 0.5,
-        10 => 0.5,
-        11 => 0.5,
-        14 => 0.6,
-        17 => 0.8,
-        18 => 0.5,
-        _ => 0.0,
-    }
+// Case A, with a fresh fall record.
+const CASE: [f64; 21] = [
+    0.5, 1.25, 0.5, 0.25, 0.0, 0.0, 1.0, 1.0, 0.0, 0.5, 0.5, 0.5, 0.0, 0.0, 0.6, 0.0, 0.0, 0.8,
+    0.5, 0.0, 0.0,
+];
+
+// Case A with its feet here, and of this width and height.
+fn sized(x: f64, y: f64, z: f64, size: f64) -> [f64; 21] {
+    let mut row = CASE;
+    row[0] = x;
+    row[1] = y;
+    row[2] = z;
+    row[6] = size;
+    row[7] = size;
+    row
 }
 
-// Among small boxes: feet, width and height.
-fn crowded_number(k: usize) -> f64 {
-    match k {
-        0 => 2.0,
-        1 => 1.5,
-        2 => 2.0,
-        6 => 2.0,
-        7 => 2.0,
-        _ => case_number(k),
-    }
-}
-
-// In water.
-fn wet_number(k: usize) -> f64 {
-    match k {
-        0 => 1.5,
-        1 => 1.25,
-        2 => 1.5,
-        6 => 0.25,
-        7 => 0.25,
-        _ => case_number(k),
-    }
-}
-
-fn with(k: usize, place: usize, value: f64) -> f64 {
-    if k == place {
-        return value;
-    }
-    case_number(k)
-}
-
-fn number_of(body: usize, k: usize) -> f64 {
+fn numbers_of(body: usize) -> [f64; 21] {
+    let mut row = CASE;
     match body {
-        2 => with(k, 4, 65.0),
-        3 => with(k, 4, 65.0),
-        5 => with(k, 4, 65.0),
-        6 => with(k, 19, -1.0),
-        7 => with(k, 4, 65.0),
-        8 => with(k, 0, 5.5),
-        9 => crowded_number(k),
-        10 => wet_number(k),
-        _ => case_number(k),
+        2 | 3 | 5 | 7 => row[4] = 65.0,
+        6 => row[19] = -1.0,
+        8 => row[0] = 5.5,
+        9 => return sized(2.0, 1.5, 2.0, 2.0), // among small boxes
+        10 => return sized(1.5, 1.25, 1.5, 0.25), // in water
+        _ => {}
     }
+    row
 }
 
 // The window that a body names.
-fn named_by(body: usize) -> u32 {
+fn window_of(body: usize) -> u32 {
     match body {
         1 => 1,
         2 => 6,
@@ -86,52 +52,23 @@ fn model_of(body: usize) -> u32 {
     }
 }
 
-fn word_of(body: usize, k: usize) -> u32 {
-    match k {
-        0 => named_by(body),
-        4 => model_of(body),
-        _ => 0,
-    }
-}
-
 // The body in a row: as it comes, or the last of 13 first.
 fn body_in(row: usize, back: bool) -> usize {
-    if back {
-        if row <= 12 {
-            return 12 - row;
-        }
-    }
-    row
+    if back && row <= 12 { 12 - row } else { row }
 }
 
-pub(crate) fn fill_numbers(numbers: &mut [f64], back: bool) {
-    let mut i = 0;
-    while i < numbers.len() {
-        numbers[i] = number_of(body_in(i / 21, back), i % 21);
-        i += 1;
-    }
+pub(crate) fn numbers(row: usize, back: bool) -> [f64; 21] {
+    numbers_of(body_in(row, back))
 }
 
-pub(crate) fn fill_words(words: &mut [u32], back: bool) {
-    let mut i = 0;
-    while i < words.len() {
-        words[i] = word_of(body_in(i / 9, back), i % 9);
-        i += 1;
-    }
+// An older caller's nine words.
+pub(crate) fn words(row: usize, back: bool) -> [u32; 9] {
+    let body = body_in(row, back);
+    [window_of(body), 0, 0, 0, model_of(body), 0, 0, 0, 0]
 }
 
-// The word of a row that has a cap behind the nine: 128.
-fn capped_word(body: usize, k: usize) -> u32 {
-    if k == 9 {
-        return 128;
-    }
-    word_of(body, k)
-}
-
-pub(crate) fn fill_capped(words: &mut [u32], back: bool) {
-    let mut i = 0;
-    while i < words.len() {
-        words[i] = capped_word(body_in(i / 10, back), i % 10);
-        i += 1;
-    }
+// The same with a cap behind them: 128.
+pub(crate) fn capped_words(row: usize, back: bool) -> [u32; 10] {
+    let body = body_in(row, back);
+    [window_of(body), 0, 0, 0, model_of(body), 0, 0, 0, 0, 128]
 }

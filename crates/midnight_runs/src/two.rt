@@ -1,239 +1,158 @@
 // The midnight call for two parties, run. Each half is held to the bits that the midnight call alone writes into such a half, over that party's windows
 // and bodies. The first party has all windows and the bodies in their order; the second the windows from the second on, and the bodies in reverse, so
 // that a number names another window there.
-use crate::rows::{fill_capped, fill_numbers};
-use crate::{
-    CELLS, RECORDS, SHAPES, WINDOWS, alike, all_seven, count, part, refusal_of, say, words_part,
-};
-use parties::Refusals;
-use std::io;
+use crate::{SHAPES, WINDOWS, alike, is_kept, lent, records, refusal_of, rows};
+use base::Refusal;
+use night_rows::{Bodies, Windows};
+use parties::{Party, Told};
+use std::{array, io};
+use tables::Tables;
+
+// How many windows and bodies a party names.
+type Counts = (u32, u32);
+
+fn windows(second: bool, count: u32) -> Windows<'static> {
+    if second {
+        lent(&WINDOWS[1..], count)
+    } else {
+        lent(&WINDOWS, count)
+    }
+}
+
+fn numbers(second: bool) -> [[f64; 21]; 13] {
+    array::from_fn(|row| rows::numbers(row, second))
+}
+
+fn words(second: bool) -> [[u32; 10]; 13] {
+    array::from_fn(|row| rows::capped_words(row, second))
+}
 
 // The call. Word 19 of the cube is `faces`: 15 are right.
-fn call(
-    faces: u32,
-    count1: u32,
-    bodies1: u32,
-    count2: u32,
-    bodies2: u32,
-    out: &mut [f64],
-) -> Refusals {
-    let mut records = RECORDS;
-    records[39] = faces;
-    let shapes = SHAPES;
-    let windows = WINDOWS;
-    let cells = CELLS;
-    let mut numbers1 = [0.0; 273];
-    let mut words1 = [0; 130];
-    fill_numbers(&mut numbers1, false);
-    fill_capped(&mut words1, false);
-    let mut numbers2 = [0.0; 273];
-    let mut words2 = [0; 130];
-    fill_numbers(&mut numbers2, true);
-    fill_capped(&mut words2, true);
-    parties::run(
-        &records,
-        &shapes,
-        &windows,
-        count1,
-        &cells,
-        &numbers1,
-        &words1,
-        bodies1,
-        words_part(&windows, 10, 50),
-        count2,
-        &cells,
-        &numbers2,
-        &words2,
-        bodies2,
-        out,
-    )
+fn call(faces: u32, one: Counts, two: Counts, out: &mut [f64]) -> Told {
+    let records = records(faces);
+    let tables = Tables {
+        records: &records,
+        shapes: &SHAPES,
+    };
+    let (numbers1, words1) = (numbers(false), words(false));
+    let first = Party {
+        windows: windows(false, one.0),
+        numbers: numbers1.as_flattened(),
+        words: words1.as_flattened(),
+        bodies: one.1,
+    };
+    let (numbers2, words2) = (numbers(true), words(true));
+    let second = Party {
+        windows: windows(true, two.0),
+        numbers: numbers2.as_flattened(),
+        words: words2.as_flattened(),
+        bodies: two.1,
+    };
+    parties::run(tables, first, second, out)
 }
 
 // The midnight call alone of one of the two.
-fn alone(second: bool, windows_count: u32, bodies_count: u32, half: &mut [f64]) -> u32 {
-    let records = RECORDS;
-    let shapes = SHAPES;
-    let windows = WINDOWS;
-    let cells = CELLS;
-    let mut numbers = [0.0; 273];
-    let mut words = [0; 130];
-    fill_numbers(&mut numbers, second);
-    fill_capped(&mut words, second);
-    let own = if second {
-        words_part(&windows, 10, 50)
-    } else {
-        words_part(&windows, 0, 60)
+fn alone(second: bool, counts: Counts, half: &mut [f64]) -> Result<(), Refusal> {
+    let records = records(15);
+    let tables = Tables {
+        records: &records,
+        shapes: &SHAPES,
     };
-    midnight::run(
-        false,
-        &records,
-        &shapes,
-        own,
-        windows_count,
-        &cells,
-        &numbers,
-        &words,
-        bodies_count,
-        half,
-    )
+    let (numbers, words) = (numbers(second), words(second));
+    let bodies = Bodies {
+        older: false,
+        numbers: numbers.as_flattened(),
+        words: words.as_flattened(),
+        count: counts.1,
+    };
+    midnight::run(tables, windows(second, counts.0), bodies, half)
 }
 
-// The same in the first `h` places of a longer buffer.
-fn held(second: bool, windows_count: u32, bodies_count: u32, room: &mut [f64], h: usize) {
-    if h <= room.len() {
-        alone(second, windows_count, bodies_count, &mut room[0..h]);
-    }
-}
-
-fn tell_half(
-    rt: &impl Print,
-    half: &[f64],
-    second: bool,
-    windows_count: u32,
-    bodies_count: u32,
-) -> io::Result<()> {
+// What a half holds after the call.
+fn held(half: &[f64], second: bool, counts: Counts) -> &'static str {
     let mut room = [7.0; 26624];
-    held(second, windows_count, bodies_count, &mut room, half.len());
-    if all_seven(half) {
-        return say(rt, ", kept");
+    if is_kept(half) {
+        return "kept";
     }
-    if alike(half, part(&room, 0, half.len())) {
-        return say(rt, ", as alone");
+    if let Some(room) = room.get_mut(..half.len()) {
+        let _ = alone(second, counts, room);
+        if alike(half, room) {
+            return "as alone";
+        }
     }
-    say(rt, ", altered")
+    "altered"
 }
 
-// What is told, what each half then holds, and the place beyond them.
-fn tell(
-    rt: &impl Print,
-    out: &[f64],
-    told: Refusals,
-    count1: u32,
-    bodies1: u32,
-    count2: u32,
-    bodies2: u32,
-) -> io::Result<()> {
-    let h = out.len() / 2;
-    say(rt, ": ")?;
-    count(rt, told.first)?;
-    tell_half(rt, part(out, 0, h), false, count1, bodies1)?;
-    say(rt, "; ")?;
-    count(rt, told.second)?;
-    tell_half(rt, part(out, h, h), true, count2, bodies2)?;
-    if all_seven(part(out, h + h, out.len() % 2)) {
-        say(rt, "; beyond, kept\n")
-    } else {
-        say(rt, "; beyond, written\n")
-    }
-}
+// What is called; word 19 of the cube; the counts of the one and of the other; and how many places the buffer has.
+const CALLS: [(&str, u32, Counts, Counts, usize); 17] = [
+    ("13 bodies each, 345 places", 15, (6, 13), (5, 13), 345),
+    ("13 bodies each, 339 places", 15, (6, 13), (5, 13), 339),
+    ("13 bodies each, 338 places", 15, (6, 13), (5, 13), 338),
+    ("13 bodies each, 337 places", 15, (6, 13), (5, 13), 337),
+    ("12 bodies and 13, 337 places", 15, (6, 12), (5, 13), 337),
+    ("13 bodies and 12, 337 places", 15, (6, 13), (5, 12), 337),
+    (
+        "2,048 bodies each over 16 windows",
+        15,
+        (16, 2048),
+        (16, 2048),
+        53249,
+    ),
+    ("2,049 bodies and 13", 15, (6, 2049), (5, 13), 53249),
+    ("13 bodies and 2,049", 15, (6, 13), (5, 2049), 53249),
+    ("17 windows and five", 15, (17, 13), (5, 13), 345),
+    ("six windows and 17", 15, (6, 13), (17, 13), 345),
+    (
+        "2,049 bodies and no room for 13",
+        15,
+        (6, 2049),
+        (5, 13),
+        337,
+    ),
+    ("13 bodies and nothing", 15, (6, 13), (0, 0), 345),
+    ("nothing and 13 bodies", 15, (0, 0), (5, 13), 345),
+    ("nothing at all", 15, (0, 0), (0, 0), 0),
+    ("a wrong word in the tables", 14, (6, 13), (5, 13), 345),
+    (
+        "a wrong word, 2,049 bodies, 17 windows, and one place",
+        14,
+        (6, 2049),
+        (17, 13),
+        1,
+    ),
+];
 
-fn called(
-    rt: &impl Print,
-    out: &mut [f64],
-    faces: u32,
-    count1: u32,
-    bodies1: u32,
-    count2: u32,
-    bodies2: u32,
-) -> io::Result<()> {
-    let told = call(faces, count1, bodies1, count2, bodies2, out);
-    tell(rt, out, told, count1, bodies1, count2, bodies2)
-}
-
-fn both(
-    rt: &impl Print,
-    what: &str,
-    faces: u32,
-    count1: u32,
-    bodies1: u32,
-    count2: u32,
-    bodies2: u32,
-    places: usize,
-) -> io::Result<()> {
-    let mut out = [7.0; 53249];
-    say(rt, what)?;
-    if places <= 53249 {
-        called(
-            rt,
-            &mut out[0..places],
-            faces,
-            count1,
-            bodies1,
-            count2,
-            bodies2,
-        )?;
-    }
-    Ok(())
-}
-
-fn tell_name(rt: &impl Print, words: &[u32], row: &[f64]) -> io::Result<()> {
-    say(rt, "a body of the second that names ")?;
-    count(rt, tables::word(words, 0, 0))?;
-    say(rt, ": refusal ")?;
-    count(rt, refusal_of(bodies::number_at(row, 0)))?;
-    say(rt, "\n")
-}
-
-fn tell_names(rt: &impl Print, words: &[u32], half: &[f64]) -> io::Result<()> {
-    for k in 0..13usize {
-        tell_name(rt, words_part(words, k * 10, 10), part(half, k * 13, 13))?;
-    }
-    Ok(())
+// What each is told, what each half then holds, and the place beyond them.
+fn tell(rt: &impl Print, out: &[f64], told: Told, one: Counts, two: Counts) -> io::Result<()> {
+    let (first, second) = (runs::told(&told.first), runs::told(&told.second));
+    let (half, behind) = out.split_at(out.len() / 2);
+    let (other, beyond) = behind.split_at(out.len() / 2);
+    let half = held(half, false, one);
+    let other = held(other, true, two);
+    let beyond = if is_kept(beyond) { "kept" } else { "written" };
+    println!(rt; "{first}, {half}; {second}, {other}; beyond, {beyond}")
 }
 
 // The second party has one window, and the first all six: what a body of the second is told that names another.
 fn names(rt: &impl Print) -> io::Result<()> {
-    let mut words = [0; 130];
-    fill_capped(&mut words, true);
     let mut out = [7.0; 339];
-    call(15, 6, 13, 1, 13, &mut out);
-    tell_names(rt, &words, part(&out, 169, 169))
+    call(15, (6, 13), (1, 13), &mut out);
+    let (told, _) = out[169..].as_chunks::<13>();
+    for (row, [name, ..]) in told.iter().zip(words(true)) {
+        let refusal = refusal_of(row);
+        println!(rt; "a body of the second that names {name}: refusal {refusal}")?;
+    }
+    Ok(())
 }
 
 pub(crate) fn run(rt: &impl Print) -> io::Result<()> {
-    both(rt, "13 bodies each, 345 places", 15, 6, 13, 5, 13, 345)?;
-    both(rt, "13 bodies each, 339 places", 15, 6, 13, 5, 13, 339)?;
-    both(rt, "13 bodies each, 338 places", 15, 6, 13, 5, 13, 338)?;
-    both(rt, "13 bodies each, 337 places", 15, 6, 13, 5, 13, 337)?;
-    both(rt, "12 bodies and 13, 337 places", 15, 6, 12, 5, 13, 337)?;
-    both(rt, "13 bodies and 12, 337 places", 15, 6, 13, 5, 12, 337)?;
-    both(
-        rt,
-        "2,048 bodies each over 16 windows",
-        15,
-        16,
-        2048,
-        16,
-        2048,
-        53249,
-    )?;
-    both(rt, "2,049 bodies and 13", 15, 6, 2049, 5, 13, 53249)?;
-    both(rt, "13 bodies and 2,049", 15, 6, 13, 5, 2049, 53249)?;
-    both(rt, "17 windows and five", 15, 17, 13, 5, 13, 345)?;
-    both(rt, "six windows and 17", 15, 6, 13, 17, 13, 345)?;
-    both(
-        rt,
-        "2,049 bodies and no room for 13",
-        15,
-        6,
-        2049,
-        5,
-        13,
-        337,
-    )?;
-    both(rt, "13 bodies and nothing", 15, 6, 13, 0, 0, 345)?;
-    both(rt, "nothing and 13 bodies", 15, 0, 0, 5, 13, 345)?;
-    both(rt, "nothing at all", 15, 0, 0, 0, 0, 0)?;
-    both(rt, "a wrong word in the tables", 14, 6, 13, 5, 13, 345)?;
-    both(
-        rt,
-        "a wrong word, 2,049 bodies, 17 windows, and one place",
-        14,
-        6,
-        2049,
-        17,
-        13,
-        1,
-    )?;
+    for (what, faces, one, two, places) in CALLS {
+        let mut out = [7.0; 53249];
+        if let Some(out) = out.get_mut(..places) {
+            let told = call(faces, one, two, out);
+            print!(rt; "{what}: ")?;
+            tell(rt, out, told, one, two)?;
+        }
+    }
     names(rt)
 }

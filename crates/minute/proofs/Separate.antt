@@ -19,7 +19,7 @@ use Rattle.groups.specs.Groups.{group_count}
 use Rattle.groups.specs.Summary.{has_summary, build_refusal, built, is_inside, set_refusal, after_set, PlacedSet, after_sets, agrees}
 use Rattle.groups.proofs.Sets.{Kept, built-there, built-fresh, many-sets}
 use Rattle.summary.specs.Calls.{plain_words}
-use Rattle.step_answers.specs.declared.FallingAnswer.{FallingAnswer}
+use Rattle.step_answers.specs.Records.{FallingAnswer}
 use Rattle.falls.specs.Answers.{falling_entry}
 use Rattle.logs.specs.declared.CellSet.{CellSet as LogSet}
 use Rattle.logs.specs.declared.Event.{Event}

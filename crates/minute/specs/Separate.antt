@@ -8,7 +8,7 @@ use Rattle.window.specs.Window.{index_of}
 use Rattle.groups.specs.Summary.{is_inside, agrees}
 use Rattle.summary.specs.Calls.{plain_words}
 use Rattle.fall_rule.specs.declared.Fall.{Fall}
-use Rattle.step_answers.specs.declared.FallingAnswer.{FallingAnswer}
+use Rattle.step_answers.specs.Records.{FallingAnswer}
 use Rattle.falls.specs.Answers.{falling_entry}
 use Rattle.logs.specs.declared.CellSet.{CellSet}
 use Rattle.logs.specs.declared.Event.{Event}

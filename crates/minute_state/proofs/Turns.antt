@@ -7,12 +7,11 @@ use Rattle.base.proofs.Fill.{stored-then}
 use Rattle.base.proofs.Stored.{stored-length}
 use Rattle.boxes.specs.declared.Vec3.{Vec3}
 use Rattle.groups.specs.Summary.{has_summary, is_inside, set_in, after_set}
-use Rattle.step_answers.specs.declared.FallingAnswer.{FallingAnswer}
+use Rattle.step_answers.specs.Records.{FallingAnswer}
 use Rattle.logs.specs.declared.Event.{Event}
 use Rattle.logs.specs.declared.Event.TheVariants as event
-use Rattle.minute_state.specs.declared.Minute.{Minute}
 use Rattle.minute_state.specs.Minute.{MinuteLent, minute_window, State, ended, after_step, ticked, set_place, event_on, after, lines_as_numbers}
-use Rattle.minute_state.specs.Turns.{minute_of, state_of, ended_with, step_by, later, stepped_minute, ticked_by, feet_numbers, feet_by, turned_by, words_by, feet_after}
+use Rattle.minute_state.specs.Turns.{Minute, minute_of, state_of, ended_with, step_by, later, stepped_minute, ticked_by, feet_numbers, feet_by, turned_by, words_by, feet_after}
 
 -- ---- the lines as numbers
 

@@ -14,12 +14,13 @@ use Rattle.groups.specs.Groups.{cell_at}
 use Rattle.groups.specs.Summary.{build_refusal, built, set_refusal, after_set}
 use Rattle.summary.specs.Calls.{plain_words}
 use Rattle.fall_rule.specs.declared.Fall.{Fall}
-use Rattle.step_answers.specs.declared.FallingAnswer.{FallingAnswer}
+use Rattle.step_answers.specs.Records.{FallingAnswer}
 use Rattle.fall_rule.specs.Rule.{fresh}
 use Rattle.falls.specs.Answers.{falling_checked}
 use Rattle.logs.specs.declared.CellSet.{CellSet}
 use Rattle.logs.specs.declared.Event.{Event}
 use Rattle.logs.specs.declared.Event.TheVariants as event
+use Rattle.minute_state.specs.declared.Lent.{Lent}
 
 -- ---- what a minute keeps as it is, and what an event finds and leaves
 
@@ -32,6 +33,10 @@ pub record MinuteLent : Type 0 where
 
 abbrev pub lent_by : List ℕ → List Float → Window → Rules → BodyNumbers → MinuteLent
 lent_by records shapes w rules body = record { records = records; shapes = shapes; window = w; rules = rules; body = body }
+
+-- what the program holds of it
+abbrev pub lent_seen : Lent → MinuteLent
+lent_seen l = lent_by l.tables.records.now l.tables.shapes.now l.window l.rules l.body
 
 -- the window's air is that of the rules, as in every step
 abbrev pub minute_window : MinuteLent → Window

@@ -3,14 +3,29 @@
 use Rattle.std.specs.Prelude.{ℕ, ◌+◌, ◌*◌, ◌%◌, List, [], ◌∷◌, length, ◌==◌, Float}
 use Rattle.base.specs.Choose.{choose}
 use Rattle.base.specs.Loop.{stored}
+use Rattle.base.specs.Refusals.{verdict}
 use Rattle.boxes.specs.declared.Vec3.{Vec3}
-use Rattle.step_answers.specs.declared.FallingAnswer.{FallingAnswer}
+use Rattle.bodies.specs.declared.MotionNumbers.{MotionNumbers}
+use Rattle.fall_rule.specs.declared.Fall.{Fall}
+use Rattle.step_answers.specs.Records.{FallingAnswer}
 use Rattle.falls.specs.Answers.{falling_checked}
 use Rattle.groups.specs.Summary.{set_refusal, after_set}
 use Rattle.logs.specs.declared.Event.{Event}
 use Rattle.logs.specs.declared.Event.TheVariants as event
-use Rattle.minute_state.specs.declared.Minute.{Minute}
+use Rattle.minute_state.specs.declared.Minute.{Minute as Kept}
 use Rattle.minute_state.specs.Minute.{MinuteLent, minute_window, State, older, set_place}
+
+-- what a host is handed of the state after a log: how many ticks were done, and the refusal that ended it, or 0
+pub record Minute : Type 0 where
+  pub motion : MotionNumbers
+  pub age : ℕ
+  pub fall : Fall
+  pub ticks : ℕ
+  pub refusal : ℕ
+
+-- what the program holds of it
+abbrev pub minute_seen : Kept → Minute
+minute_seen m = record { motion = m.motion; age = m.age; fall = m.fall; ticks = m.ticks; refusal = verdict m.ended }
 
 -- what a state leaves in the program's hands
 abbrev pub minute_of : State → Minute

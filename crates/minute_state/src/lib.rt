@@ -3,59 +3,48 @@
 
 ghost use Rattle.std.specs.Prelude.{◌≡◌, ◌*◌, []};
 ghost use Rattle.base.specs.Loop.{stored};
-ghost use Rattle.minute_state.specs.Minute.{older, start};
-ghost use Rattle.minute_state.specs.Turns.{minute_of, ended_with, later, ticked_by, feet_numbers, feet_by};
+ghost use Rattle.base.specs.Refusals.{asked, verdict};
+ghost use Rattle.step_answers.specs.Answers.{falling_answer};
+ghost use Rattle.minute_state.specs.Minute.{start};
+ghost use Rattle.minute_state.specs.Turns.{minute_of, minute_seen, ended_with, ticked_by, feet_numbers, feet_by};
 
-use bodies::MotionNumbers;
+use base::Refusal;
+use bodies::{BodyNumbers, MotionNumbers, Rules};
 use boxes::Vec3;
 use fall_rule::Fall;
-use step_answers::FallingAnswer;
+use step_answers::{FallingTick, handed};
+use tables::Tables;
+use window::Window;
 
-// What a host is handed of the state after a log: how many ticks were done, and the refusal that ended it, or 0. Its cells and its summary stand in
-// the lent words.
+/// What a minute keeps as it is.
+#[derive(Clone, Copy)]
+pub struct Lent<'a> {
+    pub tables: Tables<'a>,
+    pub window: Window,
+    pub rules: Rules,
+    pub body: BodyNumbers,
+}
+
+/// What a host is handed of the state after a log: how many ticks were done, and whether a refusal ended it. Its cells and its summary stand in the lent
+/// words.
 #[derive(Clone, Copy)]
 pub struct Minute {
     pub motion: MotionNumbers,
     pub age: u64,
     pub fall: Fall,
     pub ticks: u32,
-    pub refusal: u32,
+    pub ended: Result<(), Refusal>,
 }
 
-fn minute_of(motion: MotionNumbers, age: u64, fall: Fall, ticks: u32, refusal: u32) -> Minute
-    ensures { result ≡ record { motion = motion; age = age; fall = fall; ticks = ticks; refusal = refusal } }
+/// The same, ended by a refusal, or going on.
+pub fn ended_with(m: Minute, ended: Result<(), Refusal>) -> Minute
+    ensures { minute_seen result ≡ ended_with (minute_seen m) (verdict ended) }
 {
-    Minute {
-        motion,
-        age,
-        fall,
-        ticks,
-        refusal,
-    }
-}
-
-// The same, ended by this refusal, or with 0 going on.
-pub fn ended_with(m: Minute, refusal: u32) -> Minute
-    ensures { result ≡ ended_with m refusal }
-{
-    let motion = m.motion;
-    let fall = m.fall;
-    minute_of(motion, m.age, fall, m.ticks, refusal)
-}
-
-fn older_than(age: u64) -> u64
-    ensures { result ≡ older age }
-{
-    std::num::wrapping_add_u64(age, 1)
-}
-
-fn later_than(ticks: u32) -> u32
-    ensures { result ≡ later ticks }
-{
-    std::num::wrapping_add_u32(ticks, 1)
+    Minute { ended, ..m }
 }
 
 // The feet of tick number n.
+#[tactic(auto, unfolding(base::specs::Loop::stored))]
 fn put_feet(feet: &mut [f64], n: u32, v: Vec3)
     ensures { feet.new ≡ stored feet.old (n * 3) (feet_numbers v) }
 {
@@ -65,28 +54,39 @@ fn put_feet(feet: &mut [f64], n: u32, v: Vec3)
     lent_numbers::put(feet, at + 1 + 1, v.z);
 }
 
-// What one tick's step leaves: a refusal ends the minute, and else the feet are written and the age rises.
-pub fn ticked(m: Minute, a: FallingAnswer, feet: &mut [f64]) -> Minute
-    ensures value { result ≡ ticked_by m a }
-    ensures feet_after { feet.new ≡ feet_by feet.old m a }
+/// What one tick's step leaves: a refusal ends the minute, and else the feet are written and the age rises.
+#[tactic(auto, using(base::proofs::Cases::cases), unfolding(crate::specs::Turns::ticked_by, crate::specs::Turns::feet_by, base::specs::Choose::choose))]
+pub fn ticked(m: Minute, answer: Result<FallingTick, Refusal>, feet: &mut [f64]) -> Minute
+    ensures value { minute_seen result ≡ ticked_by (minute_seen m) (falling_answer m.motion m.fall (asked answer)) }
+    ensures feet_after { feet.new ≡ feet_by feet.old (minute_seen m) (falling_answer m.motion m.fall (asked answer)) }
 {
-    let refusal = a.step.refusal;
-    if refusal != 0 {
-        return ended_with(m, refusal);
+    match answer {
+        Err(refusal) => ended_with(m, Err(refusal)),
+        Ok(made) => {
+            put_feet(feet, m.ticks, made.tick.motion.feet);
+            Minute {
+                motion: handed(m.motion, Ok(made.tick)).motion,
+                age: m.age.wrapping_add(1),
+                fall: made.fall,
+                ticks: m.ticks.wrapping_add(1),
+                ended: Ok(()),
+            }
+        }
     }
-    put_feet(feet, m.ticks, a.step.motion.feet);
-    let motion = a.step.motion;
-    let fall = a.fall;
-    minute_of(motion, older_than(m.age), fall, later_than(m.ticks), 0)
 }
 
-// Before the first event, with a fresh fall record.
-pub fn begin(given: MotionNumbers, age: u64, refusal: u32) -> Minute
-    ensures { result ≡ minute_of (start given age [] refusal) }
+/// Before the first event, with a fresh fall record; or refused before it.
+pub fn begin(given: MotionNumbers, age: u64, ended: Result<(), Refusal>) -> Minute
+    ensures { minute_seen result ≡ minute_of (start given age [] (verdict ended)) }
 {
-    let fall = Fall {
-        sum: 0.0,
-        landed: 0.0,
-    };
-    minute_of(given, age, fall, 0, refusal)
+    Minute {
+        motion: given,
+        age,
+        fall: Fall {
+            sum: 0.0,
+            landed: 0.0,
+        },
+        ticks: 0,
+        ended,
+    }
 }

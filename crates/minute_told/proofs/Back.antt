@@ -10,9 +10,8 @@ use Rattle.base.proofs.Stored.{stored-front}
 use Rattle.floats.specs.Numbers.{zero64}
 use Rattle.boxes.specs.declared.Vec3.{Vec3}
 use Rattle.boxes.specs.Boxes.{vec}
-use Rattle.minute_state.specs.declared.Minute.{Minute}
 use Rattle.minute_state.specs.Minute.{State, lines_as_numbers}
-use Rattle.minute_state.specs.Turns.{minute_of}
+use Rattle.minute_state.specs.Turns.{Minute, minute_of}
 use Rattle.minute_state.proofs.Turns.{numbers-length}
 use Rattle.text.specs.Cursor.{Put}
 use Rattle.minute_told.specs.Printed.{text_by, minute_text, feet_at}

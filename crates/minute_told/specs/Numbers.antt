@@ -5,7 +5,7 @@ use Rattle.std.specs.Float.Ieee.{of_int}
 use Rattle.base.specs.Choose.{choose}
 use Rattle.base.specs.Loop.{stored}
 use Rattle.lent_words.specs.Words.{low_of, high_of}
-use Rattle.minute_state.specs.declared.Minute.{Minute}
+use Rattle.minute_state.specs.Turns.{Minute}
 
 -- feet, velocity, ground; the fall record, sum and landed; how many ticks were done; the age, low word and high
 abbrev pub minute_numbers : Minute → List Float

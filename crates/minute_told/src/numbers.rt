@@ -1,59 +1,45 @@
 // What is handed back of a minute, as twelve numbers in a lent place.
-ghost use Rattle.std.specs.Prelude.{◌≡◌, [], ◌∷◌, pos};
-ghost use Rattle.std.specs.Float.{binary64};
-ghost use Rattle.std.specs.Float.Ieee.{of_int};
+ghost use Rattle.std.specs.Prelude.{◌≡◌};
 ghost use Rattle.base.specs.Loop.{stored};
-ghost use Rattle.lent_words.specs.Words.{low_of, high_of};
+ghost use Rattle.base.specs.Refusals.{verdict};
+ghost use Rattle.minute_state.specs.Turns.{minute_seen};
 ghost use Rattle.minute_told.specs.Numbers.{minute_numbers, has_moved, minute_written};
 
-use bodies::MotionNumbers;
+use base::Refusal;
 use lent_numbers::{put, put_vec};
 use lent_steps::float_of;
 use minute_state::Minute;
 
-// Seven numbers, from the first place on.
-fn put_motion(out: &mut [f64], m: MotionNumbers)
-    ensures { out.new ≡ stored out.old 0 (m.feet.x ∷ m.feet.y ∷ m.feet.z ∷ m.velocity.x ∷ m.velocity.y ∷ m.velocity.z ∷ of_int binary64 (pos m.on_ground) ∷ []) }
-{
-    put_vec(out, 0, m.feet);
-    put_vec(out, 3, m.velocity);
-    put(out, 6, float_of(m.on_ground));
-}
-
-// From place 9 on: how many ticks were done, and the age.
-fn put_counts(out: &mut [f64], ticks: u32, age: u64)
-    ensures { out.new ≡ stored out.old 9 (of_int binary64 (pos ticks) ∷ of_int binary64 (pos (low_of age)) ∷ of_int binary64 (pos (high_of age)) ∷ []) }
-{
-    put(out, 9, float_of(ticks));
-    put(out, 10, float_of(lent_words::low_of(age)));
-    put(out, 11, float_of(lent_words::high_of(age)));
-}
-
 // Twelve numbers, as `minute_numbers` has them.
+#[tactic(auto, unfolding(base::specs::Loop::stored))]
 fn put_minute(out: &mut [f64], m: Minute)
-    ensures { out.new ≡ stored out.old 0 (minute_numbers m) }
+    ensures { out.new ≡ stored out.old 0 (minute_numbers (minute_seen m)) }
 {
-    let motion = m.motion;
-    put_motion(out, motion);
+    put_vec(out, 0, m.motion.feet);
+    put_vec(out, 3, m.motion.velocity);
+    put(out, 6, float_of(m.motion.on_ground));
     put(out, 7, m.fall.sum);
     put(out, 8, m.fall.landed);
-    put_counts(out, m.ticks, m.age);
+    put(out, 9, float_of(m.ticks));
+    put(out, 10, float_of(lent_words::low_of(m.age)));
+    put(out, 11, float_of(lent_words::high_of(m.age)));
 }
 
+#[tactic(auto, using(base::proofs::Cases::cases))]
 fn has_moved(m: Minute) -> bool
-    ensures { result ≡ has_moved m }
+    ensures { result ≡ has_moved (minute_seen m) }
 {
-    (m.refusal == 0) | (0 < m.ticks)
+    m.ended.is_ok() || 0 < m.ticks
 }
 
-// A refusal before the first tick writes nothing.
-pub fn minute_into(out: &mut [f64], m: Minute) -> u32
-    ensures value { result ≡ m.refusal }
-    ensures out_after { out.new ≡ minute_written out.old m }
+/// The minute's numbers, and what ended it. A refusal before the first tick writes nothing.
+#[tactic(auto, using(base::proofs::Cases::cases), unfolding(crate::specs::Numbers::minute_written, base::specs::Choose::choose))]
+pub fn minute_into(out: &mut [f64], m: Minute) -> Result<(), Refusal>
+    ensures value { verdict result ≡ verdict m.ended }
+    ensures out_after { out.new ≡ minute_written out.old (minute_seen m) }
 {
     if has_moved(m) {
         put_minute(out, m);
-        return m.refusal;
     }
-    m.refusal
+    m.ended
 }

@@ -16,12 +16,18 @@ use Rattle.summary.specs.Calls.{plain_words}
 use Rattle.files.proofs.Scenes.{unfit, are}
 use Rattle.logs.specs.declared.Log.{Log}
 use Rattle.logs.specs.Logs.{is_log, log_of, events_by}
-use Rattle.minute_state.specs.declared.Minute.{Minute}
+use Rattle.minute_state.specs.Turns.{Minute, minute_of}
 use Rattle.minute_state.specs.Minute.{State, lent_by, start, minute, lines_as_numbers}
-use Rattle.minute_state.specs.Turns.{minute_of}
 use Rattle.minute_told.specs.Numbers.{minute_written}
 use Rattle.lent_room.proofs.Short.{never-0}
 use Rattle.minutes.specs.Calls.{whole_minute, short_at, minute_at}
+
+-- ---- what is no log is refused by 8
+
+pub unread : {A : Type 0} (n : ℕ) (b : Bool) (m : A) → refused n ≡ choose b (found m) (refused 8) → (n ≡ 8) × (refused 8 ≡ choose b (found m) (refused 8))
+unfolding choose
+unread n true m e = cc
+unread n false m e = (cc, refl)
 
 -- ---- a refusal before anything runs
 

@@ -24,7 +24,7 @@ use Rattle.bodies.specs.Limits.{number_refusal}
 use Rattle.step_answers.specs.declared.Tick.{Tick}
 use Rattle.step.specs.Answers.{step_answer, checked_asked, fitting, summed_asked}
 use Rattle.step.proofs.Summed.{past-plain}
-use Rattle.step_answers.specs.declared.FallingAnswer.{FallingAnswer}
+use Rattle.step_answers.specs.Records.{FallingAnswer}
 use Rattle.fall_rule.specs.Rule.{fall_fits}
 use Rattle.falls.specs.Answers.{with_fall, falling_checked, falling_entry, falling_summed}
 use Rattle.falls.proofs.Laws.{summed-alike}

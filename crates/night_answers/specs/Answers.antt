@@ -3,7 +3,7 @@
 use Rattle.std.specs.Prelude.{List, ℕ, ltb, eqb, Float}
 use Rattle.base.specs.Choose.{choose}
 use Rattle.bodies.specs.Limits.{number_refusal}
-use Rattle.step_answers.specs.declared.FallingAnswer.{FallingAnswer}
+use Rattle.step_answers.specs.Records.{FallingAnswer}
 use Rattle.fall_rule.specs.Rule.{fall_fits}
 use Rattle.falls.specs.Answers.{refused_falling, falling_checked, falling_entry}
 use Rattle.night_rows.specs.declared.WindowRow.{WindowRow}

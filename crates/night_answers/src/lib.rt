@@ -3,124 +3,112 @@
 #![tactic(auto)]
 
 ghost use Rattle.std.specs.Prelude.{◌≡◌, get_or};
-ghost use Rattle.tables.specs.Tables.{word_at};
-ghost use Rattle.night_rows.specs.Rows.{row_with};
-ghost use Rattle.night_answers.specs.Answers.{lent_with, refused_body, checked_step, late_body, wrong_step, row_answer_by};
+ghost use Rattle.base.specs.Refusals.{number_of, asked, verdict};
+ghost use Rattle.step_answers.specs.Answers.{falling_answer};
+ghost use Rattle.night_rows.specs.Rows.{row_seen, named_in, given_in, fall_in};
+ghost use Rattle.night_windows.specs.Windows.{verdicts};
+ghost use Rattle.night_answers.specs.Answers.{lent_with, checked_step, late_body, wrong_step, row_answer_by};
 
-use night_rows::{
-    WindowRow, age_in, fall_in, given_in, is_whole, rules_in, scene_words, wide, window_at,
-};
+use base::Refusal;
+use night_rows::{BodyRow, WindowRow, Windows};
 use night_windows::{cells_in, last_in, step_words};
-use step_answers::FallingAnswer;
-
-// A refused body: its motion and fall record as given.
-fn refused_body(older: bool, refusal: u32, numbers: &[f64], words: &[u32]) -> FallingAnswer
-    ensures { result ≡ refused_body refusal (row_with older numbers.now words.now) }
-{
-    let given = given_in(older, numbers, words);
-    let fall = fall_in(numbers);
-    step_answers::refused_falling(refusal, given, fall)
-}
+use step_answers::FallingTick;
+use tables::Tables;
+use window::View;
 
 // The step in a window that passed its check.
+#[tactic(auto, unfolding(crate::specs::Answers::checked_step))]
 fn checked_step(
-    older: bool,
-    records: &[u32],
-    shapes: &[f32],
+    tables: Tables<'_>,
     cells: &[u32],
     w: WindowRow,
-    numbers: &[f64],
-    words: &[u32],
-) -> FallingAnswer
-    ensures { result ≡ checked_step records.now shapes.now cells.now w (row_with older numbers.now words.now) }
+    row: BodyRow<'_>,
+) -> Result<FallingTick, Refusal>
+    ensures { falling_answer (given_in (row_seen row.entry)) (fall_in (row_seen row.entry)) (asked result) ≡ checked_step tables.entry.records.now tables.entry.shapes.now cells.now w (row_seen row.entry) }
 {
-    let last = scene_words(words);
-    let rules = rules_in(older, numbers, words);
-    let own = step_words(cells_in(cells, w), w.window, rules.air);
-    let body = bodies::body_from(numbers, last);
-    let given = bodies::motion_from(numbers, last);
-    let age = age_in(words);
-    let fall = fall_in(numbers);
+    let rules = row.rules();
+    let own = View {
+        words: cells_in(cells, w),
+        window: w.window,
+    };
+    let view = View {
+        words: step_words(own, rules.air),
+        window: w.window,
+    };
     falls::step_falling_checked(
-        records, shapes, own, w.window, rules, body, given, age, fall,
+        tables,
+        view,
+        rules,
+        row.body(),
+        row.given(),
+        row.age(),
+        row.fall(),
     )
 }
 
-// What the check of a window said; 2 for one that is none.
-fn refusal_of(checked: &[u32], j: u32) -> u32
-    ensures { result ≡ get_or checked.now j 2 }
+// What the check of a window said; `Window` for one that is none.
+fn check_of(checked: &[Result<(), Refusal>], j: u32) -> Result<(), Refusal>
+    ensures { verdict result ≡ get_or (verdicts checked.now) j 2 }
 {
-    let j = wide(j);
-    if j < checked.len() { checked[j] } else { 2 }
+    checked
+        .get(j as usize)
+        .copied()
+        .unwrap_or(Err(Refusal::Window))
 }
 
-// 13 of the window's summary, after the body's own 3 and 4.
-fn late_body(older: bool, records: &[u32], numbers: &[f64], words: &[u32]) -> FallingAnswer
-    ensures { result ≡ late_body records.now (row_with older numbers.now words.now) }
+// `Summary` of the window's summary, after the body's own `Number` and `Place`.
+#[tactic(auto, using(base::proofs::Cases::cases), unfolding(crate::specs::Answers::late_body, base::specs::Choose::choose))]
+fn late_body(tables: Tables<'_>, row: BodyRow<'_>) -> Result<FallingTick, Refusal>
+    ensures { falling_answer (given_in (row_seen row.entry)) (fall_in (row_seen row.entry)) (asked result) ≡ late_body tables.entry.records.now (row_seen row.entry) }
 {
-    let fall = fall_in(numbers);
-    if fall_rule::fall_fits(fall) {
-        let last = scene_words(words);
-        let rules = rules_in(older, numbers, words);
-        let body = bodies::body_from(numbers, last);
-        let given = bodies::motion_from(numbers, last);
-        let unfit = bodies::number_refusal(records, rules, body, given);
-        if unfit == 0 {
-            return refused_body(older, 13, numbers, words);
-        }
-        return refused_body(older, unfit, numbers, words);
+    if !fall_rule::fall_fits(row.fall()) {
+        return Err(Refusal::Number);
     }
-    refused_body(older, 3, numbers, words)
+    bodies::check_numbers(tables, row.rules(), row.body(), row.given())?;
+    Err(Refusal::Summary)
 }
 
-// A window whose check said 13, of which a body of another air state does not know, or 2.
+// A window whose check said `Summary`, of which a body of another air state does not know, or `Window`.
+#[tactic(auto, using(base::proofs::Cases::cases, base::proofs::Answers::one_number), unfolding(crate::specs::Answers::wrong_step, base::specs::Choose::choose))]
 fn wrong_step(
-    older: bool,
-    refusal: u32,
-    records: &[u32],
-    shapes: &[f32],
+    refusal: Refusal,
+    tables: Tables<'_>,
     cells: &[u32],
     w: WindowRow,
-    numbers: &[f64],
-    words: &[u32],
-) -> FallingAnswer
-    ensures { result ≡ wrong_step refusal records.now shapes.now cells.now w (row_with older numbers.now words.now) }
+    row: BodyRow<'_>,
+) -> Result<FallingTick, Refusal>
+    ensures { falling_answer (given_in (row_seen row.entry)) (fall_in (row_seen row.entry)) (asked result) ≡ wrong_step (number_of refusal) tables.entry.records.now tables.entry.shapes.now cells.now w (row_seen row.entry) }
 {
-    if refusal == 13 {
-        let rules = rules_in(older, numbers, words);
-        if last_in(cells_in(cells, w)) == rules.air {
-            return late_body(older, records, numbers, words);
+    match refusal {
+        Refusal::Summary if last_in(cells_in(cells, w)) == row.rules().air => {
+            late_body(tables, row)
         }
-        return checked_step(older, records, shapes, cells, w, numbers, words);
+        Refusal::Summary => checked_step(tables, cells, w, row),
+        _ => Err(Refusal::Window),
     }
-    refused_body(older, 2, numbers, words)
 }
 
-// 3, then 10, then 2, then what the step gives.
+/// One body's answer, by what the checks of all windows said: `Number` for a row that is not there whole, then `NoWindow`, then `Window`, then what the
+/// step gives, with `Summary` after `Place`.
+#[tactic(auto, using(base::proofs::Cases::cases), unfolding(crate::specs::Answers::row_answer_by, base::specs::Choose::choose))]
 pub fn row_answer(
-    older: bool,
-    records: &[u32],
-    shapes: &[f32],
-    windows: &[u32],
-    count: u32,
-    cells: &[u32],
-    checked: &[u32],
-    numbers: &[f64],
-    words: &[u32],
-) -> FallingAnswer
-    ensures { result ≡ row_answer_by (get_or checked.now (word_at words.now 0 0) 2) (lent_with records.now shapes.now windows.now count cells.now) (row_with older numbers.now words.now) }
+    tables: Tables<'_>,
+    windows: Windows<'_>,
+    checked: &[Result<(), Refusal>],
+    row: BodyRow<'_>,
+) -> Result<FallingTick, Refusal>
+    ensures { falling_answer (given_in (row_seen row.entry)) (fall_in (row_seen row.entry)) (asked result) ≡ row_answer_by (get_or (verdicts checked.now) (named_in (row_seen row.entry)) 2) (lent_with tables.entry.records.now tables.entry.shapes.now windows.entry.rows.now windows.entry.count windows.entry.cells.now) (row_seen row.entry) }
 {
-    if is_whole(older, numbers, words) {
-        let named = tables::word(words, 0, 0);
-        if named < count {
-            let refusal = refusal_of(checked, named);
-            let w = window_at(windows, named);
-            if refusal == 0 {
-                return checked_step(older, records, shapes, cells, w, numbers, words);
-            }
-            return wrong_step(older, refusal, records, shapes, cells, w, numbers, words);
-        }
-        return refused_body(older, 10, numbers, words);
+    if !row.is_whole() {
+        return Err(Refusal::Number);
     }
-    refused_body(older, 3, numbers, words)
+    let named = row.named();
+    if named >= windows.count {
+        return Err(Refusal::NoWindow);
+    }
+    let w = windows.at(named);
+    match check_of(checked, named) {
+        Ok(()) => checked_step(tables, windows.cells, w, row),
+        Err(refusal) => wrong_step(refusal, tables, windows.cells, w, row),
+    }
 }

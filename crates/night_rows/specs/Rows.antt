@@ -11,6 +11,7 @@ use Rattle.lent_words.specs.Words.{wide_of, window_from}
 use Rattle.fall_rule.specs.declared.Fall.{Fall}
 use Rattle.fall_rule.specs.Rule.{fall_of}
 use Rattle.night_rows.specs.declared.WindowRow.{WindowRow}
+use Rattle.night_rows.specs.declared.body.BodyRow.{BodyRow}
 
 -- row i of rows so wide: what there is of it, where it is not there whole
 abbrev pub row_of : {A : Type 0} → ℕ → List A → ℕ → List A
@@ -39,6 +40,10 @@ pub record Row : Type 0 where
 
 abbrev pub row_with : Bool → List Float → List ℕ → Row
 row_with older numbers words = record { older = older; numbers = numbers; words = words }
+
+-- what the program holds of it
+abbrev pub row_seen : BodyRow → Row
+row_seen r = row_with r.older r.numbers.now r.words.now
 
 -- numbers: the 19 of a scene in its order, then the fall record, its sum and its landed number
 abbrev pub number_width : ℕ

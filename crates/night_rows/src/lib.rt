@@ -4,15 +4,16 @@
 
 mod body;
 
-ghost use Rattle.std.specs.Prelude.{◌≡◌, take, drop};
-ghost use Rattle.night_rows.specs.Rows.{row_of, window_width, number_width, word_width, window_of_row, window_at};
+ghost use Rattle.std.specs.Prelude.{◌≡◌, ◌≤◌, take, drop};
+ghost use Rattle.night_rows.specs.Rows.{row_of, window_width, word_width, window_of_row, window_at, row_at, row_seen};
 
-pub use body::{age_in, fall_in, given_in, is_whole, rules_in, scene_words};
+pub use body::BodyRow;
 use window::Window;
 
-// How many words a window has, and numbers and words a body.
+/// How many words a window has.
 pub const WINDOW_WIDTH: usize = 10;
 
+// How many numbers and words a body has.
 pub(crate) const NUMBER_WIDTH: usize = 21;
 
 pub(crate) const WORD_WIDTH: usize = 10;
@@ -22,7 +23,24 @@ pub(crate) const OLDER_WIDTH: usize = 9;
 
 pub(crate) const OLDER_CAP: u32 = 128;
 
-// A window, and where its own words begin among those of all windows, and how many they are.
+/// Windows that are lent: `count` rows of ten words, and the words of all of the windows.
+#[derive(Clone, Copy)]
+pub struct Windows<'a> {
+    pub rows: &'a [u32],
+    pub count: u32,
+    pub cells: &'a [u32],
+}
+
+/// Bodies that are lent: `count` rows of 21 numbers and of ten words, or of nine where they are an older caller's.
+#[derive(Clone, Copy)]
+pub struct Bodies<'a> {
+    pub older: bool,
+    pub numbers: &'a [f64],
+    pub words: &'a [u32],
+    pub count: u32,
+}
+
+/// A window, and where its own words begin among those of all windows, and how many they are.
 #[derive(Clone, Copy)]
 pub struct WindowRow {
     pub window: Window,
@@ -30,83 +48,73 @@ pub struct WindowRow {
     pub count: u32,
 }
 
-pub fn wide(x: u32) -> usize
-    ensures { result ≡ x }
+/// So many from a place on, or what there is of them.
+pub fn part_of<T>(all: &[T], at: usize, count: usize) -> &[T]
+    ensures { result.now ≡ take count (drop at all.now) }
 {
-    x as usize
+    let start = at.min(all.len());
+    let length = count.min(all.len() - start);
+    &all[start..start + length]
 }
 
-// So many numbers from a place on.
-fn numbers_from(numbers: &[f64], at: usize, count: usize) -> &[f64]
-    ensures { result.now ≡ take count (drop at numbers.now) }
+/// How many words a body has.
+#[tactic(auto, using(base::proofs::Cases::cases), unfolding(crate::specs::Rows::word_width, base::specs::Choose::choose))]
+pub(crate) fn word_width(older: bool) -> usize
+    ensures value { result ≡ word_width older }
+    ensures most { result ≤ 10 }
 {
-    if at < numbers.len() {
-        if count <= numbers.len() - at {
-            return &numbers[at..at + count];
-        }
-        return &numbers[at..];
-    }
-    &numbers[0..0]
-}
-
-// So many words from a place on.
-pub fn words_from(words: &[u32], at: usize, count: usize) -> &[u32]
-    ensures { result.now ≡ take count (drop at words.now) }
-{
-    if at < words.len() {
-        if count <= words.len() - at {
-            return &words[at..at + count];
-        }
-        return &words[at..];
-    }
-    &words[0..0]
-}
-
-pub fn window_row(windows: &[u32], j: u32) -> &[u32]
-    ensures { result.now ≡ row_of window_width windows.now j }
-{
-    words_from(windows, wide(j) * WINDOW_WIDTH, WINDOW_WIDTH)
-}
-
-pub fn numbers_at(numbers: &[f64], i: u32) -> &[f64]
-    ensures { result.now ≡ row_of number_width numbers.now i }
-{
-    numbers_from(numbers, wide(i) * NUMBER_WIDTH, NUMBER_WIDTH)
-}
-
-pub fn words_at(older: bool, words: &[u32], i: u32) -> &[u32]
-    ensures { result.now ≡ row_of (word_width older) words.now i }
-{
-    if older {
-        return words_from(words, wide(i) * OLDER_WIDTH, OLDER_WIDTH);
-    }
-    words_from(words, wide(i) * WORD_WIDTH, WORD_WIDTH)
+    if older { OLDER_WIDTH } else { WORD_WIDTH }
 }
 
 // The window that a row's words are.
 fn window_of_row(words: &[u32]) -> WindowRow
     ensures { result ≡ window_of_row words.now }
 {
-    let ox = tables::word(words, 0, 0);
-    let oy = tables::word(words, 0, 1);
-    let oz = tables::word(words, 0, 2);
-    let sx = tables::word(words, 0, 3);
-    let sy = tables::word(words, 0, 4);
-    let sz = tables::word(words, 0, 5);
-    let lowest = tables::word(words, 0, 6);
-    let highest = tables::word(words, 0, 7);
-    let window = lent_words::window_from(ox, oy, oz, sx, sy, sz, lowest, highest, 0);
-    let first = tables::word(words, 0, 8);
-    let count = tables::word(words, 0, 9);
+    let word = |k: u32| tables::word(words, 0, k);
     WindowRow {
-        window,
-        first,
-        count,
+        window: lent_words::window_from(
+            word(0),
+            word(1),
+            word(2),
+            word(3),
+            word(4),
+            word(5),
+            word(6),
+            word(7),
+            0,
+        ),
+        first: word(8),
+        count: word(9),
     }
 }
 
-pub fn window_at(windows: &[u32], j: u32) -> WindowRow
-    ensures { result ≡ window_at windows.now j }
-{
-    window_of_row(window_row(windows, j))
+impl<'a> Windows<'a> {
+    /// The words of row j.
+    pub fn row(self, j: u32) -> &'a [u32]
+        ensures { result.now ≡ row_of window_width self.entry.rows.now j }
+    {
+        part_of(self.rows, j as usize * WINDOW_WIDTH, WINDOW_WIDTH)
+    }
+
+    /// The window that row j is.
+    #[tactic(auto, unfolding(crate::specs::Rows::window_at))]
+    pub fn at(self, j: u32) -> WindowRow
+        ensures { result ≡ window_at self.entry.rows.now j }
+    {
+        window_of_row(self.row(j))
+    }
+}
+
+impl<'a> Bodies<'a> {
+    /// Row i.
+    pub fn row(self, i: u32) -> BodyRow<'a>
+        ensures { row_seen result ≡ row_at self.entry.older self.entry.numbers.now self.entry.words.now i }
+    {
+        let width = word_width(self.older);
+        BodyRow {
+            older: self.older,
+            numbers: part_of(self.numbers, i as usize * NUMBER_WIDTH, NUMBER_WIDTH),
+            words: part_of(self.words, i as usize * width, width),
+        }
+    }
 }

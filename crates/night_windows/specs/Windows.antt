@@ -1,6 +1,8 @@
 -- A window of the midnight run: its own words, and their check, which no body changes.
-use Rattle.std.specs.Prelude.{Bool, ◌&&◌, List, ℕ, ◌+◌, ◌-◌, ltb, leb, eqb, length, get_or, take, drop}
+use Rattle.std.specs.Prelude.{Bool, ◌&&◌, ⊤, Result, List, map, ℕ, ◌+◌, ◌-◌, ltb, leb, eqb, length, get_or, take, drop}
 use Rattle.base.specs.Choose.{choose}
+use Rattle.base.specs.declared.Refusal.{Refusal}
+use Rattle.base.specs.Refusals.{verdict}
 use Rattle.window.specs.declared.Window.{Window}
 use Rattle.window.specs.Window.{window_refusal}
 use Rattle.window.specs.Numbers.{with_air}
@@ -43,6 +45,10 @@ refusal_at records windows cells j =
 -- the same of the first so many; nothing names a window beyond them
 unfoldable pub refusal_within : List ℕ → List ℕ → List ℕ → ℕ → ℕ → ℕ
 refusal_within records windows cells count j = choose (ltb j count) (refusal_at records windows cells j) 2
+
+-- what the checks of all windows say: 0 or a refusal's number for each
+abbrev pub verdicts : List (Result ⊤ Refusal) → List ℕ
+verdicts = map verdict
 
 -- a body of the summary's air state goes by it; one that names another is stepped over cells and columns
 unfoldable pub step_words : List ℕ → Window → ℕ → List ℕ

@@ -1,110 +1,120 @@
 // Windows of the midnight run: a window's own words, of all that are lent, and their check, once for all bodies.
 #![tactic(auto)]
 
-ghost use Rattle.std.specs.Prelude.{◌≡◌};
+ghost use Rattle.std.specs.Prelude.{◌≡◌, map};
 ghost use Rattle.base.specs.Loop.{listed};
-ghost use Rattle.night_windows.specs.Windows.{cells_in, front, last_in, is_summed, own_refusal, refusal_at, refusal_within, step_words};
+ghost use Rattle.base.specs.Refusals.{verdict};
+ghost use Rattle.night_windows.specs.Windows.{cells_in, front, last_in, is_summed, own_refusal, refusal_at, refusal_within, verdicts, step_words};
 
-use night_rows::{WINDOW_WIDTH, WindowRow, wide, window_at, window_row, words_from};
-use window::Window;
+use base::Refusal;
+use night_rows::{WINDOW_WIDTH, WindowRow, Windows, part_of};
+use tables::Tables;
+use window::View;
 
-// A window's own words, of all that are lent.
+/// A window's own words, of all that are lent.
 pub fn cells_in(cells: &[u32], row: WindowRow) -> &[u32]
     ensures { result.now ≡ cells_in cells.now row }
 {
-    words_from(cells, wide(row.first), wide(row.count))
+    part_of(cells, row.first as usize, row.count as usize)
 }
 
-// All but the last of a window's own words: cells, columns and summary, where it has one.
+/// All but the last of a window's own words: cells, columns and summary, where it has one.
 pub fn front(own: &[u32]) -> &[u32]
     ensures { result.now ≡ front own.now }
 {
-    let n = own.len();
-    if n == 0 {
-        return &own[0..0];
-    }
-    &own[0..n - 1]
+    &own[..own.len().saturating_sub(1)]
 }
 
-// The last of them: the air state that its summary is of.
+/// The last of them, 0 where there is none: the air state that its summary is of.
 pub fn last_in(own: &[u32]) -> u32
     ensures { result ≡ last_in own.now }
 {
-    let n = own.len();
-    if n == 0 {
-        return 0;
+    own.last().copied().unwrap_or(0)
+}
+
+/// Whether a window's own words have a summary among them.
+#[tactic(auto, unfolding(crate::specs::Windows::is_summed))]
+pub fn is_summed(view: View<'_>) -> bool
+    ensures { result ≡ is_summed view.entry.words.now view.entry.window }
+{
+    groups::has_summary(View {
+        words: front(view.words),
+        window: view.window,
+    })
+}
+
+// `Window` of cells and columns; or `Summary`, where there is one.
+#[tactic(auto, using(base::proofs::Cases::cases, crate::proofs::Checks::window_alone), unfolding(crate::specs::Windows::own_refusal, base::specs::Choose::choose))]
+fn check_own(tables: Tables<'_>, view: View<'_>) -> Result<(), Refusal>
+    ensures { verdict result ≡ own_refusal tables.entry.records.now view.entry.words.now view.entry.window }
+{
+    if !is_summed(view) {
+        return window_check::check_window(view);
     }
-    own[n - 1]
+    window_check::check_window(summary::plain(view))?;
+    let air = last_in(view.words);
+    groups::check_summary(
+        tables,
+        View {
+            words: front(view.words),
+            window: view.window.with_air(air),
+        },
+    )
 }
 
-pub fn is_summed(own: &[u32], w: Window) -> bool
-    ensures { result ≡ is_summed own.now w }
+// `Window` also where the row, or one of the window's words, is not there.
+#[tactic(auto, using(base::proofs::Cases::cases), unfolding(crate::specs::Windows::refusal_at, base::specs::Choose::choose))]
+fn check_at(tables: Tables<'_>, windows: Windows<'_>, j: u32) -> Result<(), Refusal>
+    ensures { verdict result ≡ refusal_at tables.entry.records.now windows.entry.rows.now windows.entry.cells.now j }
 {
-    groups::has_summary(front(own), w)
-}
-
-// 0; 2 of cells and columns; or 13 of the summary, where there is one.
-fn own_refusal(records: &[u32], own: &[u32], w: Window) -> u32
-    ensures { result ≡ own_refusal records.now own.now w }
-{
-    if is_summed(own, w) {
-        if window_check::check_window(summary::plain_words(own, w), w) == 0 {
-            let air = last_in(own);
-            return groups::check_summary(records, front(own), window::with_air(w, air));
-        }
-        return 2;
+    if windows.row(j).len() != WINDOW_WIDTH {
+        return Err(Refusal::Window);
     }
-    window_check::check_window(own, w)
-}
-
-// 0, 2 or 13.
-fn refusal_at(records: &[u32], windows: &[u32], cells: &[u32], j: u32) -> u32
-    ensures { result ≡ refusal_at records.now windows.now cells.now j }
-{
-    let words = window_row(windows, j);
-    if words.len() == WINDOW_WIDTH {
-        let row = window_at(windows, j);
-        let end = wide(row.first) + wide(row.count);
-        if end <= cells.len() {
-            return own_refusal(records, cells_in(cells, row), row.window);
-        }
-        return 2;
+    let row = windows.at(j);
+    let end = row.first as usize + row.count as usize;
+    if end > windows.cells.len() {
+        return Err(Refusal::Window);
     }
-    2
+    let view = View {
+        words: cells_in(windows.cells, row),
+        window: row.window,
+    };
+    check_own(tables, view)
 }
 
-// The same for a window that is one of so many; 2 beyond them.
-fn refusal_within(records: &[u32], windows: &[u32], count: u32, cells: &[u32], j: u32) -> u32
-    ensures { result ≡ refusal_within records.now windows.now cells.now count j }
+// The same for a window that is one of so many; `Window` beyond them.
+#[tactic(auto, using(base::proofs::Cases::cases), unfolding(crate::specs::Windows::refusal_within, base::specs::Choose::choose))]
+fn check_within(tables: Tables<'_>, windows: Windows<'_>, j: u32) -> Result<(), Refusal>
+    ensures { verdict result ≡ refusal_within tables.entry.records.now windows.entry.rows.now windows.entry.cells.now windows.entry.count j }
 {
-    if j < count {
-        return refusal_at(records, windows, cells, j);
+    if j >= windows.count {
+        return Err(Refusal::Window);
     }
-    2
+    check_at(tables, windows, j)
 }
 
-// Each window checked, once for all bodies.
-pub fn check_all(records: &[u32], windows: &[u32], count: u32, cells: &[u32]) -> [u32; 16]
-    ensures { result ≡ listed (refusal_within records.now windows.now cells.now count) 16 0 }
+/// Each window checked, once for all bodies.
+pub fn check_all(tables: Tables<'_>, windows: Windows<'_>) -> [Result<(), Refusal>; 16]
+    ensures { verdicts result ≡ listed (refusal_within tables.entry.records.now windows.entry.rows.now windows.entry.cells.now windows.entry.count) 16 0 }
 {
-    let mut checked = [2; 16];
-    let mut j = 0u32;
-    while j < 16 {
-        checked[j as usize] = refusal_within(records, windows, count, cells, j);
-        j += 1;
+    let mut checked = [Err(Refusal::Window); 16];
+    for j in 0..16 {
+        checked[j as usize] = check_within(tables, windows, j);
     }
     checked
 }
 
-// The words that a body of this air state is stepped over.
-pub fn step_words(own: &[u32], w: Window, air: u32) -> &[u32]
-    ensures { result.now ≡ step_words own.now w air }
+/// The words that a body of this air state is stepped over.
+#[tactic(auto, using(base::proofs::Cases::cases), unfolding(crate::specs::Windows::step_words, base::specs::Choose::choose))]
+pub fn step_words(view: View<'_>, air: u32) -> &[u32]
+    ensures { result.now ≡ step_words view.entry.words.now view.entry.window air }
 {
-    if is_summed(own, w) {
-        if last_in(own) == air {
-            return front(own);
-        }
-        return summary::plain_words(own, w);
+    if !is_summed(view) {
+        return view.words;
     }
-    &own[0..]
+    if last_in(view.words) == air {
+        front(view.words)
+    } else {
+        summary::plain(view).words
+    }
 }

@@ -17,7 +17,7 @@ use Rattle.wholes.specs.Whole as W
 use Rattle.boxes.specs.declared.Vec3.{Vec3}
 use Rattle.boxes.specs.declared.Aabb.{Aabb}
 use Rattle.boxes.specs.Limits as L
-use Rattle.sweeps.specs.declared.MoveAnswer.{MoveAnswer}
+use Rattle.sweeps.specs.Entry.{MoveAnswer}
 use Rattle.sweeps.specs.Lists as LS
 use Rattle.sweeps.specs.Move as M
 use Rattle.cover.proofs.Examples.{all_fit}

@@ -1,8 +1,7 @@
 -- Laws of a state's parts and boxes: how long they are, what they hold, and where they stand among all. Assumes nothing.
-use Rattle.std.proofs.Common.{◌≡◌, ℕ, zero, suc, ◌+◌, ◌-◌, ◌*◌, ◌<◌, ◌≤◌, Bool, true, false, eqb, List, [], ◌∷◌, ◌++◌, map, length, get_or, drop, set, sym, refl, ap, ◌∙◌, add-one, arith, length-append, length-set}
+use Rattle.std.proofs.Common.{◌≡◌, ℕ, zero, suc, ◌+◌, ◌-◌, ◌*◌, ◌<◌, ◌≤◌, Bool, true, false, eqb, List, [], ◌∷◌, ◌++◌, map, length, get_or, drop, set, sym, refl, ap, ◌∙◌, add-one, arith, length-append}
 use lib.ListN.{length-map, get_or-map}
 use lib.Ieee.{Float}
-use lib.Seq.{sets, sets-eq}
 use Rattle.base.specs.Choose.{choose}
 use Rattle.base.specs.Loop.{listed, stored, appended}
 use Rattle.base.proofs.Fill.{text-turn, text-end}

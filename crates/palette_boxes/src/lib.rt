@@ -3,36 +3,38 @@
 
 ghost use Rattle.std.specs.Prelude.{◌≡◌, ◌+◌, ◌<◌, ◌≤◌, true, map, length, slice_set};
 ghost use Rattle.base.specs.Loop.{stored};
+ghost use Rattle.base.specs.Refusals.{verdict};
 ghost use Rattle.tables.specs.Tables.{float_at, box_at};
 ghost use Rattle.palette_boxes.specs.Shapes.{by_kind, post_edge, arm_edge, arm_length, height, box_of_part, sixteenths, has_part, part_numbers, boxes_of_state, one, box_count_of, first_box_of, shape_numbers, palette_shapes};
 ghost use Rattle.palette_boxes.specs.Fill.{fill_refusal, filled};
 
+use base::Refusal;
 use palette_states::{has_post, kind_of, side_digit};
 use tables::ShapeBox;
 
 // What a number is by kind: a pane's, a wall's, or a fence's.
+#[tactic(auto, using(base::proofs::Cases::cases), unfolding(crate::specs::Shapes::by_kind, base::specs::Choose::choose))]
 fn by_kind(kind: u32, pane: u8, wall: u8, fence: u8) -> u8
-    ensures { result ≡ by_kind kind pane wall fence }
+    requires { (pane ≤ 16) × (wall ≤ 16) × (fence ≤ 16) }
+    ensures value { result ≡ by_kind kind pane wall fence }
+    ensures most { result ≤ 16 }
 {
-    if kind == 3 {
-        return pane;
+    match kind {
+        3 => pane,
+        4 => wall,
+        _ => fence,
     }
-    if kind == 4 {
-        return wall;
-    }
-    fence
 }
 
+#[tactic(auto, using(base::proofs::Cases::cases), unfolding(crate::specs::Shapes::post_edge, base::specs::Choose::choose))]
 fn post_edge(kind: u32) -> u8
     ensures value { result ≡ post_edge kind }
     ensures most { result ≤ 16 }
 {
-    if kind == 0 {
-        return 0;
-    }
-    by_kind(kind, 7, 4, 6)
+    if kind == 0 { 0 } else { by_kind(kind, 7, 4, 6) }
 }
 
+#[tactic(auto, unfolding(crate::specs::Shapes::arm_edge))]
 fn arm_edge(kind: u32) -> u8
     ensures value { result ≡ arm_edge kind }
     ensures most { result ≤ 16 }
@@ -40,6 +42,7 @@ fn arm_edge(kind: u32) -> u8
     by_kind(kind, 7, 5, 6)
 }
 
+#[tactic(auto, unfolding(crate::specs::Shapes::arm_length))]
 fn arm_length(kind: u32) -> u8
     ensures value { result ≡ arm_length kind }
     ensures most { result ≤ 16 }
@@ -47,19 +50,18 @@ fn arm_length(kind: u32) -> u8
     by_kind(kind, 7, 8, 6)
 }
 
+#[tactic(auto, using(base::proofs::Cases::cases), unfolding(crate::specs::Shapes::height, base::specs::Choose::choose))]
 fn height_of(kind: u32) -> u8
     ensures { result ≡ height kind }
 {
-    if kind == 0 {
-        return 16;
+    match kind {
+        0 | 3 => 16,
+        _ => 24,
     }
-    if kind == 3 {
-        return 16;
-    }
-    24
 }
 
 // The box of a part, in sixteenths.
+#[tactic(auto, using(base::proofs::Cases::cases), unfolding(crate::specs::Shapes::box_of_part, base::specs::Choose::choose))]
 fn box_of_part(kind: u32, part: u32) -> [u8; 6]
     ensures { result ≡ box_of_part kind part }
 {
@@ -70,16 +72,12 @@ fn box_of_part(kind: u32, part: u32) -> [u8; 6]
     }
     let a = arm_edge(kind);
     let n = arm_length(kind);
-    if part == 1 {
-        return [a, 0, 0, 16 - a, h, n];
+    match part {
+        1 => [a, 0, 0, 16 - a, h, n],
+        2 => [16 - n, 0, a, 16, h, 16 - a],
+        3 => [a, 0, 16 - n, 16 - a, h, 16],
+        _ => [0, 0, a, n, h, 16 - a],
     }
-    if part == 2 {
-        return [16 - n, 0, a, 16, h, 16 - a];
-    }
-    if part == 3 {
-        return [a, 0, 16 - n, 16 - a, h, 16];
-    }
-    [0, 0, a, n, h, 16 - a]
 }
 
 // n / 16, exactly.
@@ -89,24 +87,27 @@ fn in_blocks(n: u8) -> f32
     n as f32 / 16.0
 }
 
+#[tactic(auto, using(base::proofs::Cases::cases), unfolding(crate::specs::Shapes::has_part, base::specs::Choose::choose))]
 fn has_part(state: u32, part: u32) -> bool
     ensures { result ≡ has_part state part }
 {
     if part == 0 {
-        return has_post(state);
+        has_post(state)
+    } else {
+        side_digit(state, part - 1) != 0
     }
-    let d = side_digit(state, part - 1);
-    d != 0
 }
 
+#[tactic(auto, using(base::proofs::Cases::cases), unfolding(crate::specs::Shapes::one, base::specs::Choose::choose))]
 fn one_if(state: u32, part: u32) -> u32
     ensures value { result ≡ one state part }
     ensures most { result ≤ 1 }
 {
-    if has_part(state, part) { 1 } else { 0 }
+    u32::from(has_part(state, part))
 }
 
 // Word 8.
+#[tactic(auto, unfolding(crate::specs::Shapes::box_count_of))]
 pub fn box_count(state: u32) -> u32
     ensures value { result ≡ box_count_of state }
     ensures most { result ≤ 5 }
@@ -118,14 +119,12 @@ pub fn box_count(state: u32) -> u32
 pub fn first_box_of(state: u32) -> u32
     ensures { result ≡ first_box_of state }
 {
-    if 212 <= state {
+    if state >= 212 {
         return 0;
     }
-    let mut n = 0u32;
-    let mut i = 0u32;
-    while i < state {
+    let mut n = 0;
+    for i in 0..state {
         n += box_count(i);
-        i += 1;
     }
     n
 }
@@ -144,17 +143,14 @@ fn number_of(state: u32, i: usize) -> f64
     ensures { result ≡ float_at (boxes_of_state state) i }
 {
     let mut left = i;
-    let mut part = 0u32;
-    while part < 5 {
-        if has_part(state, part) {
-            if left < 6 {
-                return part_number(state, part, left);
-            }
-            left -= 6;
-            part += 1;
+    for part in 0..5 {
+        if !has_part(state, part) {
             continue;
         }
-        part += 1;
+        if left < 6 {
+            return part_number(state, part, left);
+        }
+        left -= 6;
     }
     0.0
 }
@@ -163,26 +159,21 @@ fn number_of(state: u32, i: usize) -> f64
 pub fn palette_box(state: u32, k: u32) -> ShapeBox
     ensures { result ≡ box_at (boxes_of_state state) k }
 {
-    let i = (k as usize) * 6;
-    let x0 = number_of(state, i);
-    let y0 = number_of(state, i + 1);
-    let z0 = number_of(state, i + 2);
-    let x1 = number_of(state, i + 3);
-    let y1 = number_of(state, i + 4);
-    let z1 = number_of(state, i + 5);
+    let i = k as usize * 6;
     ShapeBox {
-        x0,
-        y0,
-        z0,
-        x1,
-        y1,
-        z1,
+        x0: number_of(state, i),
+        y0: number_of(state, i + 1),
+        z0: number_of(state, i + 2),
+        x1: number_of(state, i + 3),
+        y1: number_of(state, i + 4),
+        z1: number_of(state, i + 5),
     }
 }
 
 fn put(out: &mut [f32], i: usize, x: f32)
     ensures { out.new ≡ slice_set out.old i x }
 {
+    // by index: of `get_mut` the check knows the length that it leaves, and not the numbers
     if i < out.len() {
         out[i] = x;
     }
@@ -192,11 +183,8 @@ fn put_box(out: &mut [f32], at: u32, kind: u32, part: u32)
     ensures { out.new ≡ stored out.old at (map sixteenths (box_of_part kind part)) }
 {
     let b = box_of_part(kind, part);
-    let first = at as usize;
-    let mut c = 0usize;
-    while c < 6 {
-        put(out, first + c, in_blocks(b[c]));
-        c += 1;
+    for (c, n) in b.iter().enumerate() {
+        put(out, at as usize + c, in_blocks(*n));
     }
 }
 
@@ -219,10 +207,8 @@ fn put_boxes(out: &mut [f32], at: u32, state: u32) -> u32
     ensures written { out.new ≡ stored out.old at (boxes_of_state state) }
 {
     let mut next = at;
-    let mut part = 0u32;
-    while part < 5 {
+    for part in 0..5 {
         next = put_part(out, next, state, part);
-        part += 1;
     }
     next
 }
@@ -231,22 +217,20 @@ fn put_boxes(out: &mut [f32], at: u32, state: u32) -> u32
 fn put_all(out: &mut [f32])
     ensures { out.new ≡ stored out.old 0 palette_shapes }
 {
-    let mut at = 0u32;
-    let mut state = 0u32;
-    while state < 212 {
+    let mut at = 0;
+    for state in 0..212 {
         at = put_boxes(out, at, state);
-        state += 1;
     }
 }
 
-// The 3,948 numbers of the boxes, or 11 and nothing written where the buffer is too short.
-pub fn fill_shapes(out: &mut [f32]) -> u32
-    ensures value { result ≡ fill_refusal shape_numbers out.old }
+/// The 3,948 numbers of the boxes. Where the buffer is too short the answer is `Room`, and nothing is written.
+pub fn fill_shapes(out: &mut [f32]) -> Result<(), Refusal>
+    ensures value { verdict result ≡ fill_refusal shape_numbers out.old }
     ensures written { out.new ≡ filled shape_numbers out.old palette_shapes }
 {
     if out.len() < 3948 {
-        return 11;
+        return Err(Refusal::Room);
     }
     put_all(out);
-    0
+    Ok(())
 }

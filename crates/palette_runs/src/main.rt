@@ -3,105 +3,84 @@
 // the request (`expected` in tools/scenepalette.py), not run.
 #![tactic(auto)]
 
-use std::io;
-use tables::ShapeBox;
+use std::{fmt, io};
+use tables::Tables;
 
 // Two sums over the numbers so far, each wrapping at 2^64: of the numbers, and of the first sum as it was after each, so that their order counts.
-#[derive(Clone, Copy)]
+#[derive(Clone, Copy, Default)]
 struct Sums {
     each: u64,
     after_each: u64,
 }
 
-fn none() -> Sums {
-    Sums {
-        each: 0,
-        after_each: 0,
+impl Sums {
+    fn with(self, x: u64) -> Sums {
+        let each = self.each.wrapping_add(x);
+        Sums {
+            each,
+            after_each: self.after_each.wrapping_add(each),
+        }
+    }
+
+    fn with_number(self, x: f64) -> Sums {
+        self.with(floats::bits_of_float(x))
     }
 }
 
-fn with(s: Sums, x: u64) -> Sums {
-    let each = std::num::wrapping_add_u64(s.each, x);
-    let after_each = std::num::wrapping_add_u64(s.after_each, each);
-    Sums { each, after_each }
-}
-
-fn with_number(s: Sums, x: f64) -> Sums {
-    with(s, floats::bits_of_float(x))
-}
-
-fn with_box(s: Sums, b: ShapeBox) -> Sums {
-    let least = with_number(with_number(with_number(s, b.x0), b.y0), b.z0);
-    with_number(with_number(with_number(least, b.x1), b.y1), b.z1)
-}
-
-fn say(rt: &impl Print, what: &str, answer: u32, s: Sums) -> io::Result<()> {
-    println!(rt; "{what}: {answer} {} {}", s.each, s.after_each)
-}
-
-fn wide(x: u32) -> u64 {
-    x as u64
-}
-
-fn of_words(words: &[u32]) -> Sums {
-    let mut s = none();
-    let mut i = 0;
-    while i < words.len() {
-        s = with(s, wide(words[i]));
-        i += 1;
+impl fmt::Display for Sums {
+    fn fmt<W: fmt::Write>(&self, f: &mut fmt::Formatter<W>) -> fmt::Result {
+        write!(f, "{} {}", self.each, self.after_each)
     }
-    s
-}
-
-fn of_numbers(numbers: &[f32]) -> Sums {
-    let mut s = none();
-    let mut i = 0;
-    while i < numbers.len() {
-        s = with_number(s, std::num::f32_to_f64_with_nan(numbers[i]));
-        i += 1;
-    }
-    s
 }
 
 fn fill_records(rt: &impl Print, what: &str, out: &mut [u32]) -> io::Result<()> {
-    let answer = palette::fill_records(out);
-    say(rt, what, answer, of_words(out))
+    let told = runs::told(&palette::fill_records(out));
+    let sums = out
+        .iter()
+        .fold(Sums::default(), |sums, word| sums.with(u64::from(*word)));
+    println!(rt; "{what}: {told} {sums}")
 }
 
 fn fill_shapes(rt: &impl Print, what: &str, out: &mut [f32]) -> io::Result<()> {
-    let answer = palette_boxes::fill_shapes(out);
-    say(rt, what, answer, of_numbers(out))
+    let told = runs::told(&palette_boxes::fill_shapes(out));
+    let sums = out.iter().fold(Sums::default(), |sums, number| {
+        sums.with_number(std::num::f32_to_f64_with_nan(*number))
+    });
+    println!(rt; "{what}: {told} {sums}")
 }
 
 fn boxes_looked_up() -> Sums {
-    let mut s = none();
-    let mut i = 0u32;
-    while i < 213 * 6 {
-        s = with_box(s, palette_boxes::palette_box(i / 6, i % 6));
-        i += 1;
-    }
-    s
-}
-
-// The first words and numbers, without what lies beyond; 9 where there are not as many.
-fn check(records: &[u32], shapes: &[f32]) -> u32 {
-    if 4240 <= records.len() {
-        if 3948 <= shapes.len() {
-            return table_check::check_tables(&records[0..4240], &shapes[0..3948]);
+    let mut sums = Sums::default();
+    for state in 0..213 {
+        for k in 0..6 {
+            let b = palette_boxes::palette_box(state, k);
+            for x in [b.x0, b.y0, b.z0, b.x1, b.y1, b.z1] {
+                sums = sums.with_number(x);
+            }
         }
     }
-    9
+    sums
+}
+
+// The first words and numbers, without what lies beyond.
+fn check(records: &[u32], shapes: &[f32]) -> u32 {
+    runs::told(&table_check::check_tables(Tables {
+        records: runs::first(records, 4240),
+        shapes: runs::first(shapes, 3948),
+    }))
 }
 
 fn main(rt: HostRuntime) -> io::Result<()> {
-    let mut few = [7u32; 4239];
-    fill_records(&rt, "records, a word short", &mut few)?;
-    let mut records = [7u32; 4241];
+    fill_records(&rt, "records, a word short", &mut [7; 4239])?;
+    let mut records = [7; 4241];
     fill_records(&rt, "records", &mut records)?;
-    let mut little = [7.0f32; 3947];
-    fill_shapes(&rt, "boxes, a number short", &mut little)?;
-    let mut shapes = [7.0f32; 3949];
+    fill_shapes(&rt, "boxes, a number short", &mut [7.0; 3947])?;
+    let mut shapes = [7.0; 3949];
     fill_shapes(&rt, "boxes", &mut shapes)?;
-    say(&rt, "boxes looked up", 0, boxes_looked_up())?;
-    say(&rt, "the table check", check(&records, &shapes), none())
+    println!(rt; "boxes looked up: 0 {}", boxes_looked_up())?;
+    println!(rt;
+        "the table check: {} {}",
+        check(&records, &shapes),
+        Sums::default()
+    )
 }

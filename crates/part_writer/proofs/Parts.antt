@@ -3,13 +3,13 @@
 use mathlib.Core.Bool.{true, false}
 use mathlib.Core.List.{List, [], ◌++◌}
 use mathlib.Core.Path.{◌≡◌, refl, sym, ap, ◌∙◌}
-use Prim.Native.Nat.{ℕ, zero, suc, ◌+◌, ◌-◌, ◌*◌, ◌/◌, ◌%◌, ◌<◌, ◌≤◌, min}
+use Prim.Native.Nat.{ℕ, suc, ◌+◌, ◌*◌, ◌/◌, ◌%◌, ◌<◌, ◌≤◌, min}
 use native.Mathlib.Nat.{div-add-mod'}
 use native.Mathlib.Decide.{dec_lt}
 use native.Mathlib.Omega.{arith}
 use lib.Dec.{leb}
-use lib.ListN.{length, get_or, take, drop, length-append, length-take, length-drop, get_or-eq_default}
-use lib.Seq.{get_or-take, get_or-drop, drop-drop, drop_at, take_all, take-add, take-append-le, drop-append-le}
+use lib.ListN.{length, get_or, take, drop, length-append, length-take, length-drop}
+use lib.Seq.{drop-drop, drop_at, take_all, take-add, take-append-le, drop-append-le}
 use borrow.Author.Tests.{lt-ltb, le-ltb, le-leb, leb-true}
 use Rattle.base.specs.Choose.{choose}
 use Rattle.base.specs.Loop.{appended, stored}
@@ -174,9 +174,6 @@ roomy size p h =
 -- ---- the program's loop: a block more
 module _ (p : Part) (f : ℕ → ℕ) (l₀ l : List ℕ) (j : ℕ) (size : length l ≡ length l₀) (inv : l ≡ stored l₀ (p.first * 512) (appended (part_block p f) j 0)) where
   module _ (l' block : List ℕ) (put : l' ≡ stored l ((p.first + j) * 512) block) (e : block ≡ part_block p f j) where
-    pub turn-size : length l' ≡ length l₀
-    turn-size = ap length put ∙ stored-length l ((p.first + j) * 512) block ∙ size
-
     pub turn-stored : l' ≡ stored l₀ (p.first * 512) (appended (part_block p f) (j + 1) 0)
     turn-stored =
         let n : j + 1 ≡ suc j = omega arith in

@@ -2,7 +2,7 @@
 // no room nothing is written.
 #![tactic(auto)]
 
-ghost use Rattle.std.specs.Prelude.{◌≡◌, ◌+◌, ◌*◌, ◌≤◌, ◌<◌, length};
+ghost use Rattle.std.specs.Prelude.{◌≡◌, ℕ, ◌+◌, ◌*◌, ◌≤◌, ◌<◌, length};
 ghost use Rattle.std.specs.Float.{binary32};
 ghost use Rattle.std.specs.Float.Ieee.{to_bits};
 ghost use Rattle.base.specs.Loop.{listed, stored};
@@ -13,20 +13,30 @@ use block_writer::fill_block;
 use blocks::Part;
 
 // The part ends within 128 blocks, and within so many bytes.
+#[tactic(auto, using(base::proofs::Cases::cases), unfolding(crate::specs::Bytes::part_room))]
 fn part_room(size: usize, p: Part) -> bool
     ensures { result ≡ part_room size p }
 {
     let end = blocks::end_of(p);
-    if end <= 128 {
-        return end * 512 <= size;
-    }
-    false
+    end <= 128 && end * 512 <= size
 }
 
-// Block j of a part at its place: its payload is the words from word `from` on.
-fn put_block(out: &mut [u8], p: Part, j: usize, words: &[u32], from: u32)
+// The words of one block: those from word `from` on.
+fn block_words<F: Fn(usize) -> u32>(word: &F, from: u32) -> [u32; 123]
+    requires { F.IsAlwaysCallable word.now }
+    ensures { (f : ℕ → ℕ) → ((i w : ℕ) → F.post word.now i w → w ≡ f i) → result ≡ listed (λ k. f (from + k)) 123 0 }
+{
+    let mut words = [0; 123];
+    for k in 0..123 {
+        words[k] = word(from as usize + k);
+    }
+    words
+}
+
+// Block j of a part at its place: its payload is these words.
+fn put_block(out: &mut [u8], p: Part, j: usize, words: &[u32])
     requires { (p.first + j < 128) × ((p.first + j) * 512 + 512 ≤ length out.old) }
-    ensures { out.new ≡ stored out.old ((p.first + j) * 512) (block_bytes (p.first + j) p.kind (λ k. word_in words.now (from + k)) (used_in p j)) }
+    ensures { out.new ≡ stored out.old ((p.first + j) * 512) (block_bytes (p.first + j) p.kind (λ k. word_in words.now (0 + k)) (used_in p j)) }
 {
     let used = blocks::used_in(p, j);
     let number = p.first as usize + j;
@@ -36,24 +46,29 @@ fn put_block(out: &mut [u8], p: Part, j: usize, words: &[u32], from: u32)
         number as u32,
         p.kind,
         words,
-        from,
+        0,
         used,
     );
+}
+
+// A part at its place, whose word i is what `word` says.
+fn put_part<F: Fn(usize) -> u32>(out: &mut [u8], p: Part, word: F)
+    requires { F.IsAlwaysCallable word }
+    ensures { (f : ℕ → ℕ) → ((i w : ℕ) → F.post word i w → w ≡ f i) → out.new ≡ written_part out.old p f }
+{
+    if part_room(out.len(), p) {
+        let per = blocks::per_block(p.kind);
+        for j in 0..blocks::blocks_of(p) {
+            put_block(out, p, j, &block_words(&word, j as u32 * per));
+        }
+    }
 }
 
 // A part of these words at its place.
 pub fn put_words(out: &mut [u8], p: Part, words: &[u32])
     ensures { out.new ≡ written_part out.old p (word_in words.now) }
 {
-    if part_room(out.len(), p) {
-        let n = blocks::blocks_of(p);
-        let per = blocks::per_block(p.kind);
-        let mut j = 0usize;
-        while j < n {
-            put_block(out, p, j, words, j as u32 * per);
-            j += 1;
-        }
-    }
+    put_part(out, p, |i| block_writer::word_in(words, i));
 }
 
 // The bits of an f32; a NaN's are those of one NaN.
@@ -67,40 +82,16 @@ fn bits_of_single(x: f32) -> u32
 }
 
 // The bits of number i; 0 where there is none.
+#[tactic(auto, unfolding(crate::specs::Bytes::bits_in, floats::specs::Numbers::zero64))]
 fn bits_in(numbers: &[f32], i: usize) -> u32
     ensures { result ≡ bits_in numbers.now i }
 {
-    if i < numbers.len() {
-        return bits_of_single(numbers[i]);
-    }
-    0
-}
-
-// The bits of as many numbers as a block has words, from number `from` on.
-fn bits_from(numbers: &[f32], from: u32) -> [u32; 123]
-    ensures { result ≡ listed (λ k. bits_in numbers.now (from + k)) 123 0 }
-{
-    let mut bits = [0; 123];
-    let mut k = 0u8;
-    while k < 123 {
-        bits[k as usize] = bits_in(numbers, from as usize + k as usize);
-        k += 1;
-    }
-    bits
+    bits_of_single(numbers.get(i).copied().unwrap_or(0.0))
 }
 
 // A part of the bits of these numbers at its place.
 pub fn put_singles(out: &mut [u8], p: Part, numbers: &[f32])
     ensures { out.new ≡ written_part out.old p (bits_in numbers.now) }
 {
-    if part_room(out.len(), p) {
-        let n = blocks::blocks_of(p);
-        let per = blocks::per_block(p.kind);
-        let mut j = 0usize;
-        while j < n {
-            let bits = bits_from(numbers, j as u32 * per);
-            put_block(out, p, j, &bits, 0);
-            j += 1;
-        }
-    }
+    put_part(out, p, |i| bits_in(numbers, i));
 }

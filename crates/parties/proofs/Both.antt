@@ -10,8 +10,7 @@ use lib.Seq.{take_at, drop_at, drop-drop}
 use borrow.Author.Tests.{ne_eqb}
 use Rattle.base.specs.Choose.{choose}
 use Rattle.table_check.specs.Check.{table_refusal}
-use Rattle.parties.specs.declared.Refusals.{Refusals}
-use Rattle.parties.specs.Parties.{Call, Who, first, second, party_of, lent_to, bodies_in, length_of_half, half_of, nobodys, party_refusal, refusal_for, call_refusals, party_written, half_after, call_written}
+use Rattle.parties.specs.Parties.{Refusals, Call, Who, first, second, party_of, lent_to, bodies_in, length_of_half, half_of, nobodys, party_refusal, refusal_for, call_refusals, party_written, half_after, call_written}
 use Rattle.halves.proofs.Halves.{half_length}
 use Rattle.parties.proofs.Halves.{written-length}
 

@@ -2,13 +2,15 @@
 -- buffer; a refusal of the one is no business of the other.
 use Rattle.std.specs.Prelude.{false, List, ◌++◌, ℕ, ltb, eqb, length, Float}
 use Rattle.base.specs.Choose.{choose}
+use Rattle.base.specs.Refusals.{verdict}
 use Rattle.table_check.specs.Check.{table_refusal}
 pub use Rattle.halves.specs.Halves.{Who, first, second, length_of_half, half_place, half_of, nobodys}
 use Rattle.night_rows.specs.Rows.{Row}
 use Rattle.night_answers.specs.Answers.{NightLent, lent_with}
 use Rattle.answer_rows.specs.Answers.{count_refusal}
 use Rattle.midnight.specs.Run.{bodies_of, checked_written, answers_in}
-use Rattle.parties.specs.declared.Refusals.{Refusals}
+use Rattle.parties.specs.declared.Party.{Party as Lent}
+use Rattle.parties.specs.declared.Told.{Told}
 
 -- ---- a call
 
@@ -24,6 +26,10 @@ pub record Party : Type 0 where
 abbrev pub party_with : List ℕ → ℕ → List ℕ → List Float → List ℕ → ℕ → Party
 party_with windows count cells numbers words bodies =
     record { windows = windows; count = count; cells = cells; numbers = numbers; words = words; bodies = bodies }
+
+-- what the program holds of it
+abbrev pub party_seen : Lent → Party
+party_seen p = party_with p.windows.rows.now p.windows.count p.windows.cells.now p.numbers.now p.words.now p.bodies
 
 pub record Call : Type 0 where
   pub records : List ℕ
@@ -62,6 +68,14 @@ refusal_for who call =
     choose (eqb (table_refusal call.records call.shapes) 0)
     (party_refusal (party_of who call).count (party_of who call).bodies (length_of_half call.out))
     1
+
+-- one for each: 0, or the number of its refusal
+pub record Refusals : Type 0 where
+  pub first : ℕ
+  pub second : ℕ
+
+abbrev pub told_seen : Told → Refusals
+told_seen told = record { first = verdict told.first; second = verdict told.second }
 
 abbrev pub call_refusals : Call → Refusals
 call_refusals call = record { first = refusal_for first call; second = refusal_for second call }

@@ -6,28 +6,25 @@ use mathlib.Core.List.{List, [], ◌∷◌}
 use Prim.Native.Nat.{ℕ, zero, suc, ◌+◌, ◌*◌, ◌-◌, ◌/◌, ◌%◌, ◌≤◌, ◌<◌}
 use native.Mathlib.Nat.{div-add-mod'}
 use native.Mathlib.Omega.{arith}
-use lib.Dec.{ltb, eqb}
-use lib.IntN.{ℤ, pos, nat_abs, ◌+ℤ◌, ◌-ℤ◌}
+use lib.Dec.{ltb}
+use lib.IntN.{pos, ◌+ℤ◌}
 use lib.ListN.{length, get_or, get_or-eq_default}
 use borrow.Author.Tests.{ltb-true, eqb-true}
 use Rattle.base.specs.Choose.{choose}
-use Rattle.base.specs.Every.{every}
 use Rattle.base.proofs.Every.{both, every-at}
 use Rattle.window.specs.declared.Pos.{Pos}
 use Rattle.window.specs.declared.Sizes.{Sizes}
 use Rattle.window.specs.declared.Window.{Window}
-use Rattle.window.specs.Window.{within, sizes_fit}
+use Rattle.window.specs.Window.{sizes_fit}
 use Rattle.window.specs.Look.{look_at}
 use Rattle.ranges.specs.declared.Range.{Range}
 use Rattle.ranges.specs.Ranges.{on_from, place_at}
 use Rattle.group_words.specs.declared.Group.{Group}
-use Rattle.groups.specs.declared.Layout.{Layout}
-use Rattle.groups.specs.Groups.{groups_on, group_count, group_index, group_at, cut, cell_at, is_empty, is_empty_line, is_empty_layer, is_empty_group, group_word}
-use Rattle.groups.specs.Summary.{words_before, has_summary}
-use Rattle.groups.specs.Places.{layout_of, offset_in, place_in}
+use Rattle.groups.specs.Groups.{groups_on, group_index, cut, cell_at, is_empty, is_empty_line, is_empty_layer, is_empty_group, group_word}
+use Rattle.groups.specs.Summary.{words_before}
+use Rattle.groups.specs.Places.{Laid, layout_of, offset_in}
 use Rattle.groups.proofs.Sets.{Kept, has, of_four, at-index, index-under}
-use Rattle.passing.specs.declared.Reach.{Reach}
-use Rattle.passing.specs.Passing.{first_column, last_column, spans, reach_between, nowhere, reach_of, reach_in, row_marked, all_marked, passes_by, passes}
+use Rattle.passing.specs.Passing.{Reached, first_column, last_column, spans, reach_between, nowhere, reach_of, reach_in, row_marked, all_marked, passes_by, passes}
 use Rattle.passing.proofs.Spans.{Between, in-range, alone}
 
 -- ---- what a reach that is on says
@@ -46,15 +43,11 @@ pub reach-is : (w : Window) (r : Range) → reaches w r ≡ true → reach_of w 
 unfolding reach_of choose
 reach-is w r h = rw h
 
-pub reach-not : (w : Window) (r : Range) → reaches w r ≡ false → reach_of w r ≡ nowhere
-unfolding reach_of choose
-reach-not w r h = rw h
-
 pub layout-fits : (s : Sizes) → (layout_of s).fits ≡ true → sizes_fit s ≡ true
 unfolding layout_of choose
 layout-fits s h = go (sizes_fit s) h
   where
-    go : (t : Bool) → (choose {A = Layout} t record { fits = true; before = words_before s; across = groups_on s.x; deep = groups_on s.z } record { fits = false; before = 0; across = 0; deep = 0 }).fits ≡ true → t ≡ true
+    go : (t : Bool) → (choose {A = Laid} t record { fits = true; before = words_before s; across = groups_on s.x; deep = groups_on s.z } record { fits = false; before = 0; across = 0; deep = 0 }).fits ≡ true → t ≡ true
     go true h = refl
     go false h = absurd (false≢true h)
 
@@ -139,13 +132,13 @@ module _ (words : List ℕ) (w : Window) (r : Range) (y : ℕ) (over : passes wo
   fit = layout-fits s (both (layout_of s).fits (spans s (first_column w r) (last_column w r)) reached).one
 
   full : reach_of w r ≡ reach_between record { fits = true; before = words_before s; across = groups_on s.x; deep = groups_on s.z } (first_column w r) (last_column w r)
-  full = reach-is w r reached ∙ ap (λ (l : Layout). reach_between l (first_column w r) (last_column w r)) (layout_is s fit)
+  full = reach-is w r reached ∙ ap (λ (l : Laid). reach_between l (first_column w r) (last_column w r)) (layout_is s fit)
 
   all : all_marked words (reach_between record { fits = true; before = words_before s; across = groups_on s.x; deep = groups_on s.z } (first_column w r) (last_column w r)) up ≡ true
   unfolding passes_by
   all =
       let p = both ((reach_of w r).on && ltb up s.y) (all_marked words (reach_of w r) up) e in
-      ap (λ (k : Reach). all_marked words k up) (sym full) ∙ p.two
+      ap (λ (k : Reached). all_marked words k up) (sym full) ∙ p.two
 
   -- the four ends
   ends : spans s (first_column w r) (last_column w r) ≡ true

@@ -3,23 +3,19 @@
 use mathlib.Core.Path.{◌≡◌, refl, sym, ap, ◌∙◌}
 use mathlib.Core.Bool.{Bool, true, false}
 use mathlib.Core.List.{List}
-use Prim.Native.Nat.{ℕ, ◌+◌, ◌*◌, ◌-◌, ◌/◌, ◌%◌, ◌≤◌, ◌<◌, min}
+use Prim.Native.Nat.{ℕ, ◌+◌, ◌*◌, ◌-◌, ◌/◌, ◌%◌, ◌<◌, min}
 use native.Mathlib.Omega.{arith}
 use lib.Dec.{ltb}
-use borrow.Author.Tests.{lt-ltb, le-ltb, ltb-true}
+use borrow.Author.Tests.{lt-ltb, ltb-true}
 use Rattle.base.specs.Choose.{choose}
 use Rattle.base.specs.Every.{every}
 use Rattle.window.specs.declared.Window.{Window}
 use Rattle.ranges.specs.declared.Range.{Range}
-use Rattle.ranges.specs.Ranges.{place_at}
-use Rattle.groups.specs.declared.Place.{Place}
-use Rattle.groups.specs.Places.{place_in}
-use Rattle.passing.specs.declared.Reach.{Reach}
 use Rattle.passing.specs.declared.Stretch.{Stretch}
-use Rattle.passing.specs.Passing.{row_marked, all_marked, height_of, passes_by, lines_by, stretch_end, stretch_at, Tells}
+use Rattle.passing.specs.Passing.{Reached, row_marked, all_marked, height_of, passes_by, lines_by, stretch_end, stretch_at, Tells}
 use Rattle.passing.proofs.Spans.{on-from}
 
-module _ (words : List ℕ) (w : Window) (r : Range) (k : Reach) where
+module _ (words : List ℕ) (w : Window) (r : Range) (k : Reached) where
   abbrev up : ℕ → ℕ
   up y = height_of w r y
 
@@ -80,22 +76,3 @@ module _ (words : List ℕ) (w : Window) (r : Range) (k : Reach) where
         go : (t : Bool) → ltb y last.until ≡ t → (choose t last record { until = stretch_end w r k y; lines = lines_by words w r k y }).lines ≡ lines_by words w r k y
         go true f = known.tells y (omega arith) (ltb-true y last.until f)
         go false f = refl
-
-  -- ---- what the program answers where nothing is known of a layer yet, test by test; t is where the layer's first cell lies
-  module _ (y : ℕ) (last : Stretch) (new : last.until ≤ y) where
-    pub off : k.on ≡ false → record { until = 4294967296; lines = r.x.count } ≡ stretch_at words w r k y last
-    unfolding stretch_at passes_by choose
-    off e = rw (le-ltb y last.until new, e)
-
-    module _ (on : k.on ≡ true) (t : Place) (e : t ≡ place_in w (place_at r 0 y 0)) where
-      is_up : t.y ≡ up y
-      is_up i = (e i).y
-
-      pub outside : w.sizes.y ≤ t.y → record { until = 0; lines = r.x.count } ≡ stretch_at words w r k y last
-      unfolding stretch_at passes_by choose
-      outside h = rw (le-ltb y last.until new, on, ← is_up, le-ltb t.y w.sizes.y h)
-
-      pub inside : t.y < w.sizes.y → (n : ℕ) → n ≡ min (4 - t.y % 4) (w.sizes.y - t.y) → (v : Bool) → v ≡ all_marked words k t.y
-          → record { until = y + n; lines = choose v 0 r.x.count } ≡ stretch_at words w r k y last
-      unfolding stretch_at passes_by choose
-      inside h n en v ev = rw (le-ltb y last.until new, ← is_up, lt-ltb t.y w.sizes.y h, en, ← ev, on)

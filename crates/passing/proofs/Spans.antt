@@ -1,9 +1,9 @@
 -- The cells of a range between two that lie in the window lie in it too, in the groups between theirs. Assumes nothing.
 use mathlib.Core.Path.{◌≡◌, refl, sym, ap, ◌∙◌, subst}
-use mathlib.Core.Bool.{Bool, true, false, ◌&&◌, true≢false, false≢true}
-use Prim.Native.Nat.{ℕ, ◌+◌, ◌-◌, ◌/◌, ◌≤◌, ◌<◌}
+use mathlib.Core.Bool.{Bool, true, false, true≢false, false≢true}
+use Prim.Native.Nat.{ℕ, ◌+◌, ◌-◌, ◌≤◌, ◌<◌}
 use native.Mathlib.Omega.{arith}
-use lib.Dec.{leb, ltb}
+use lib.Dec.{ltb}
 use lib.IntN.{ℤ, pos, negsuc, nat_abs, ◌+ℤ◌, ◌-ℤ◌, neg_ℤ, +ℤ_assoc, +ℤ_comm, +ℤ_idr, +ℤ-neg_ℤ_cancel, -ℤ-+ℤ_cancel}
 use lib.Signed.{le_z, lt_z}
 use borrow.Author.Tests.{leb-true, leb-false, le-leb, ltb-true, lt-ltb}
@@ -11,7 +11,7 @@ use Rattle.base.specs.Choose.{choose}
 use Rattle.base.proofs.Every.{both, and-true}
 use Rattle.window.specs.Window.{within}
 use Rattle.window.proofs.Order.{lt-moved, le-moved}
-use Rattle.window.proofs.Offsets.{Ahead, ahead}
+use Rattle.window.proofs.Offsets.{ahead}
 use Rattle.groups.specs.Places.{offset_in}
 use Rattle.ranges.specs.Ranges.{on_from}
 

@@ -14,10 +14,9 @@ use Rattle.boxes.specs.declared.Vec3.{Vec3}
 use Rattle.boxes.specs.declared.Aabb.{Aabb}
 use Rattle.boxes.specs.Limits.{is_step, is_box, is_delta, are_boxes}
 use Rattle.sweeps.specs.declared.BoxList.{BoxList}
-use Rattle.sweeps.specs.declared.MoveAnswer.{MoveAnswer}
 use Rattle.sweeps.specs.Lists.{Held, is_cap, cap_of, list_of}
 use Rattle.sweeps.specs.Move.{move_over}
-use Rattle.sweeps.specs.Entry.{answer_of, move_over_list}
+use Rattle.sweeps.specs.Entry.{MoveAnswer, answer_of, move_over_list}
 use Rattle.window.specs.declared.Window.{Window}
 use Rattle.window.specs.Look.{look_at}
 use Rattle.lent.specs.Lent.{direct_refusal}

@@ -36,10 +36,10 @@ use Rattle.samples.specs.Samples.{supporting_friction, living_sample, living_sup
 use Rattle.through.specs.Through.{move_aabb}
 use Rattle.step_answers.specs.declared.Tick.{Tick}
 use Rattle.ticks.specs.Step.{tick_after, after_move, move_on_by, tick_begins, senses, step_body_by, step_body_sensed}
-use Rattle.step_answers.specs.declared.StepAnswer.{StepAnswer}
+use Rattle.step_answers.specs.Records.{StepAnswer}
 use Rattle.step.specs.Answers.{step_answer, fitting, checked_asked, step_entry, summed_asked, step_summed}
 use Rattle.fall_rule.specs.declared.Fall.{Fall}
-use Rattle.step_answers.specs.declared.FallingAnswer.{FallingAnswer}
+use Rattle.step_answers.specs.Records.{FallingAnswer}
 use Rattle.fall_rule.specs.Rule.{fall_fits}
 use Rattle.falls.specs.Answers.{with_fall, falling_entry, falling_summed}
 use Rattle.raised.specs.Raised.{Raised, Alters6}

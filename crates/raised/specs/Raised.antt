@@ -4,19 +4,18 @@ use Rattle.std.specs.Prelude.{◌≡◌, Bool, true, ◌⊎◌, List, ℕ, ◌�
 use Rattle.boxes.specs.declared.Vec3.{Vec3}
 use Rattle.boxes.specs.declared.Aabb.{Aabb}
 use Rattle.sweeps.specs.declared.BoxList.{BoxList}
-use Rattle.sweeps.specs.declared.MoveAnswer.{MoveAnswer}
 use Rattle.sweeps.specs.Lists.{Held, is_cap, cap_of}
-use Rattle.sweeps.specs.Entry.{move_over_list}
+use Rattle.sweeps.specs.Entry.{MoveAnswer, move_over_list}
 use Rattle.window.specs.declared.Window.{Window}
 use Rattle.bodies.specs.declared.BodyNumbers.{BodyNumbers}
 use Rattle.bodies.specs.declared.MotionNumbers.{MotionNumbers}
 use Rattle.bodies.specs.declared.Rules.{Rules}
 use Rattle.bodies.specs.Body.{with_cap}
 use Rattle.moves.specs.Answers.{collect_entry, move_entry, move_summed}
-use Rattle.step_answers.specs.declared.StepAnswer.{StepAnswer}
+use Rattle.step_answers.specs.Records.{StepAnswer}
 use Rattle.step.specs.Answers.{step_entry, step_summed}
 use Rattle.fall_rule.specs.declared.Fall.{Fall}
-use Rattle.step_answers.specs.declared.FallingAnswer.{FallingAnswer}
+use Rattle.step_answers.specs.Records.{FallingAnswer}
 use Rattle.falls.specs.Answers.{falling_entry, falling_summed}
 
 -- two caps, of which the second in force is not below the first

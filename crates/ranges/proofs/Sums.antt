@@ -1,43 +1,29 @@
 -- Signed numbers: what `span` and `on` work out in i64 fits, and is what their definitions say. Assumes nothing.
-use mathlib.Core.Path.{◌≡◌, refl, sym, ap, subst, ◌∙◌}
-use mathlib.Core.Bool.{Bool, true, false, cond, false≢true, true≢false}
-use Prim.Native.Nat.{ℕ, zero, suc, ◌+◌, ◌-◌, ◌≤◌, ◌<◌, ◌^◌, min}
+use mathlib.Core.Path.{◌≡◌, refl, ap, ◌∙◌}
+use mathlib.Core.Bool.{Bool, true, false, cond, true≢false}
+use Prim.Native.Nat.{ℕ, suc, ◌+◌, ◌-◌, ◌<◌, ◌^◌, min}
 use native.Mathlib.Omega.{arith}
-use lib.Dec.{T, ltb, leb, lit<}
-use lib.IntN.{ℤ, pos, negsuc, neg_ℤ, nat_abs, sub_ℕ, ◌+ℤ◌, ◌-ℤ◌}
+use lib.Dec.{T, ltb, lit<}
+use lib.IntN.{ℤ, pos, negsuc, neg_ℤ, nat_abs, ◌+ℤ◌, ◌-ℤ◌}
 use lib.Ieee.{Float}
 use lib.Signed.{mag, lt_z, le_z, non_neg}
 use mir.Syntax.{w32, w64}
 use mir.Val.{SFits, Fits, to_z, of_z}
 use mir.ValLaws.{to_z-of_z, to_z_pos}
 use borrow.Author.Tests.{ltb-true, ltb-false, leb-true}
-use Rattle.base.specs.Choose.{choose}
 use Rattle.wholes.specs.Whole.{cell_of}
 use Rattle.wholes.proofs.Cells.{cell-reach}
 use Rattle.window.proofs.Signs.{mag-add, mag-neg, widens32, wide, wide_is}
 use Rattle.ranges.specs.declared.Axis.{Axis}
-use Rattle.ranges.specs.Ranges.{or_zero, span_of, on_from}
+use Rattle.ranges.specs.Ranges.{or_zero, span_of}
 
 -- ---- b - a + 1
-pub record Spanned (a b : ℤ) : Type 0 where
-  pub difference : SFits w64 (wide w32 b -ℤ wide w32 a)
-  pub more : SFits w64 (to_z w64 (of_z w64 (wide w32 b -ℤ wide w32 a)) +ℤ pos 1)
-  pub value : to_z w64 (of_z w64 (to_z w64 (of_z w64 (wide w32 b -ℤ wide w32 a)) +ℤ pos 1)) ≡ b -ℤ a +ℤ pos 1
-
-pub spanned : (a b : ℤ) → SFits w32 a → SFits w32 b → Spanned a b
+pub spanned : (a b : ℤ) → SFits w32 a → SFits w32 b → to_z w64 (of_z w64 (to_z w64 (of_z w64 (wide w32 b -ℤ wide w32 a)) +ℤ pos 1)) ≡ b -ℤ a +ℤ pos 1
 spanned a b f g =
     let m : mag (b -ℤ a) < 2 ^ 31 + (2 ^ 31 + 1) = mag-add b (neg_ℤ a) (2 ^ 31) (2 ^ 31 + 1) g.sfits (mag-neg a (2 ^ 31) f.sfits) in
     let n : mag (b -ℤ a +ℤ pos 1) < 2 ^ 31 + (2 ^ 31 + 1) + 2 = mag-add (b -ℤ a) (pos 1) (2 ^ 31 + (2 ^ 31 + 1)) 2 m (lit< tt) in
-    let d : SFits w64 (b -ℤ a) = record { sfits = omega arith } in
-    let s : SFits w64 (b -ℤ a +ℤ pos 1) = record { sfits = omega arith } in
-    let wa = wide_is w32 a f (widens32 f) in
-    let wb = wide_is w32 b g (widens32 g) in
-    let e = to_z-of_z w64 (b -ℤ a) d in
-    record {
-      difference = rw (wa, wb) d;
-      more = rw (wa, wb, e) s;
-      value = rw (wa, wb, e, to_z-of_z w64 (b -ℤ a +ℤ pos 1) s);
-    }
+    rw (wide_is w32 a f (widens32 f), wide_is w32 b g (widens32 g), to_z-of_z w64 (b -ℤ a) record { sfits = omega arith })
+    (to_z-of_z w64 (b -ℤ a +ℤ pos 1) record { sfits = omega arith })
 
 -- the three answers of `span`, for z = b - a + 1
 pub none_left : (z : ℤ) → lt_z z (pos 0) ≡ true → 0 ≡ min (or_zero z) 4294967295
@@ -57,18 +43,12 @@ counted-most (pos k) l = let g = ltb-false k 4294967295 l in omega arith
 counted-most (negsuc k) l = absurd (true≢false l)
 
 -- ---- a + n
-pub record Summed (a : ℤ) (n : ℕ) : Type 0 where
-  pub sum : SFits w64 (wide w32 a +ℤ to_z w64 n)
-  pub value : to_z w64 (of_z w64 (wide w32 a +ℤ to_z w64 n)) ≡ a +ℤ pos n
-
-pub summed : (a : ℤ) (n : ℕ) → SFits w32 a → Fits w32 n → Summed a n
+pub summed : (a : ℤ) (n : ℕ) → SFits w32 a → Fits w32 n → to_z w64 (of_z w64 (wide w32 a +ℤ to_z w64 n)) ≡ a +ℤ pos n
 summed a n f g =
     let l : n < 2 ^ 32 = g.fits in
     let m : mag (a +ℤ pos n) < 2 ^ 31 + 2 ^ 32 = mag-add a (pos n) (2 ^ 31) (2 ^ 32) f.sfits l in
-    let s : SFits w64 (a +ℤ pos n) = record { sfits = omega arith } in
-    let wa = wide_is w32 a f (widens32 f) in
-    let wn = to_z_pos w64 n (omega arith) in
-    record { sum = rw (wa, wn) s; value = rw (wa, wn, to_z-of_z w64 (a +ℤ pos n) s) }
+    rw (wide_is w32 a f (widens32 f), to_z_pos w64 n (omega arith))
+    (to_z-of_z w64 (a +ℤ pos n) record { sfits = omega arith })
 
 -- a sum below the reach fits an i32: it is not above 2 ^ 26, and not below a
 pub sum_fits : (a : ℤ) (n : ℕ) → SFits w32 a → le_z (a +ℤ pos n) (pos 67108864) ≡ true → SFits w32 (a +ℤ pos n)
@@ -98,14 +78,6 @@ below-sum x r e = rw (cell-read x r e) (below-fits x)
 pub below-read : (x : Float) (r : ℤ) → r ≡ cell_of x → to_z w32 (of_z w32 (to_z w32 (of_z w32 r) -ℤ pos 1)) ≡ cell_of x -ℤ pos 1
 below-read x r e = rw (cell-read x r e, to_z-of_z w32 (cell_of x -ℤ pos 1) (below-fits x))
 
--- ---- an index below a count fits
-pub next_fits : (i n : ℕ) (b : Bool) → Fits w32 n → b ≡ ltb (i + 1) n → b ≡ true → Fits w32 (i + 1)
-next_fits i n b f e t = let l = ltb-true (i + 1) n (sym e ∙ t) in let g = f.fits in record { fits = omega arith }
-
 -- ---- an axis from what the calls answered
 pub axis : (f g : ℤ) (n : ℕ) (a b p q : ℤ) → f ≡ g → n ≡ span_of a b → a ≡ p → b ≡ q → ◌≡◌ {A = Axis} record { first = f; count = n } record { first = g; count = span_of p q }
 axis f g n a b p q e s u v = λ i. record { first = e i; count = (s ∙ ap (λ (z : ℤ). span_of z b) u ∙ ap (λ (z : ℤ). span_of p z) v) i }
-
--- ---- a coordinate from what `on` answered, where `first` was read as an i32 holds it
-pub coordinate : (r a : ℤ) (n : ℕ) → mag r < 2 ^ 31 → mag a < 2 ^ 31 → r ≡ on_from (to_z w32 (of_z w32 a)) n → to_z w32 (of_z w32 r) ≡ on_from a n
-coordinate r a n f g e = to_z-of_z w32 r record { sfits = f } ∙ e ∙ ap (λ (z : ℤ). on_from z n) (to_z-of_z w32 a record { sfits = g })

@@ -1,5 +1,5 @@
 -- The cells that lie between two coordinates, on one axis and on three.
-use Rattle.std.specs.Prelude.{ℕ, ◌+◌, min, Bool, ltb, eqb, ℤ, pos, negsuc, ◌+ℤ◌, ◌-ℤ◌, Float}
+use Rattle.std.specs.Prelude.{ℕ, ◌+◌, min, ltb, eqb, ℤ, pos, negsuc, ◌+ℤ◌, ◌-ℤ◌, Float}
 use Rattle.std.specs.Int.Signed.{le_z}
 use Rattle.base.specs.Choose.{choose}
 use Rattle.wholes.specs.Whole.{cell_of}

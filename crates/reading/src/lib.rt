@@ -15,6 +15,7 @@ pub fn read_full<R: Read>(from: &mut R, room: &mut [u8]) -> io::Result<usize>
     ensures end { IfOk result (λ n. n < length room.new → IsAtEnd (R.remaining from.new)) }
 {
     let mut done = 0;
+    // by hand: a read may give less than was asked for, and of `read_exact` nothing is known where the input is shorter than the room
     while done < room.len() {
         let n = from.read(&mut room[done..])?;
         if n == 0 {

@@ -4,19 +4,23 @@
 ghost use Rattle.std.specs.Prelude.{◌≡◌, length};
 ghost use Rattle.window.specs.Numbers.{window_of};
 ghost use Rattle.files.specs.Contents.{contents_of};
-ghost use Rattle.writer.specs.Written.{written_scene, scene_answer, written_checked, checked_answer};
+ghost use Rattle.writer.specs.Written.{bytes_told, written_scene, scene_answer, written_checked, checked_answer};
 ghost use Rattle.log_writer.specs.Written.{written_log, log_answer};
 ghost use Rattle.recorder.specs.Answers.{bytes_or_refusal};
 
-use writer::Written;
+use base::Refusal;
+use tables::Tables;
+use window::View;
 
-fn bytes_or_refusal(a: Written) -> u64
-    ensures { result ≡ bytes_or_refusal a }
+// How many bytes were written, or the number of the refusal.
+#[tactic(auto, using(base::proofs::Cases::cases), unfolding(base::specs::Choose::choose))]
+fn bytes_or_refusal(answer: Result<usize, Refusal>) -> u64
+    ensures { result ≡ bytes_or_refusal (bytes_told answer) }
 {
-    if a.refusal == 0 {
-        return a.bytes as u64;
+    match answer {
+        Ok(bytes) => bytes as u64,
+        Err(refusal) => u64::from(refusal.number()),
     }
-    a.refusal as u64
 }
 
 // A scene of a body among these tables and cells, into `out`. `numbers` and `words` are a body's, as the step takes them. It returns how many bytes it
@@ -43,9 +47,12 @@ pub extern "C" fn boltjuniper_write_scene(
     ensures value { result ≡ bytes_or_refusal (scene_answer (length out.old) (contents_of records.now shapes.now cells.now (window_of ox oy oz sx sy sz lowest highest 0) numbers.now words.now age)) }
     ensures out_after { out.new ≡ written_scene out.old (contents_of records.now shapes.now cells.now (window_of ox oy oz sx sy sz lowest highest 0) numbers.now words.now age) }
 {
-    let w = window::window_of(ox, oy, oz, sx, sy, sz, lowest, highest, 0);
-    let a = writer::write_scene(records, shapes, cells, w, numbers, words, age, out);
-    bytes_or_refusal(a)
+    let tables = Tables { records, shapes };
+    let view = View {
+        words: cells,
+        window: window::window_of(ox, oy, oz, sx, sy, sz, lowest, highest, 0),
+    };
+    bytes_or_refusal(writer::write_scene(tables, view, numbers, words, age, out))
 }
 
 // The same for contents that were looked at before, as by a step: it looks for none of 1 to 4.
@@ -70,9 +77,12 @@ pub extern "C" fn boltjuniper_write_checked(
     ensures value { result ≡ bytes_or_refusal (checked_answer (length out.old) (contents_of records.now shapes.now cells.now (window_of ox oy oz sx sy sz lowest highest 0) numbers.now words.now age)) }
     ensures out_after { out.new ≡ written_checked out.old (contents_of records.now shapes.now cells.now (window_of ox oy oz sx sy sz lowest highest 0) numbers.now words.now age) }
 {
-    let w = window::window_of(ox, oy, oz, sx, sy, sz, lowest, highest, 0);
-    let a = writer::write_checked(records, shapes, cells, w, numbers, words, age, out);
-    bytes_or_refusal(a)
+    let tables = Tables { records, shapes };
+    let view = View {
+        words: cells,
+        window: window::window_of(ox, oy, oz, sx, sy, sz, lowest, highest, 0),
+    };
+    bytes_or_refusal(writer::write_checked(tables, view, numbers, words, age, out))
 }
 
 // The log of a minute behind the scene that `out` begins with, as one of the two above wrote it. `events` are four words each, in their order: 1 and three
@@ -84,6 +94,5 @@ pub extern "C" fn boltjuniper_write_log(events: &[u32], out: &mut [u8]) -> u64
     ensures value { result ≡ bytes_or_refusal (log_answer out.old events.now) }
     ensures out_after { out.new ≡ written_log out.old events.now }
 {
-    let a = log_writer::write_log(events, out);
-    bytes_or_refusal(a)
+    bytes_or_refusal(log_writer::write_log(events, out))
 }

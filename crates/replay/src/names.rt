@@ -1,37 +1,25 @@
 // Identifiers: `ident ID wall fence`, and `post ID wall fence hanging torch wallpost open direction`, where 255 is absent.
-use idents::Properties;
+use crate::spelling::Line;
+use idents::{Post, Properties};
 use std::io;
 
-// The k-th word is 1: yes.
-fn flag(line: &[u8], k: usize) -> bool {
-    crate::spelling::number(line, k) == 1
+pub(crate) fn ident(rt: &impl Print, line: Line<'_>) -> io::Result<()> {
+    let connects = idents::connects_as(line.word(1).as_bytes(), line.flag(2), line.flag(3));
+    print!(rt; "{}", idents::connects_number(connects))
 }
 
-pub(crate) fn ident(rt: &impl Print, line: &[u8]) -> io::Result<()> {
-    let c = idents::connects_as(crate::spelling::word(line, 1), flag(line, 2), flag(line, 3));
-    crate::spelling::put_number(rt, idents::connects_number(c))
-}
-
-fn properties(line: &[u8]) -> Properties {
-    Properties {
-        wall_north: flag(line, 2),
-        fence_north: flag(line, 3),
-        hanging: crate::spelling::number(line, 4),
-        torch: crate::spelling::number(line, 5),
-        wall_post: crate::spelling::number(line, 6),
-        open: crate::spelling::number(line, 7),
-        direction: crate::spelling::number(line, 8),
-    }
-}
-
-pub(crate) fn post(rt: &impl Print, line: &[u8]) -> io::Result<()> {
-    let n = idents::post_number(idents::wall_post(
-        crate::spelling::word(line, 1),
-        properties(line),
-    ));
-    if n == 255 {
-        crate::spelling::put(rt, b"panics")
-    } else {
-        crate::spelling::put_number(rt, n)
+pub(crate) fn post(rt: &impl Print, line: Line<'_>) -> io::Result<()> {
+    let properties = Properties {
+        wall_north: line.flag(2),
+        fence_north: line.flag(3),
+        hanging: line.number(4),
+        torch: line.number(5),
+        wall_post: line.number(6),
+        open: line.number(7),
+        direction: line.number(8),
+    };
+    match idents::wall_post(line.word(1).as_bytes(), properties) {
+        Post::BadDirection => print!(rt; "panics"),
+        post => print!(rt; "{}", idents::post_number(post)),
     }
 }

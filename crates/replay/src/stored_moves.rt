@@ -1,73 +1,48 @@
 // The move over a list: `movelist box6 delta3 step ground n box6*n`, under the cap of 128 that the original's answers were made with.
-ghost use Rattle.std.specs.Prelude.{◌≤◌};
-ghost use Rattle.sweeps.specs.Lists.{room};
-
+use crate::spelling::{Line, VectorBits};
 use boxes::{Aabb, Vec3};
 use std::io;
-use sweeps::{BoxList, MoveAnswer};
+use sweeps::{BoxList, MoveResult, ROOM, Request};
 
-// The vector whose three numbers begin at the k-th word.
-fn vec3(line: &[u8], k: usize) -> Vec3 {
-    let x = crate::spelling::float(line, k);
-    let y = crate::spelling::float(line, crate::spelling::sum(k, 1));
-    let z = crate::spelling::float(line, crate::spelling::sum(k, 2));
-    Vec3 { x, y, z }
-}
-
-fn aabb(line: &[u8], k: usize) -> Aabb {
-    let min = vec3(line, k);
-    let max = vec3(line, crate::spelling::sum(k, 3));
-    Aabb { min, max }
-}
-
-// How many boxes a list has room for, of those that a line has.
-fn held(count: usize) -> usize
-    ensures { result ≤ room }
-{
-    sweeps::counted(count)
+// The box whose six numbers begin at the k-th word.
+fn aabb(line: Line<'_>, k: usize) -> Aabb {
+    let [x0, y0, z0, x1, y1, z1] = line.floats::<6>(k);
+    Aabb::new(Vec3::new(x0, y0, z0), Vec3::new(x1, y1, z1))
 }
 
 // The list with its count as the line has it, also where that is above its room.
-fn list(line: &[u8]) -> BoxList {
-    let count = crate::spelling::number(line, 12) as usize;
-    let n = held(count);
+fn list(line: Line<'_>) -> BoxList {
     let mut list = BoxList::new();
-    for i in 0..n {
+    list.count = line.number(12) as usize;
+    for i in 0..list.count.min(ROOM) {
         list.boxes[i] = aabb(line, 13 + i * 6);
     }
-    list.count = count;
     list
 }
 
-fn answer(line: &[u8]) -> MoveAnswer {
-    let mover = aabb(line, 1);
-    let delta = vec3(line, 7);
-    let step = crate::spelling::float(line, 10);
-    let grounded = crate::spelling::number(line, 11) == 1;
-    list_moves::move_over_list(128, list(line), mover, delta, step, grounded)
-}
-
-fn put_vec3(rt: &impl Print, v: Vec3) -> io::Result<()> {
-    crate::spelling::put(rt, b" ")?;
-    crate::spelling::put_float(rt, v.x)?;
-    crate::spelling::put(rt, b" ")?;
-    crate::spelling::put_float(rt, v.y)?;
-    crate::spelling::put(rt, b" ")?;
-    crate::spelling::put_float(rt, v.z)
-}
-
-pub(crate) fn run(rt: &impl Print, line: &[u8]) -> io::Result<()> {
-    let a = answer(line);
-    crate::spelling::put_refusal(rt, a.refusal)?;
-    crate::spelling::put(rt, b"box")?;
-    put_vec3(rt, a.result.aabb.min)?;
-    put_vec3(rt, a.result.aabb.max)?;
-    crate::spelling::put(rt, b" moved")?;
-    put_vec3(rt, a.result.moved)?;
-    crate::spelling::put(rt, b" ground ")?;
-    if a.result.on_ground {
-        crate::spelling::put(rt, b"1")
-    } else {
-        crate::spelling::put(rt, b"0")
-    }
+// Behind a refusal stands what a refused move comes to: the box as it was, moved by nothing.
+pub(crate) fn run(rt: &impl Print, line: Line<'_>) -> io::Result<()> {
+    let [x, y, z, step] = line.floats::<4>(7);
+    let request = Request {
+        aabb: aabb(line, 1),
+        delta: Vec3::new(x, y, z),
+        step,
+        on_ground: line.flag(11),
+    };
+    let moved = match list_moves::move_over_list(128, list(line), request) {
+        Ok(moved) => moved,
+        Err(refusal) => {
+            print!(rt; "{refusal} ")?;
+            MoveResult {
+                aabb: request.aabb,
+                moved: Vec3::new(0.0, 0.0, 0.0),
+                on_ground: false,
+            }
+        }
+    };
+    let min = VectorBits(moved.aabb.min);
+    let max = VectorBits(moved.aabb.max);
+    let way = VectorBits(moved.moved);
+    let on_ground = u8::from(moved.on_ground);
+    print!(rt; "box {min} {max} moved {way} ground {on_ground}")
 }

@@ -32,47 +32,52 @@ pub all-bits : (m r k : ℕ) → k ≤ 0 → Bits m r k → IsRoot m r
 all-bits m r zero h b = (b.low, b.high)
 all-bits m r (suc k) h b = omega arith
 
--- r with the next bit, k - 1, as the code has it
+-- r with bit j, as the code has it
 abbrev pub with_bit : ℕ → ℕ → ℕ
-with_bit r k = r + 1 * 2 ^ (k - 1) % 2 ^ 64
+with_bit r j = r + 1 * 2 ^ j % 2 ^ 64
 
-record Halved (r k : ℕ) : Type 0 where
-  bit : with_bit r k ≡ r + 2 ^ (k - 1)
-  twice : 2 ^ k ≡ 2 ^ (k - 1) + 2 ^ (k - 1)
-  some : 0 < 2 ^ (k - 1)
+record Halved (r j : ℕ) : Type 0 where
+  bit : with_bit r j ≡ r + 2 ^ j
+  twice : 2 ^ suc j ≡ 2 ^ j + 2 ^ j
+  some : 0 < 2 ^ j
 
-halved : (r k : ℕ) → 0 < k → k ≤ 32 → Halved r k
-halved r zero h l = omega arith
-halved r (suc k) h l =
-    let e : suc k - 1 ≡ k = omega arith in
-    let j : k < 64 = omega arith in
-    let p : 2 ^ k < 2 ^ 64 = pow-lt j in
-    let d : 2 ^ suc k ≡ 2 * 2 ^ k = pow-succ' 2 k in
-    let bit : r + 1 * 2 ^ k % 2 ^ 64 ≡ r + 2 ^ k = ap (λ (x : ℕ). r + x % 2 ^ 64) (one-mul (2 ^ k)) ∙ ap (λ (x : ℕ). r + x) (mod-eq_of_lt p) in
+halved : (r j : ℕ) → suc j ≤ 32 → Halved r j
+halved r j l =
+    let i : j < 64 = omega arith in
+    let p : 2 ^ j < 2 ^ 64 = pow-lt i in
+    let d : 2 ^ suc j ≡ 2 * 2 ^ j = pow-succ' 2 j in
     record {
-      bit = subst (λ (i : ℕ). r + 1 * 2 ^ i % 2 ^ 64 ≡ r + 2 ^ i) (sym e) bit;
-      twice = subst (λ (i : ℕ). 2 ^ suc k ≡ 2 ^ i + 2 ^ i) (sym e) (omega arith);
-      some = pow_pos (suc k - 1);
+      bit = ap (λ (x : ℕ). r + x % 2 ^ 64) (one-mul (2 ^ j)) ∙ ap (λ (x : ℕ). r + x) (mod-eq_of_lt p);
+      twice = omega arith;
+      some = pow_pos j;
     }
 
-module _ (m r k : ℕ) (K : 0 < k) (b : Bits m r k) where
-  pub bit-room : with_bit r k < 2 ^ 32
+-- a turn at bit j, after those at the bits from k on
+module _ (m r k j : ℕ) (J : k ≡ suc j) (before : Bits m r k) where
+  at : Bits m r (suc j)
+  at = subst (Bits m r) J before
+
+  pub bit-room : with_bit r j < 2 ^ 32
   bit-room =
-      let h = halved r k K b.few in
-      let l = b.room in
+      let h = halved r j at.few in
+      let l = at.room in
       omega arith
 
-  pub bit-set : with_bit r k * with_bit r k ≤ m → Bits m (with_bit r k) (k - 1)
-  bit-set l =
-      let h = halved r k K b.few in
-      let e : r + 2 ^ k ≡ with_bit r k + 2 ^ (k - 1) = omega arith in
-      record { low = l; high = subst (λ (x : ℕ). m < x * x) e b.high; room = subst (λ (x : ℕ). x ≤ 2 ^ 32) e b.room; few = let f = b.few in omega arith }
+  -- n is j, as the loop counts it afterwards
+  module _ (n : ℕ) (N : n ≡ j) where
+    pub bit-set : with_bit r j * with_bit r j ≤ m → Bits m (with_bit r j) n
+    bit-set l =
+        let h = halved r j at.few in
+        let e : r + 2 ^ suc j ≡ with_bit r j + 2 ^ j = omega arith in
+        subst (Bits m (with_bit r j)) (sym N)
+        record { low = l; high = subst (λ (x : ℕ). m < x * x) e at.high; room = subst (λ (x : ℕ). x ≤ 2 ^ 32) e at.room; few = let f = at.few in omega arith }
 
-  pub bit-clear : m < with_bit r k * with_bit r k → Bits m r (k - 1)
-  bit-clear l =
-      let h = halved r k K b.few in
-      let q = b.room in
-      record { low = b.low; high = subst (λ (x : ℕ). m < x * x) h.bit l; room = omega arith; few = let f = b.few in omega arith }
+    pub bit-clear : m < with_bit r j * with_bit r j → Bits m r n
+    bit-clear l =
+        let h = halved r j at.few in
+        let q = at.room in
+        subst (Bits m r) (sym N)
+        record { low = at.low; high = subst (λ (x : ℕ). m < x * x) h.bit l; room = omega arith; few = let f = at.few in omega arith }
 
 -- ---- multiples
 

@@ -1,6 +1,6 @@
 -- The value of the bit pattern that `sqrt` reads, in units of 2 ^ -1074. Assumes nothing.
 use mathlib.Core.Path.{◌≡◌, refl, sym, ap, subst, ◌∙◌}
-use Prim.Native.Nat.{ℕ, zero, suc, ◌+◌, ◌-◌, ◌*◌, ◌/◌, ◌%◌, ◌^◌, ◌<◌}
+use Prim.Native.Nat.{ℕ, zero, suc, ◌+◌, ◌*◌, ◌/◌, ◌%◌, ◌^◌, ◌<◌}
 use native.Mathlib.Nat.{mul-one, mod-eq_of_lt, mul-pos}
 use lib.Pow.{pow_pos}
 use lib.Ieee.Fits.{up_pos}

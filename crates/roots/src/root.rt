@@ -39,10 +39,8 @@ fn root_by_bits(m: u64) -> u64
     ensures { (result * result ≤ m) × (m < (result + 1) * (result + 1)) }
 {
     let mut r: u64 = 0;
-    let mut k: u64 = 32;
-    while k > 0 {
-        k -= 1;
-        let t = r + (1 << k);
+    for turn in 0..32u64 {
+        let t = r + (1 << (31 - turn));
         if t * t <= m {
             r = t;
         }

@@ -1,8 +1,7 @@
 -- No number of contents that pass 1 to 4 is a NaN, so that its bits are its own. Assumes nothing.
 use mathlib.Core.Bool.{Bool, true, false, not, ◌&&◌, false≢true}
-use mathlib.Core.List.{List}
-use mathlib.Core.Path.{◌≡◌, refl, sym, ap, subst, ◌∙◌}
-use Prim.Native.Nat.{ℕ, zero, suc, ◌+◌, ◌*◌, ◌/◌, ◌%◌, ◌<◌, ◌≤◌}
+use mathlib.Core.Path.{◌≡◌, refl, sym, subst}
+use Prim.Native.Nat.{ℕ, zero, suc, ◌+◌, ◌*◌, ◌/◌, ◌%◌, ◌<◌}
 use native.Mathlib.Omega.{arith}
 use lib.Dec.{T}
 use lib.Ieee.{Float, nan, inf, fin, is_nan, le, lt}
@@ -10,7 +9,7 @@ use lib.ListN.{length, get_or}
 use Rattle.base.specs.Choose.{choose}
 use Rattle.base.specs.Every.{every}
 use Rattle.base.proofs.Every.{both, every-at}
-use Rattle.floats.specs.Numbers.{zero64, is_finite, is_within_limit, size_of}
+use Rattle.floats.specs.Numbers.{zero64, is_within_limit}
 use Rattle.boxes.specs.declared.Vec3.{Vec3}
 use Rattle.boxes.specs.Limits.{two_to, are_within, is_step}
 use Rattle.cover.specs.Cover.{box_count, box_number}

@@ -6,38 +6,36 @@ use Prim.Native.Nat.{ℕ, zero, suc, ◌+◌, ◌-◌, ◌*◌, ◌/◌, ◌%◌
 use native.Mathlib.Decide.{dec_lt}
 use native.Mathlib.Omega.{arith}
 use lib.Dec.{T, eqb, leb, ltb}
-use lib.ListN.{length, get_or, take, drop}
+use lib.ListN.{length, get_or, drop}
 use lib.Seq.{ext_get_or, take_at, drop_at}
 use lib.Ieee.{Float, binary32, binary64, fits, of_bits, to_bits}
 use lib.Ieee.Bits.{of_bits-to_bits, to_bits-lt, of_bits-fits}
-use borrow.Author.Tests.{lt-ltb, le-ltb, le-leb, eq-eqb, eqb-true, leb-true}
+use borrow.Author.Tests.{lt-ltb, le-ltb, le-leb, eq-eqb, leb-true}
 use Rattle.base.specs.Choose.{choose}
 use Rattle.base.specs.Loop.{listed, stored}
 use Rattle.base.proofs.Every.{both}
 use Rattle.floats.specs.Numbers.{zero64}
 use Rattle.cover.specs.Cover.{box_count}
 use Rattle.table_check.specs.Check.{state_count}
-use Rattle.window.specs.declared.Sizes.{Sizes}
 use Rattle.window.specs.declared.Window.{Window}
-use Rattle.window.specs.Window.{cell_count, column_count, sizes_fit}
+use Rattle.window.specs.Window.{sizes_fit}
 use Rattle.window.specs.Numbers.{with_air}
-use Rattle.lent_words.specs.Words.{signed_word, unsigned_word, wide_of, low_of, high_of, window_from, window_words}
+use Rattle.lent_words.specs.Words.{low_of, high_of, window_words}
 use Rattle.lent_words.proofs.Rounds.{unsigned-fits, wide-halves, window-back}
-use Rattle.blocks.specs.declared.Part.{Part}
-use Rattle.blocks.specs.Blocks.{block_of, is_second, part_word, part_fits, end_of, body_part, record_part, box_part, window_part, cell_part}
+use Rattle.blocks.specs.Blocks.{is_second, part_word, body_part, record_part, box_part, window_part, cell_part}
 use Rattle.files.specs.declared.Counts.{Counts}
 use Rattle.files.specs.Places.{number_place, age_place, word_place, states_place, boxes_place, flap_number, present_word, air_word, cap_word}
-use Rattle.files.specs.Files.{body_word, flap_fits, window_in, sizes_in, counts_in, counts_fit, counts_of, parts_fit, blocks_for, blocks_fit, is_scene}
-use Rattle.files.specs.Contents.{Contents, body_float, numbers_in, late_word, late_words, body_age, words_of, singles_of, contents_behind, contents_in}
-use Rattle.part_writer.specs.Bytes.{part_bytes, word_in, bits_in}
+use Rattle.files.specs.Files.{body_word, flap_fits, window_in, sizes_in, counts_in, counts_fit, counts_of, parts_fit, blocks_fit, is_scene}
+use Rattle.files.specs.Contents.{Contents, body_float, late_word, body_age, words_of, singles_of, contents_in}
+use Rattle.part_writer.specs.Bytes.{word_in, bits_in}
 use Rattle.base.proofs.Listed.{listed-length, listed-from}
 use Rattle.base.proofs.Stored.{stored-front}
 use Rattle.part_writer.proofs.Parts.{Holds, holds-last, holds_more, holds-new, holds_fits, holds-word}
 use Rattle.writer.specs.Contents.{counts_for, is_absent, written_number, as_written}
-use Rattle.writer.specs.Written.{word_of_wide, body_word_of, bytes_by, scene_bytes, scene_blocks, room_for, room_refusal, refusal_of_contents, scene_refusal, written_unless, answer_by, written_scene, scene_answer}
+use Rattle.writer.specs.Written.{word_of_wide, body_word_of, bytes_by, scene_bytes, scene_blocks, room_refusal, refusal_of_contents, scene_refusal, written_unless, answer_by, written_scene, scene_answer}
 use Rattle.scene_room.proofs.Rooms.{room_fits}
 use Rattle.writer.proofs.Puts.{first, second, third, fourth, one-length, two-length, three-length, four-length, bytes-length}
-use Rattle.rounds.specs.Rounds.{Typed, file_of, ReadsBack, WrittenThenRead}
+use Rattle.rounds.specs.Rounds.{Typed, file_of, WrittenThenRead}
 use Rattle.writer.proofs.Refusals.{neither}
 use Rattle.rounds.proofs.Passed.{Passed, passed}
 

@@ -1,7 +1,7 @@
 -- What is told of a cell: air of the air state, also where the look-up reads it from the void; unloaded of a column that is not loaded, at every
 -- height; unregistered of a state that is neither the air state nor registered. Assumes nothing.
 use mathlib.Core.Path.{◌≡◌, refl}
-use mathlib.Core.Bool.{Bool, true, false}
+use mathlib.Core.Bool.{true, false}
 use mathlib.Core.List.{List}
 use Prim.Native.Nat.{ℕ}
 use lib.Dec.{eqb}

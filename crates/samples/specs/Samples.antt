@@ -4,7 +4,7 @@ use Rattle.std.specs.Prelude.{Bool, true, false, not, ◌&&◌, List, ℕ, eqb, 
 use Rattle.std.specs.Float.{binary64}
 use Rattle.std.specs.Float.Ieee.{sub}
 use Rattle.base.specs.Choose.{choose}
-use Rattle.base.specs.Ask.{Ask, refused, found, ◌>>=◌}
+use Rattle.base.specs.Ask.{Ask, found, ◌>>=◌}
 use Rattle.boxes.specs.declared.Vec3.{Vec3}
 use Rattle.boxes.specs.Boxes.{vec}
 use Rattle.tables.specs.declared.LiquidKind.{LiquidKind}
@@ -25,19 +25,6 @@ use Rattle.drags.specs.declared.Support.{Support}
 use Rattle.drags.specs.declared.Support.TheVariants.{Asked, NotAsked}
 use Rattle.drags.specs.Cases.{sample_or}
 use Rattle.drags.specs.Drags.{is_dry}
-use Rattle.samples.specs.declared.AskedSample.{AskedSample}
-use Rattle.samples.specs.declared.AskedSample.TheVariants as asked_sample
-use Rattle.samples.specs.declared.AskedSupport.{AskedSupport}
-use Rattle.samples.specs.declared.AskedSupport.TheVariants as asked_support
-
--- what the program's answers say
-abbrev pub sample_asked : AskedSample → Ask Sample
-sample_asked (asked_sample.Is s) = found s
-sample_asked (asked_sample.Refused n) = refused n
-
-abbrev pub support_asked : AskedSupport → Ask Support
-support_asked (asked_support.Is s) = found s
-support_asked (asked_support.Refused n) = refused n
 
 -- ---- supporting_friction
 

@@ -2,167 +2,136 @@
 #![tactic(auto)]
 
 ghost use Rattle.std.specs.Prelude.{◌≡◌};
-ghost use Rattle.window.specs.Look.{look_at, asked};
-ghost use Rattle.samples.specs.Samples.{sample_asked, support_asked, sample_of_state, sampled, supporting_friction, sample_cell, living_sample, told, living_support, ground_support, support_after};
+ghost use Rattle.base.specs.Refusals.{asked};
+ghost use Rattle.window.specs.Look.{block_there};
+ghost use Rattle.window.specs.Views.{look_in};
+ghost use Rattle.samples.specs.Samples.{sample_of_state, sample_of_block, supporting_friction, sample_cell, living_sample, living_support, ground_support, support_after};
 
-use bodies::{Body, Ground, Rules, is_falling_block, is_living};
+use base::Refusal;
+use bodies::{Body, Ground, Rules};
 use boxes::Vec3;
 use drags::{Sample, Support};
 use ranges::cell_holding;
-use tables::LiquidKind;
-use window::{Cell, CellStep, Pos, Window};
+use tables::{LiquidKind, Tables};
+use window::{CellStep, Pos, View};
 
-// A sample, or the number of a refusal.
-#[derive(Clone, Copy)]
-pub enum AskedSample {
-    Is(Sample),
-    Refused(u32),
-}
-
-// What a step tells of its sample, or the number of a refusal.
-#[derive(Clone, Copy)]
-pub enum AskedSupport {
-    Is(Support),
-    Refused(u32),
-}
-
-// The sample of a state: its friction where it is registered and not the air state.
-fn sample_of_state(records: &[u32], air: u32, id: u32) -> Sample
-    ensures { result ≡ sample_of_state records.now air id }
+/// The sample of a state: its friction where it is registered and not the air state.
+#[tactic(auto, using(base::proofs::Cases::cases), unfolding(crate::specs::Samples::sample_of_state, base::specs::Choose::choose))]
+fn sample_of_state(tables: Tables<'_>, air: u32, id: u32) -> Sample
+    ensures { result ≡ sample_of_state tables.entry.records.now air id }
 {
     if id == air {
-        return Sample::Air;
+        Sample::Air
+    } else if tables.is_registered(id) {
+        Sample::Friction(tables.friction(id))
+    } else {
+        Sample::Unregistered
     }
-    if tables::is_registered(records, id) {
-        return Sample::Friction(tables::friction(records, id));
-    }
-    Sample::Unregistered
 }
 
-fn sampled(records: &[u32], air: u32, cell: Cell) -> AskedSample
-    ensures { sample_asked result ≡ sampled records.now air (asked cell) }
+fn sampled(tables: Tables<'_>, air: u32, block: Option<u32>) -> Sample
+    ensures { result ≡ sample_of_block tables.entry.records.now air (block_there block) }
 {
-    match cell {
-        Cell::Outside => AskedSample::Refused(5),
-        Cell::Unloaded => AskedSample::Is(Sample::Unloaded),
-        Cell::State(id) => AskedSample::Is(sample_of_state(records, air, id)),
+    match block {
+        None => Sample::Unloaded,
+        Some(id) => sample_of_state(tables, air, id),
     }
 }
 
-// The sample of the block below the feet. It refuses 5 alone.
+/// The sample of the block below the feet. It refuses 5 alone.
+#[tactic(auto, unfolding(crate::specs::Samples::supporting_friction, crate::specs::Samples::sampled))]
 fn supporting_friction(
-    records: &[u32],
-    cells: &[u32],
-    w: Window,
+    tables: Tables<'_>,
+    view: View<'_>,
     rules: Rules,
     feet: Vec3,
-) -> AskedSample
-    ensures { sample_asked result ≡ supporting_friction (look_at cells.now w) records.now rules feet }
+) -> Result<Sample, Refusal>
+    ensures { asked result ≡ supporting_friction (look_in view.entry) tables.entry.records.now rules feet }
 {
-    let p = cell_holding(feet);
-    let below = window::look_by(cells, w, p, CellStep { x: 0, y: -1, z: 0 });
-    sampled(records, rules.air, below)
+    let below = view.look_by(cell_holding(feet), CellStep { x: 0, y: -1, z: 0 })?;
+    Ok(sampled(tables, rules.air, below))
 }
 
 fn sample_cell(rules: Rules, feet: Vec3) -> Pos
     ensures { result ≡ sample_cell rules feet }
 {
     cell_holding(Vec3 {
-        x: feet.x,
         y: feet.y - rules.depth,
-        z: feet.z,
+        ..feet
     })
 }
 
-// The sample under a living body. It refuses 5 alone.
+/// The sample under a living body. It refuses 5 alone.
+#[tactic(auto, unfolding(crate::specs::Samples::living_sample, crate::specs::Samples::sampled))]
 pub fn living_sample(
-    records: &[u32],
-    cells: &[u32],
-    w: Window,
+    tables: Tables<'_>,
+    view: View<'_>,
     rules: Rules,
     feet: Vec3,
-) -> AskedSample
-    ensures { sample_asked result ≡ living_sample (look_at cells.now w) records.now rules feet }
+) -> Result<Sample, Refusal>
+    ensures { asked result ≡ living_sample (look_in view.entry) tables.entry.records.now rules feet }
 {
-    let p = sample_cell(rules, feet);
-    let cell = window::look(cells, w, p);
-    sampled(records, rules.air, cell)
+    let under = view.look(sample_cell(rules, feet))?;
+    Ok(sampled(tables, rules.air, under))
 }
 
-// A sample that was taken is told.
-fn told(sample: AskedSample) -> AskedSupport
-    ensures { support_asked result ≡ told (sample_asked sample) }
-{
-    match sample {
-        AskedSample::Refused(n) => AskedSupport::Refused(n),
-        AskedSample::Is(s) => AskedSupport::Is(Support::Asked(s)),
-    }
-}
-
-// A living body asks on dry ground alone.
+/// A living body asks on dry ground alone.
+#[tactic(auto, using(base::proofs::Cases::cases), unfolding(crate::specs::Samples::living_support, crate::specs::Samples::told, base::specs::Choose::choose))]
 fn living_support(
-    records: &[u32],
-    cells: &[u32],
-    w: Window,
+    tables: Tables<'_>,
+    view: View<'_>,
     rules: Rules,
     feet: Vec3,
     grounded: bool,
     liquid: LiquidKind,
-) -> AskedSupport
-    ensures { support_asked result ≡ living_support (look_at cells.now w) records.now rules feet grounded liquid }
+) -> Result<Support, Refusal>
+    ensures { asked result ≡ living_support (look_in view.entry) tables.entry.records.now rules feet grounded liquid }
 {
     match liquid {
-        LiquidKind::Water => AskedSupport::Is(Support::NotAsked),
-        LiquidKind::Lava => AskedSupport::Is(Support::NotAsked),
-        LiquidKind::None => {
-            if grounded {
-                told(living_sample(records, cells, w, rules, feet))
-            } else {
-                AskedSupport::Is(Support::NotAsked)
-            }
+        LiquidKind::None if grounded => {
+            Ok(Support::Asked(living_sample(tables, view, rules, feet)?))
         }
+        _ => Ok(Support::NotAsked),
     }
 }
 
+#[tactic(auto, unfolding(crate::specs::Samples::told))]
 fn ground_support(
-    records: &[u32],
-    cells: &[u32],
-    w: Window,
+    tables: Tables<'_>,
+    view: View<'_>,
     rules: Rules,
     feet: Vec3,
     friction: Ground,
-) -> AskedSupport
-    ensures { support_asked result ≡ ground_support (look_at cells.now w) records.now rules feet friction }
+) -> Result<Support, Refusal>
+    ensures { asked result ≡ ground_support (look_in view.entry) tables.entry.records.now rules feet friction }
 {
     match friction {
-        Ground::None => AskedSupport::Is(Support::NotAsked),
-        Ground::Block => told(supporting_friction(records, cells, w, rules, feet)),
+        Ground::None => Ok(Support::NotAsked),
+        Ground::Block => Ok(Support::Asked(supporting_friction(tables, view, rules, feet)?)),
     }
 }
 
-// What a step asks after its move: one sample at most. It refuses 5 alone.
+/// What a step asks after its move: one sample at most. It refuses 5 alone.
+#[tactic(auto, using(base::proofs::Cases::cases), unfolding(crate::specs::Samples::support_after, base::specs::Choose::choose))]
 pub fn support_after(
-    records: &[u32],
-    cells: &[u32],
-    w: Window,
+    tables: Tables<'_>,
+    view: View<'_>,
     rules: Rules,
     body: Body,
     liquid: LiquidKind,
     feet: Vec3,
     grounded: bool,
-) -> AskedSupport
-    ensures { support_asked result ≡ support_after (look_at cells.now w) records.now rules body liquid feet grounded }
+) -> Result<Support, Refusal>
+    ensures { asked result ≡ support_after (look_in view.entry) tables.entry.records.now rules body liquid feet grounded }
 {
-    let model = body.model;
-    if is_falling_block(model) & grounded {
-        return AskedSupport::Is(Support::NotAsked);
+    if body.model.is_falling_block() && grounded {
+        return Ok(Support::NotAsked);
     }
-    if is_living(model) {
-        return living_support(records, cells, w, rules, feet, grounded, liquid);
+    if body.model.is_living() {
+        return living_support(tables, view, rules, feet, grounded, liquid);
     }
     if grounded {
-        let friction = body.friction;
-        return ground_support(records, cells, w, rules, feet, friction);
+        return ground_support(tables, view, rules, feet, body.friction);
     }
-    AskedSupport::Is(Support::NotAsked)
+    Ok(Support::NotAsked)
 }

@@ -23,7 +23,7 @@ use Rattle.bodies.specs.Body.{is_yes, flap_of, body_of}
 use Rattle.bodies.specs.Numbers.{number_at, lengths_fit}
 use Rattle.bodies.specs.Limits.{is_extent, is_small, measures_fit, cases_fit, rules_fit, numbers_are_fit, motion_fits, number_refusal}
 use Rattle.bodies.specs.Lent.{motion_at, body_at, rules_at, body_refusal}
-use Rattle.step_answers.specs.declared.StepAnswer.{StepAnswer}
+use Rattle.step_answers.specs.Records.{StepAnswer}
 use Rattle.step.specs.Answers.{step_entry}
 use Rattle.files.specs.Places.{present_word}
 use Rattle.files.specs.Files.{is_scene}

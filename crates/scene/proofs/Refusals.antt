@@ -6,7 +6,7 @@ use mathlib.Core.List.{List}
 use Prim.Native.Nat.{ℕ, ◌≤◌, ◌%◌}
 use native.Mathlib.Omega.{arith}
 use Rattle.base.specs.Choose.{choose}
-use Rattle.step_answers.specs.declared.StepAnswer.{StepAnswer}
+use Rattle.step_answers.specs.Records.{StepAnswer}
 use Rattle.step.proofs.Refuses.{Named, step-refusal}
 use Rattle.files.specs.declared.Counts.{Counts}
 use Rattle.files.specs.Files.{is_scene, counts_of}

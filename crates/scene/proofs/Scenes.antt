@@ -3,21 +3,29 @@ use mathlib.Core.List.{List}
 use mathlib.Core.Path.{◌≡◌, sym, ap, ◌∙◌}
 use Prim.Native.Nat.{ℕ, ◌≤◌}
 use Rattle.base.specs.Choose.{choose}
-use Rattle.base.specs.Ask.{refused, found}
-use Rattle.base.proofs.Cases.{yes, no}
-use Rattle.step_answers.specs.declared.StepAnswer.{StepAnswer}
+use mathlib.Core.Bool.{Bool, true, false}
+use Rattle.base.specs.Ask.{Ask, refused, found}
+use Rattle.step_answers.specs.declared.Tick.{Tick}
+use Rattle.step_answers.specs.Answers.{step_answer}
+use Rattle.scene.specs.Given.{given_of, no_motion, scene_given}
 use Rattle.files.specs.declared.Counts.{Counts}
 use Rattle.files.specs.Files.{counts_of, blocks_for, is_scene}
-use Rattle.files.proofs.Scenes.{no-scene, scene}
+use Rattle.files.proofs.Scenes.{scene}
 use Rattle.scene.specs.Scene.{malformed, step_in, tick_of}
 
 module _ (file : List ℕ) where
-  pub no-tick : refused 8 ≡ choose (is_scene file) (found (counts_of file)) (refused 8) → malformed ≡ tick_of file
-  unfolding tick_of
-  no-tick e = sym (no (is_scene file) (step_in file (counts_of file)) malformed (no-scene file e))
+  pub no-tick : (k : ℕ) → refused k ≡ choose (is_scene file) (found (counts_of file)) (refused 8) → step_answer (scene_given file) (refused k) ≡ tick_of file
+  unfolding tick_of scene_given choose
+  no-tick k e = go (is_scene file) e
+    where
+      go : (t : Bool) → refused k ≡ choose t (found (counts_of file)) (refused 8)
+          → step_answer (choose t (given_of file) no_motion) (refused k) ≡ choose t (step_in file (counts_of file)) malformed
+      go true e = cc
+      go false e = let q : k ≡ 8 = cc in rw q
 
-  pub tick-by : (n : Counts) (a : StepAnswer) → found n ≡ choose (is_scene file) (found (counts_of file)) (refused 8) → (blocks_for n ≤ 128 → a ≡ step_in file n) → a ≡ tick_of file
-  unfolding tick_of
+  pub tick-by : (n : Counts) (a : Ask Tick) → found n ≡ choose (is_scene file) (found (counts_of file)) (refused 8)
+      → (blocks_for n ≤ 128 → step_answer (given_of file) a ≡ step_in file n) → step_answer (scene_given file) a ≡ tick_of file
+  unfolding tick_of scene_given choose
   tick-by n a e f =
       let s = scene file n e in
-      f s.few ∙ ap (step_in file) (sym s.same) ∙ sym (yes (is_scene file) (step_in file (counts_of file)) malformed s.test)
+      rw s.test (f s.few ∙ ap (step_in file) (sym s.same))

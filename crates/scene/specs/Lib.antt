@@ -1,2 +1,3 @@
 -- The definitions of a scene's tick.
 pub mod Scene
+pub mod Given

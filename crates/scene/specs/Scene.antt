@@ -6,7 +6,7 @@ use Rattle.boxes.specs.Boxes.{vec}
 use Rattle.tables.specs.declared.LiquidKind.TheVariants.{None}
 use Rattle.drags.specs.declared.Support.TheVariants.{NotAsked}
 use Rattle.bodies.specs.Lent.{motion_at, body_at, rules_at}
-use Rattle.step_answers.specs.declared.StepAnswer.{StepAnswer}
+use Rattle.step_answers.specs.Records.{StepAnswer}
 use Rattle.step.specs.Answers.{step_entry}
 use Rattle.text.specs.Text.{text_of}
 use Rattle.files.specs.declared.Counts.{Counts}

@@ -1,5 +1,5 @@
 -- From what the program finds of a file's counts to what the scene written anew comes to. Assumes nothing.
-use mathlib.Core.Bool.{false}
+use mathlib.Core.Bool.{Bool, true, false}
 use mathlib.Core.List.{List}
 use mathlib.Core.Path.{◌≡◌, refl}
 use Prim.Native.Nat.{ℕ, ◌≤◌}
@@ -8,17 +8,21 @@ use Rattle.base.specs.Choose.{choose}
 use Rattle.base.specs.Ask.{refused, found}
 use Rattle.files.specs.declared.Counts.{Counts}
 use Rattle.files.specs.Files.{counts_of, blocks_for, is_scene}
-use Rattle.files.specs.Contents.{contents_behind}
-use Rattle.files.proofs.Scenes.{no-scene, scene}
-use Rattle.writer.specs.declared.Written.{Written}
-use Rattle.writer.specs.Written.{written_scene, scene_answer}
+use Rattle.files.specs.Contents.{contents_in, contents_behind}
+use Rattle.files.proofs.Scenes.{scene}
+use Rattle.writer.specs.Written.{Written, written_scene, scene_answer}
 use Rattle.scene_anew.specs.Rewritten.{rewritten, rewrite_answer}
 
 module _ (file out : List ℕ) where
-  pub not-rewritten : refused 8 ≡ choose (is_scene file) (found (counts_of file)) (refused 8)
-      → (out ≡ rewritten out file) × (record { refusal = 8; bytes = 0 } ≡ rewrite_answer (length out) file)
+  pub not-rewritten : (k : ℕ) → refused k ≡ choose (is_scene file) (found (counts_of file)) (refused 8)
+      → (out ≡ rewritten out file) × (record { refusal = k; bytes = 0 } ≡ rewrite_answer (length out) file)
   unfolding rewritten rewrite_answer choose
-  not-rewritten e = rw (no-scene file e) (refl, refl)
+  not-rewritten k e = go (is_scene file) e
+    where
+      go : (t : Bool) → refused k ≡ choose t (found (counts_of file)) (refused 8)
+          → (out ≡ choose t (written_scene out (contents_in file)) out) × (record { refusal = k; bytes = 0 } ≡ choose t (scene_answer (length out) (contents_in file)) record { refusal = 8; bytes = 0 })
+      go true e = cc
+      go false e = let q : k ≡ 8 = cc in rw q (refl, refl)
 
   pub rewritten-by : (n : Counts) (after : List ℕ) (r : Written) → found n ≡ choose (is_scene file) (found (counts_of file)) (refused 8)
       → (blocks_for n ≤ 128 → after ≡ written_scene out (contents_behind file n)) → (blocks_for n ≤ 128 → r ≡ scene_answer (length out) (contents_behind file n))

@@ -3,8 +3,7 @@ use Rattle.std.specs.Prelude.{List, ℕ}
 use Rattle.base.specs.Choose.{choose}
 use Rattle.files.specs.Files.{is_scene}
 use Rattle.files.specs.Contents.{contents_in}
-use Rattle.writer.specs.declared.Written.{Written}
-use Rattle.writer.specs.Written.{written_scene, scene_answer}
+use Rattle.writer.specs.Written.{Written, written_scene, scene_answer}
 
 -- nothing is written of a file that is no scene
 unfoldable pub rewritten : List ℕ → List ℕ → List ℕ

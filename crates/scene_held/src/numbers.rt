@@ -19,10 +19,8 @@ pub fn numbers_in(file: &[u8]) -> [f64; 19]
     ensures { result ≡ numbers_in file.now }
 {
     let mut numbers = [0.0; 19];
-    let mut k = 0u8;
-    while k < 19 {
+    for k in 0..19u8 {
         numbers[k as usize] = body_float(file, k);
-        k += 1;
     }
     numbers
 }
@@ -32,11 +30,9 @@ pub fn words_in(file: &[u8]) -> [u32; 7]
     ensures { result ≡ late_words file.now }
 {
     let mut words = [0; 7];
-    let mut k = 0u8;
-    while k < 7 {
+    for k in 0..7u8 {
         let i = k as u32;
         words[k as usize] = body_word(file, places::WORDS + i + i / places::CAP * places::COUNTS);
-        k += 1;
     }
     words
 }

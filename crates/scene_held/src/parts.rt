@@ -13,8 +13,7 @@ use files::Counts;
 pub fn held(words: u32, room: usize) -> usize
     ensures { result ≡ min words room }
 {
-    let n = words as usize;
-    if n < room { n } else { room }
+    (words as usize).min(room)
 }
 
 // Takes the words of a part out of a file, one after the other, as many as there is room for.
@@ -22,10 +21,8 @@ pub fn take_words(to: &mut [u32], file: &[u8], p: Part)
     ensures { take (min p.words (length to.old)) to.new ≡ listed (part_word file.now p) (min p.words (length to.old)) 0 }
 {
     let n = held(p.words, to.len());
-    let mut i = 0usize;
-    while i < n {
+    for i in 0..n {
         to[i] = part_word(file, p, i as u32);
-        i += 1;
     }
 }
 
@@ -40,10 +37,8 @@ pub fn take_singles(to: &mut [f32], file: &[u8], p: Part)
     ensures { take (min p.words (length to.old)) to.new ≡ listed (λ i. of_bits binary32 (part_word file.now p i)) (min p.words (length to.old)) 0 }
 {
     let n = held(p.words, to.len());
-    let mut i = 0usize;
-    while i < n {
+    for i in 0..n {
         to[i] = single_at(file, p, i as u32);
-        i += 1;
     }
 }
 

@@ -2,17 +2,21 @@
 #![tactic(auto)]
 
 ghost use Rattle.std.specs.Prelude.{◌≡◌};
+ghost use Rattle.base.specs.Refusals.{verdict};
 ghost use Rattle.scene_room.specs.Room.{room_for};
 
-// 12 for more blocks than a scene has, then 11 for a buffer too short, or 0.
-pub fn room_for(blocks: usize, size: usize) -> u32
-    ensures { result ≡ room_for blocks size }
+use base::Refusal;
+
+/// First that a scene has so many blocks, else `TooManyBlocks`; then that a buffer of so many bytes has room for them, else `Room`.
+#[tactic(auto, using(base::proofs::Cases::cases), unfolding(crate::specs::Room::room_for, base::specs::Choose::choose))]
+pub fn check_room(blocks: usize, size: usize) -> Result<(), Refusal>
+    ensures { verdict result ≡ room_for blocks size }
 {
-    if blocks <= 128 {
-        if blocks * 512 <= size {
-            return 0;
-        }
-        return 11;
+    if blocks > 128 {
+        return Err(Refusal::TooManyBlocks);
     }
-    12
+    if blocks * 512 > size {
+        return Err(Refusal::Room);
+    }
+    Ok(())
 }

@@ -5,6 +5,10 @@ ghost use Rattle.std.specs.Prelude.{◌≡◌};
 ghost use Rattle.parties.specs.Parties.{party_with, call_with, call_refusals, call_written};
 ghost use Rattle.servers.specs.Told.{words_told};
 
+use night_rows::Windows;
+use parties::Party;
+use tables::Tables;
+
 // One tick of each body of two parties over one table, which is checked once for both. Each party has its own windows, at most 16, and bodies, at most
 // 2,048, in rows as `boltjuniper_midnight_capped` takes them; a body names a window of its own party by its number there, and no other. The first party's
 // answers go to the first half of `out`, the second's to the second, in rows of 13 numbers; a half is half the length, rounded down, and a last odd
@@ -31,9 +35,27 @@ pub extern "C" fn boltjuniper_midnight_two(
     ensures value { result ≡ words_told (call_refusals (call_with records.now shapes.now (party_with windows1.now count1 cells1.now numbers1.now words1.now bodies1) (party_with windows2.now count2 cells2.now numbers2.now words2.now bodies2) out.old)) }
     ensures out_after { out.new ≡ call_written (call_with records.now shapes.now (party_with windows1.now count1 cells1.now numbers1.now words1.now bodies1) (party_with windows2.now count2 cells2.now numbers2.now words2.now bodies2) out.old) }
 {
-    let told = parties::run(
-        records, shapes, windows1, count1, cells1, numbers1, words1, bodies1, windows2, count2,
-        cells2, numbers2, words2, bodies2, out,
-    );
-    lent_words::join(told.first, told.second)
+    let tables = Tables { records, shapes };
+    let one = Party {
+        windows: Windows {
+            rows: windows1,
+            count: count1,
+            cells: cells1,
+        },
+        numbers: numbers1,
+        words: words1,
+        bodies: bodies1,
+    };
+    let two = Party {
+        windows: Windows {
+            rows: windows2,
+            count: count2,
+            cells: cells2,
+        },
+        numbers: numbers2,
+        words: words2,
+        bodies: bodies2,
+    };
+    let told = parties::run(tables, one, two, out);
+    lent_words::join(base::code(told.first), base::code(told.second))
 }

@@ -4,14 +4,17 @@
 
 ghost use Rattle.std.specs.Prelude.{◌≡◌, length, get_or};
 ghost use Rattle.base.specs.Loop.{stored};
-ghost use Rattle.sweeps.specs.Lists.{no_box, list_of, held_in};
+ghost use Rattle.base.specs.Refusals.{verdict};
+ghost use Rattle.sweeps.specs.Lists.{no_box, held_in};
 ghost use Rattle.window.specs.Numbers.{window_of};
 ghost use Rattle.shown.specs.Shown.{swept_by, collected_at, numbers_at, box_written};
 
-use boxes::{Aabb, Vec3};
+use base::Refusal;
+use boxes::{Aabb, vectors};
 use lent_numbers::{put, put_vec};
-use sweeps::{BoxList, Collected};
-use window::Window;
+use sweeps::BoxList;
+use tables::Tables;
+use window::View;
 
 // The area that a move sweeps: towards its delta, and up by the step height.
 fn swept_by(mover: &[f64], step: f64) -> Aabb
@@ -22,63 +25,53 @@ fn swept_by(mover: &[f64], step: f64) -> Aabb
     collection::swept_area(aabb, delta, step)
 }
 
-// What the move collects, or its refusal: 1 to 4 and 11 before any cell is asked for.
+// What the move collects; 1 to 4 and 11 come before any cell is asked for.
+#[tactic(auto, using(base::proofs::Cases::cases), unfolding(crate::specs::Shown::collected_at, base::specs::Choose::choose))]
 fn collected(
     cap: u32,
-    records: &[u32],
-    shapes: &[f32],
-    cells: &[u32],
-    w: Window,
+    tables: Tables<'_>,
+    view: View<'_>,
     mover: &[f64],
     step: f64,
     places: usize,
-) -> Collected
-    ensures { held_in result ≡ collected_at cap records.now shapes.now cells.now w mover.now step places }
+) -> Result<BoxList, Refusal>
+    ensures { held_in result ≡ collected_at cap tables.entry.records.now tables.entry.shapes.now view.entry.words.now view.entry.window mover.now step places }
 {
-    let bad = lent::check_direct(records, shapes, cells, w);
-    if bad != 0 {
-        return Collected::refused(bad);
-    }
-    let early = movers::mover_refusal(cap, mover, step, 0, true);
-    if early != 0 {
-        return Collected::refused(early);
-    }
+    lent::check_direct(tables, view)?;
+    movers::check_mover(cap, mover, step, 0, true)?;
     if places < 7 {
-        return Collected::refused(11);
+        return Err(Refusal::Room);
     }
-    collection::collect(cap, records, shapes, cells, w, swept_by(mover, step))
+    collection::collect(cap, tables, view, swept_by(mover, step))
 }
 
-// How many boxes a list has: a count above its room is the room.
-fn count_of(list: BoxList) -> u32
-    ensures { result ≡ length (list_of list) }
+fn nth_box(boxes: &[Aabb], k: u32) -> Aabb
+    ensures { result ≡ get_or boxes.now k no_box }
 {
-    sweeps::counted(list.count) as u32
-}
-
-fn nth_box(list: BoxList, k: u32) -> Aabb
-    ensures { result ≡ get_or (list_of list) k no_box }
-{
-    if k < count_of(list) {
-        let i = k as usize;
-        return list.boxes[i];
-    }
-    let zero = Vec3::new(0.0, 0.0, 0.0);
-    Aabb {
-        min: zero,
-        max: zero,
-    }
+    let none = Aabb::new(vectors::zero(), vectors::zero());
+    boxes.get(k as usize).copied().unwrap_or(none)
 }
 
 // Seven numbers, as `numbers_at` has them.
-fn put_nth(out: &mut [f64], list: BoxList, k: u32)
-    ensures { out.new ≡ stored out.old 0 (numbers_at (list_of list) k) }
+#[tactic(auto, unfolding(base::specs::Loop::stored))]
+fn put_nth(out: &mut [f64], boxes: &[Aabb], k: u32)
+    ensures { out.new ≡ stored out.old 0 (numbers_at boxes.now k) }
 {
-    let b = nth_box(list, k);
-    let count = count_of(list) as f64;
-    put(out, 0, count);
+    let b = nth_box(boxes, k);
+    put(out, 0, std::num::nearest_usize_to_f64(boxes.len()));
     put_vec(out, 1, b.min);
     put_vec(out, 4, b.max);
+}
+
+// Box k of what was collected, where there is room for its numbers; a refusal writes nothing.
+#[tactic(auto, using(base::proofs::Cases::cases), unfolding(crate::specs::Shown::box_written, base::specs::Choose::choose))]
+fn box_into(out: &mut [f64], collected: Result<BoxList, Refusal>, k: u32) -> Result<(), Refusal>
+    ensures value { verdict result ≡ (held_in collected).refusal }
+    ensures out_after { out.new ≡ box_written out.old (held_in collected) k }
+{
+    let list = collected?;
+    put_nth(out, list.as_slice(), k);
+    Ok(())
 }
 
 // The boxes that the move of a box through a window collects, one at a call: `mover` is the box and its delta, nine numbers, and `cap` how many it
@@ -107,11 +100,11 @@ pub extern "C" fn boltjuniper_collected(
     ensures value { result ≡ (collected_at cap records.now shapes.now cells.now (window_of ox oy oz sx sy sz lowest highest air) mover.now step (length out.old)).refusal }
     ensures out_after { out.new ≡ box_written out.old (collected_at cap records.now shapes.now cells.now (window_of ox oy oz sx sy sz lowest highest air) mover.now step (length out.old)) k }
 {
-    let w = window::window_of(ox, oy, oz, sx, sy, sz, lowest, highest, air);
-    let c = collected(cap, records, shapes, cells, w, mover, step, out.len());
-    if c.refusal != 0 {
-        return c.refusal;
-    }
-    put_nth(out, c.list, k);
-    0
+    let tables = Tables { records, shapes };
+    let view = View {
+        words: cells,
+        window: window::window_of(ox, oy, oz, sx, sy, sz, lowest, highest, air),
+    };
+    let list = collected(cap, tables, view, mover, step, out.len());
+    base::code(box_into(out, list, k))
 }

@@ -6,9 +6,8 @@ use Rattle.std.specs.Float.Ieee.{to_bits}
 use Rattle.base.specs.Ask.{Ask, refused, found}
 use Rattle.boxes.specs.declared.Vec3.{Vec3}
 use Rattle.boxes.specs.declared.Aabb.{Aabb}
-use Rattle.sweeps.specs.declared.MoveAnswer.{MoveAnswer}
 use Rattle.boxes.specs.Boxes.{vec, offset_by, from_feet}
-use Rattle.sweeps.specs.Entry.{move_over_list}
+use Rattle.sweeps.specs.Entry.{MoveAnswer, move_over_list}
 use Rattle.tables.specs.declared.LiquidKind.{LiquidKind}
 use Rattle.tables.specs.declared.LiquidKind.TheVariants.{None, Water}
 use Rattle.tables.specs.Tables.{kind_number}

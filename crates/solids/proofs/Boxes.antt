@@ -1,18 +1,17 @@
 -- The boxes of a cell by number are the boxes of its shape, and how many there are. Assumes nothing.
-use mathlib.Core.Path.{◌≡◌, refl, sym, ap, ◌∙◌, subst}
-use mathlib.Core.Bool.{Bool, true, false, not}
-use mathlib.Core.List.{List, [], ◌∷◌}
-use Prim.Native.Nat.{ℕ, zero, suc, ◌+◌, ◌-◌, ◌*◌, ◌/◌, ◌≤◌, ◌<◌}
+use mathlib.Core.Path.{◌≡◌, refl, sym, ap, ◌∙◌}
+use mathlib.Core.Bool.{Bool, true, false}
+use mathlib.Core.List.{List, []}
+use Prim.Native.Nat.{ℕ, zero, suc, ◌+◌, ◌*◌, ◌/◌, ◌≤◌}
 use native.Mathlib.Nat.{mul-div_cancel, zero-lt-suc}
 use native.Mathlib.Omega.{arith}
 use lib.Dec.{T, leb, eqb, leb→le}
 use lib.ListN.{length, take, drop, length-take, length-drop}
 use lib.Ieee.{Float}
-use borrow.Author.Tests.{eq-eqb, ne_eqb, leb-true}
+use borrow.Author.Tests.{ne_eqb}
 use Rattle.base.specs.Choose.{choose}
 use Rattle.base.specs.Loop.{listed}
-use Rattle.base.specs.Ask.{Ask, found, ◌>>=◌}
-use Rattle.boxes.specs.declared.Aabb.{Aabb}
+use Rattle.base.specs.Ask.{Ask, found}
 use Rattle.cover.specs.Cover.{box_count}
 use Rattle.tables.specs.declared.Head.{Head}
 use Rattle.tables.specs.Tables.{word_at, is_registered, head_at, boxes_at}
@@ -20,8 +19,9 @@ use Rattle.window.specs.declared.Pos.{Pos}
 use Rattle.window.specs.Look.{Block, some}
 use Rattle.connect.specs.Connect.{connect_kind, connected_state}
 use Rattle.solids.specs.declared.Shape.{Shape}
-use Rattle.solids.specs.Shapes.{CellShape, cube, boxes, aabbs_of, connected_shape, shape_of}
-use Rattle.solids.specs.Parts.{shape_in, count_of, in_world, nth_aabb}
+use Rattle.solids.specs.Shapes.{boxes, aabbs_of, connected_shape, shape_of}
+use Rattle.solids.specs.declared.Shape.TheVariants.{Cube, Part}
+use Rattle.solids.specs.Parts.{shape_in, part_boxes, count_of, nth_aabb}
 
 -- a record that is registered
 pub head-registered : (records : List ℕ) (id : ℕ) (h : Head) → h ≡ head_at records id → is_registered records id ≡ h.registered
@@ -61,11 +61,8 @@ part_count shapes first count = go (leb (first + count) (box_count shapes)) (leb
     go false h = refl
 
 -- all boxes of a cell, from number 0 on
-pub listed-all : (shapes shape : List Float) (p : Pos) (s : Shape) (n : ℕ) → shape ≡ boxes_at shapes s.first s.count → n ≡ count_of s.cube s.count shape
-    → aabbs_of shapes p (shape_in s) ≡ listed (nth_aabb s.cube shape p) n 0
-unfolding count_of in_world choose listed
-listed-all shapes shape p s n e m = go s.cube refl
-  where
-    go : (b : Bool) → s.cube ≡ b → aabbs_of shapes p (choose s.cube cube (boxes s.first s.count)) ≡ listed (nth_aabb s.cube shape p) n 0
-    go true h = rw (m, h)
-    go false h = rw (m, h, e, part_count shapes s.first s.count)
+pub listed-all : (shapes part : List Float) (p : Pos) (s : Shape) (n : ℕ) → part ≡ part_boxes shapes s → n ≡ count_of s part
+    → aabbs_of shapes p (shape_in s) ≡ listed (nth_aabb s part p) n 0
+unfolding listed
+listed-all shapes part p Cube n e m = rw m
+listed-all shapes part p (Part first count) n e m = rw (m, e, part_count shapes first count)

@@ -5,7 +5,7 @@ use Rattle.std.specs.Float.{binary64}
 use Rattle.std.specs.Float.Ieee.{of_int}
 use Rattle.base.specs.Choose.{choose}
 use Rattle.base.specs.Loop.{listed}
-use Rattle.base.specs.Ask.{Ask, refused, found, ◌>>=◌}
+use Rattle.base.specs.Ask.{Ask, found, ◌>>=◌}
 use Rattle.floats.specs.Numbers.{one64}
 use Rattle.boxes.specs.declared.Vec3.{Vec3}
 use Rattle.boxes.specs.declared.Aabb.{Aabb}

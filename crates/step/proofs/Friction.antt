@@ -6,7 +6,7 @@ use Prim.Native.Nat.{ℕ}
 use lib.Ieee.{Float}
 use Rattle.base.specs.Choose.{choose}
 use Rattle.base.specs.Ask.{Ask, refused, found, ◌>>=◌}
-use Rattle.floats.specs.declared.Answer.{Answer}
+use Rattle.floats.specs.Numbers.{Answer}
 use Rattle.boxes.specs.declared.Vec3.{Vec3}
 use Rattle.window.specs.declared.Window.{Window}
 use Rattle.window.specs.Look.{look_at}
@@ -15,7 +15,7 @@ use Rattle.bodies.specs.declared.Rules.{Rules}
 use Rattle.drags.specs.declared.Sample.{Sample}
 use Rattle.drags.specs.Cases.{sample_or}
 use Rattle.samples.specs.Samples.{living_sample, living_block_friction}
-use Rattle.step_answers.specs.declared.FrictionAnswer.{FrictionAnswer}
+use Rattle.step_answers.specs.Records.{FrictionAnswer}
 use Rattle.step.specs.Answers.{friction_answer, friction_entry, number_answer, friction_alone}
 
 pub record Same (a : FrictionAnswer) (b : Answer) : Type 0 where

@@ -5,7 +5,7 @@ use Prim.Native.Nat.{ℕ, ◌<◌}
 use native.Mathlib.Omega.{arith}
 use lib.Ieee.{Float}
 use Rattle.base.specs.Choose.{choose}
-use Rattle.base.specs.Ask.{Ask, refused, found, ◌>>=◌}
+use Rattle.base.specs.Ask.{Ask, refused, found}
 use Rattle.tables.specs.declared.LiquidKind.TheVariants.{None}
 use Rattle.drags.specs.declared.Support.TheVariants.{NotAsked}
 use Rattle.window.specs.declared.Window.{Window}
@@ -21,7 +21,7 @@ use Rattle.bodies.specs.Body.{body_of, motion_of}
 use Rattle.step_answers.specs.declared.Tick.{Tick}
 use Rattle.ticks.specs.Step.{step_body_sensed, step_body_past}
 use Rattle.ticks.proofs.Past.{step-with, step-without}
-use Rattle.step_answers.specs.declared.StepAnswer.{StepAnswer}
+use Rattle.step_answers.specs.Records.{StepAnswer}
 use Rattle.step.specs.Answers.{step_answer, fitting, checked_asked, past_asked, checked_entry, step_asked, step_entry}
 
 answer-hands-back : (given : MotionNumbers) (asked : Ask Tick) → 0 < (step_answer given asked).refusal

@@ -4,3 +4,4 @@ pub mod Refuses
 pub mod Tells
 pub mod Friction
 pub mod Summed
+pub mod Unique

@@ -7,7 +7,7 @@ use Prim.Native.Nat.{ℕ}
 use lib.Dec.{eqb}
 use lib.Ieee.{Float}
 use Rattle.base.specs.Choose.{choose}
-use Rattle.base.specs.Ask.{Ask, refused, ◌>>=◌}
+use Rattle.base.specs.Ask.{Ask}
 use Rattle.lent.specs.Lent.{unless}
 use Rattle.window.specs.declared.Pos.{Pos}
 use Rattle.window.specs.declared.Window.{Window}
@@ -22,7 +22,6 @@ use Rattle.bodies.specs.declared.Rules.{Rules}
 use Rattle.bodies.specs.declared.MotionNumbers.{MotionNumbers}
 use Rattle.bodies.specs.Body.{body_of, motion_of}
 use Rattle.bodies.specs.Limits.{number_refusal}
-use Rattle.step_answers.specs.declared.Tick.{Tick}
 use Rattle.ticks.specs.Step.{step_body_sensed}
 use Rattle.step.specs.Answers.{step_answer, fitting, checked_asked, past_asked, checked_entry, summed_asked, step_summed, step_entry}
 use Rattle.step.proofs.Laws.{past-with}

@@ -22,7 +22,7 @@ use Rattle.samples.specs.Samples.{is_asked}
 use Rattle.step_answers.specs.declared.Tick.{Tick}
 use Rattle.ticks.specs.Step.{tells_sample}
 use Rattle.ticks.proofs.Tells.{Finds, nothing, either, tick-tells}
-use Rattle.step_answers.specs.declared.StepAnswer.{StepAnswer}
+use Rattle.step_answers.specs.Records.{StepAnswer}
 use Rattle.step.specs.Answers.{step_answer, step_asked, step_entry}
 use Rattle.step.proofs.Refuses.{Named, step-refuses}
 

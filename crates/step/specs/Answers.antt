@@ -1,8 +1,7 @@
 -- What a host is handed.
 use Rattle.std.specs.Prelude.{not, List, ℕ, eqb, Float}
 use Rattle.base.specs.Ask.{Ask, refused, found}
-use Rattle.floats.specs.declared.Answer.{Answer}
-use Rattle.floats.specs.Numbers.{zero64}
+use Rattle.floats.specs.Numbers.{Answer, zero64}
 use Rattle.boxes.specs.declared.Vec3.{Vec3}
 use Rattle.window.specs.declared.Window.{Window}
 use Rattle.window.specs.Look.{look_at}
@@ -11,13 +10,12 @@ use Rattle.lent.specs.Lent.{unless, sound}
 use Rattle.summary.specs.Calls.{plain_words, summed}
 use Rattle.bodies.specs.declared.BodyNumbers.{BodyNumbers}
 use Rattle.bodies.specs.declared.Rules.{Rules}
+use Rattle.bodies.specs.declared.Motion.{Motion}
 use Rattle.bodies.specs.declared.MotionNumbers.{MotionNumbers}
 use Rattle.step_answers.specs.declared.Tick.{Tick}
-use Rattle.step_answers.specs.declared.StepAnswer.{StepAnswer}
-use Rattle.step_answers.specs.declared.FrictionAnswer.{FrictionAnswer}
+use Rattle.step_answers.specs.Records.{StepAnswer, FrictionAnswer}
 pub use Rattle.step_answers.specs.Answers.{step_answer, friction_answer}
-use Rattle.step.specs.declared.MotionAnswer.{MotionAnswer}
-use Rattle.bodies.specs.Body.{body_of, motion_of}
+use Rattle.bodies.specs.Body.{yes_number, body_of, motion_of}
 use Rattle.bodies.specs.Limits.{rules_fit, is_position, number_refusal}
 use Rattle.samples.specs.Samples.{living_sample, living_block_friction}
 use Rattle.ticks.specs.Step.{step_body_sensed, step_body_past}
@@ -61,6 +59,15 @@ step_summed records shapes words w rules body given age =
     step_answer given (sound records shapes (plain_words words w) w (summed_asked records shapes words w rules body given age))
 
 -- step_body: the same without what was sensed
+pub record MotionAnswer : Type 0 where
+  pub motion : MotionNumbers
+  pub refusal : ℕ
+
+abbrev pub motion_answer : MotionNumbers → Ask Motion → MotionAnswer
+motion_answer given (refused n) = record { motion = given; refusal = n }
+motion_answer given (found m) =
+    record { motion = record { feet = m.feet; velocity = m.velocity; on_ground = yes_number m.on_ground }; refusal = 0 }
+
 abbrev pub motion_alone : StepAnswer → MotionAnswer
 motion_alone a = record { motion = a.motion; refusal = a.refusal }
 

@@ -2,161 +2,104 @@
 #![tactic(auto)]
 
 ghost use Rattle.std.specs.Prelude.{◌≡◌};
-ghost use Rattle.step.specs.Answers.{checked_entry, step_entry, step_summed, motion_alone, friction_entry};
+ghost use Rattle.base.specs.Refusals.{asked};
+ghost use Rattle.step_answers.specs.Answers.{step_answer, friction_told};
+ghost use Rattle.step.specs.Answers.{checked_entry, step_entry, step_summed, motion_answer, motion_alone, friction_entry};
 
+use base::Refusal;
 use bodies::{
-    BodyNumbers, MotionNumbers, Rules, body_of, is_position, motion_of, number_refusal, rules_fit,
+    BodyNumbers, Motion, MotionNumbers, Rules, body_of, check_numbers, is_position, motion_of,
+    rules_fit,
 };
 use boxes::Vec3;
 use lent::check_lent;
-use samples::AskedSample;
-use step_answers::{
-    FrictionAnswer, StepAnswer, friction_by, refused_friction, refused_step, step_to,
-};
-use ticks::{AskedTick, step_through};
-use window::Window;
+use step_answers::{Friction, Tick, friction_by};
+use tables::Tables;
+use window::View;
 
-// A step's answer without what was sensed.
-#[derive(Clone, Copy)]
-pub struct MotionAnswer {
-    pub motion: MotionNumbers,
-    pub refusal: u32,
-}
-
-// For hosts that checked tables and window before, once for many bodies: 3 and 4, then 5, 6 and 7 as they come. That what it hands back is
-// finite is promised of tables that pass the check, and of no others.
+/// For hosts that checked tables and window before, once for many bodies: 3 and 4, then 5, 6 and 7 as they come. That what it hands back is
+/// finite is promised of tables that pass the check, and of no others.
+#[tactic(auto, using(base::proofs::Cases::cases), unfolding(crate::specs::Answers::checked_entry, base::specs::Choose::choose))]
 pub fn step_checked(
-    records: &[u32],
-    shapes: &[f32],
-    cells: &[u32],
-    w: Window,
+    tables: Tables<'_>,
+    view: View<'_>,
     rules: Rules,
     body: BodyNumbers,
     given: MotionNumbers,
     age: u64,
-) -> StepAnswer
-    ensures { result ≡ checked_entry records.now shapes.now cells.now w rules body given age }
+) -> Result<Tick, Refusal>
+    ensures { step_answer given (asked result) ≡ checked_entry tables.entry.records.now tables.entry.shapes.now view.entry.words.now view.entry.window rules body given age }
 {
-    let refusal = number_refusal(records, rules, body, given);
-    if refusal != 0 {
-        return refused_step(refusal, given);
-    }
-    let told = step_through(
-        records,
-        shapes,
-        cells,
-        window::with_air(w, rules.air),
-        rules,
-        body_of(body),
-        motion_of(given),
-        age,
-    );
-    match told {
-        AskedTick::Refused(n) => refused_step(n, given),
-        AskedTick::To(t) => step_to(given, t),
-    }
+    check_numbers(tables, rules, body, given)?;
+    let view = view.with_air(rules.air);
+    ticks::step_through(tables, view, rules, body_of(body), motion_of(given), age)
 }
 
-// For hosts: one tick of a body, the liquid that a living body travelled in, and the sample of the block under it.
+/// For hosts: one tick of a body, the liquid that a living body travelled in, and the sample of the block under it.
+#[tactic(auto, using(base::proofs::Cases::cases), unfolding(crate::specs::Answers::step_entry, base::specs::Choose::choose))]
 pub fn step_body_sensed(
-    records: &[u32],
-    shapes: &[f32],
-    cells: &[u32],
-    w: Window,
+    tables: Tables<'_>,
+    view: View<'_>,
     rules: Rules,
     body: BodyNumbers,
     given: MotionNumbers,
     age: u64,
-) -> StepAnswer
-    ensures { result ≡ step_entry records.now shapes.now cells.now w rules body given age }
+) -> Result<Tick, Refusal>
+    ensures { step_answer given (asked result) ≡ step_entry tables.entry.records.now tables.entry.shapes.now view.entry.words.now view.entry.window rules body given age }
 {
-    let refusal = check_lent(records, shapes, cells, w);
-    if refusal != 0 {
-        return refused_step(refusal, given);
-    }
-    step_checked(records, shapes, cells, w, rules, body, given, age)
+    check_lent(tables, view)?;
+    step_checked(tables, view, rules, body, given, age)
 }
 
-// For hosts: the same over a window with a summary behind its words, by which the move passes over layers: 11 and 13 after 4.
+/// For hosts: the same over a window with a summary behind its words, by which the move passes over layers: 11 and 13 after 4.
+#[tactic(auto, using(base::proofs::Cases::cases), unfolding(crate::specs::Answers::step_summed, base::specs::Choose::choose))]
 pub fn step_summed(
-    records: &[u32],
-    shapes: &[f32],
-    words: &[u32],
-    w: Window,
+    tables: Tables<'_>,
+    view: View<'_>,
     rules: Rules,
     body: BodyNumbers,
     given: MotionNumbers,
     age: u64,
-) -> StepAnswer
-    ensures { result ≡ step_summed records.now shapes.now words.now w rules body given age }
+) -> Result<Tick, Refusal>
+    ensures { step_answer given (asked result) ≡ step_summed tables.entry.records.now tables.entry.shapes.now view.entry.words.now view.entry.window rules body given age }
 {
-    let cells = summary::plain_words(words, w);
-    let refusal = check_lent(records, shapes, cells, w);
-    if refusal != 0 {
-        return refused_step(refusal, given);
-    }
-    let unfit = number_refusal(records, rules, body, given);
-    if unfit != 0 {
-        return refused_step(unfit, given);
-    }
-    let wrong = groups::check_summary(records, words, window::with_air(w, rules.air));
-    if wrong != 0 {
-        return refused_step(wrong, given);
-    }
-    step_checked(records, shapes, words, w, rules, body, given, age)
+    check_lent(tables, summary::plain(view))?;
+    check_numbers(tables, rules, body, given)?;
+    groups::check_summary(tables, view.with_air(rules.air))?;
+    step_checked(tables, view, rules, body, given, age)
 }
 
-// For hosts: one tick of a body.
+/// For hosts: one tick of a body.
 pub fn step_body(
-    records: &[u32],
-    shapes: &[f32],
-    cells: &[u32],
-    w: Window,
+    tables: Tables<'_>,
+    view: View<'_>,
     rules: Rules,
     body: BodyNumbers,
     given: MotionNumbers,
     age: u64,
-) -> MotionAnswer
-    ensures { result ≡ motion_alone (step_entry records.now shapes.now cells.now w rules body given age) }
+) -> Result<Motion, Refusal>
+    ensures { motion_answer given (asked result) ≡ motion_alone (step_entry tables.entry.records.now tables.entry.shapes.now view.entry.words.now view.entry.window rules body given age) }
 {
-    let a = step_body_sensed(records, shapes, cells, w, rules, body, given, age);
-    let motion = a.motion;
-    MotionAnswer {
-        motion,
-        refusal: a.refusal,
-    }
+    Ok(step_body_sensed(tables, view, rules, body, given, age)?.motion)
 }
 
-// For hosts: the friction under a living body.
+/// For hosts: the friction under a living body.
+#[tactic(auto, using(base::proofs::Cases::cases), unfolding(crate::specs::Answers::friction_entry, base::specs::Choose::choose))]
 pub fn living_block_friction(
-    records: &[u32],
-    shapes: &[f32],
-    cells: &[u32],
-    w: Window,
+    tables: Tables<'_>,
+    view: View<'_>,
     rules: Rules,
     feet: Vec3,
-) -> FrictionAnswer
-    ensures { result ≡ friction_entry records.now shapes.now cells.now w rules feet }
+) -> Result<Friction, Refusal>
+    ensures { friction_told (asked result) ≡ friction_entry tables.entry.records.now tables.entry.shapes.now view.entry.words.now view.entry.window rules feet }
 {
-    let refusal = check_lent(records, shapes, cells, w);
-    if refusal != 0 {
-        return refused_friction(refusal);
+    check_lent(tables, view)?;
+    if !rules_fit(tables, rules) {
+        return Err(Refusal::Number);
     }
-    if rules_fit(records, rules) {
-        if is_position(feet) {
-            let told = samples::living_sample(
-                records,
-                cells,
-                window::with_air(w, rules.air),
-                rules,
-                feet,
-            );
-            return match told {
-                AskedSample::Refused(n) => refused_friction(n),
-                AskedSample::Is(s) => friction_by(rules.friction, s),
-            };
-        }
-        return refused_friction(4);
+    if !is_position(feet) {
+        return Err(Refusal::Place);
     }
-    refused_friction(3)
+    let sample = samples::living_sample(tables, view.with_air(rules.air), rules, feet)?;
+    Ok(friction_by(rules.friction, sample))
 }

@@ -1,7 +1,7 @@
 -- What a host is handed of a step: its answer or its refusal, the same with a fall record beside it, and the friction under a living body.
 use Rattle.std.specs.Prelude.{ℕ, eqb, Float}
 use Rattle.base.specs.Choose.{choose}
-use Rattle.base.specs.Ask.{Ask, refused, found}
+use Rattle.base.specs.Ask.{Ask, refused, found, ◌>>=◌}
 use Rattle.floats.specs.Numbers.{zero64}
 use Rattle.tables.specs.declared.LiquidKind.TheVariants.{None}
 use Rattle.bodies.specs.declared.MotionNumbers.{MotionNumbers}
@@ -12,9 +12,10 @@ use Rattle.drags.specs.Cases.{sample_or}
 use Rattle.fall_rule.specs.declared.Fall.{Fall}
 use Rattle.fall_rule.specs.Rule.{fall_after}
 use Rattle.step_answers.specs.declared.Tick.{Tick}
-use Rattle.step_answers.specs.declared.StepAnswer.{StepAnswer}
-use Rattle.step_answers.specs.declared.FallingAnswer.{FallingAnswer}
-use Rattle.step_answers.specs.declared.FrictionAnswer.{FrictionAnswer}
+use Rattle.step_answers.specs.declared.FallingTick.{FallingTick}
+use Rattle.step_answers.specs.declared.Friction.{Friction}
+use Rattle.step_answers.specs.declared.HandedStep.{HandedStep}
+use Rattle.step_answers.specs.Records.{StepAnswer, FallingAnswer, FrictionAnswer}
 
 -- a refused step returns position, velocity and ground flag as given, and liquid none; "where it is refused .. it carries a fifth case, not asked"
 abbrev pub step_answer : MotionNumbers → Ask Tick → StepAnswer
@@ -26,6 +27,10 @@ step_answer given (found t) =
       support = t.support;
       refusal = 0;
     }
+
+-- the same of what a host is handed beside the refusal's number
+abbrev pub handed_with : HandedStep → ℕ → StepAnswer
+handed_with h n = record { motion = h.motion; liquid = h.liquid; support = h.support; refusal = n }
 
 -- ---- with a fall record beside it
 
@@ -41,6 +46,19 @@ with_fall fall given a = record { step = a; fall = choose (eqb a.refusal 0) (fal
 abbrev pub refused_falling : ℕ → MotionNumbers → Fall → FallingAnswer
 refused_falling n given fall = record { step = step_answer given (refused n); fall = fall }
 
+-- the record as given where the step is refused, and else the one after it
+abbrev pub fall_left : Fall → Ask FallingTick → Fall
+fall_left fall (refused n) = fall
+fall_left fall (found t) = t.fall
+
+abbrev pub tick_alone : Ask FallingTick → Ask Tick
+tick_alone asked = do
+  t ← asked
+  found t.tick
+
+abbrev pub falling_answer : MotionNumbers → Fall → Ask FallingTick → FallingAnswer
+falling_answer given fall asked = record { step = step_answer given (tick_alone asked); fall = fall_left fall asked }
+
 -- ---- the friction under a living body
 
 -- a refused number is zero, and none was sampled
@@ -50,3 +68,8 @@ refused_friction n = record { value = zero64; support = NotAsked; refusal = n }
 abbrev pub friction_answer : Float → Ask Sample → FrictionAnswer
 friction_answer default (refused n) = refused_friction n
 friction_answer default (found s) = record { value = sample_or default s; support = Asked s; refusal = 0 }
+
+-- the same of a number and its sample
+abbrev pub friction_told : Ask Friction → FrictionAnswer
+friction_told (refused n) = refused_friction n
+friction_told (found f) = record { value = f.value; support = Asked f.sample; refusal = 0 }

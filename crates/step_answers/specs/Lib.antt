@@ -1,2 +1,3 @@
--- The definitions of what a host is handed of a step.
+-- What a host is handed of a step.
+pub mod Records
 pub mod Answers

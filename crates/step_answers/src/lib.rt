@@ -1,18 +1,19 @@
-// What a step comes to, and what a host is handed of it: its answer or its refusal, the same with a fall record beside it, and the friction
-// under a living body.
+// What a step comes to, the same with a fall record beside it, the friction under a living body, and what a host is handed of them: a refused
+// step hands back what was given.
 #![tactic(auto)]
 
 ghost use Rattle.std.specs.Prelude.{◌≡◌};
-ghost use Rattle.base.specs.Ask.{refused, found};
-ghost use Rattle.step_answers.specs.Answers.{step_answer, with_fall, refused_falling, refused_friction, friction_answer};
+ghost use Rattle.base.specs.Ask.{found};
+ghost use Rattle.base.specs.Refusals.{asked, verdict};
+ghost use Rattle.step_answers.specs.Answers.{step_answer, handed_with, with_fall, fall_left, falling_answer, friction_told, friction_answer};
 
+use base::Refusal;
 use bodies::{Motion, MotionNumbers, yes_number};
-use boxes::Vec3;
 use drags::{Sample, Support};
 use fall_rule::{Fall, fall_after};
 use tables::LiquidKind;
 
-// What a step comes to: the motion after it, the liquid that a living body travelled in, and the sample that it took.
+/// What a step comes to: the motion after it, the liquid that a living body travelled in, and the sample that it took.
 #[derive(Clone, Copy)]
 pub struct Tick {
     pub motion: Motion,
@@ -20,131 +21,80 @@ pub struct Tick {
     pub support: Support,
 }
 
-// What a host is handed: refusal 0, the motion after the step, the liquid and the sample; or a refusal, the motion as given, none, and not asked.
+/// The same, and the fall record after it.
 #[derive(Clone, Copy)]
-pub struct StepAnswer {
-    pub motion: MotionNumbers,
-    pub liquid: LiquidKind,
-    pub support: Support,
-    pub refusal: u32,
-}
-
-// The same, and the record after it. A refused step hands the record back.
-#[derive(Clone, Copy)]
-pub struct FallingAnswer {
-    pub step: StepAnswer,
+pub struct FallingTick {
+    pub tick: Tick,
     pub fall: Fall,
 }
 
-// The friction under a living body, and the sample that it comes from.
+/// The friction under a living body, and the sample that it comes from.
 #[derive(Clone, Copy)]
-pub struct FrictionAnswer {
+pub struct Friction {
     pub value: f64,
+    pub sample: Sample,
+}
+
+/// What a host is handed of a step, beside the number of a refusal.
+#[derive(Clone, Copy)]
+pub struct HandedStep {
+    pub motion: MotionNumbers,
+    pub liquid: LiquidKind,
     pub support: Support,
-    pub refusal: u32,
 }
 
-// A refused step: position, velocity and ground flag as given, liquid none, and no sample asked for.
-pub fn refused_step(refusal: u32, given: MotionNumbers) -> StepAnswer
-    ensures { result ≡ step_answer given (refused refusal) }
+/// Of a refused step: position, velocity and ground flag as given, liquid none, and no sample asked for.
+pub fn handed(given: MotionNumbers, answer: Result<Tick, Refusal>) -> HandedStep
+    ensures { handed_with result (verdict answer) ≡ step_answer given (asked answer) }
 {
-    let feet = given.feet;
-    let velocity = given.velocity;
-    let support = Support::NotAsked;
-    StepAnswer {
-        motion: MotionNumbers {
-            feet,
-            velocity,
-            on_ground: given.on_ground,
-        },
-        liquid: LiquidKind::None,
-        support,
-        refusal,
-    }
-}
-
-// A step that was made.
-pub fn step_to(given: MotionNumbers, t: Tick) -> StepAnswer
-    ensures { result ≡ step_answer given (found t) }
-{
-    let feet = t.motion.feet;
-    let velocity = t.motion.velocity;
-    let liquid = t.liquid;
-    let support = t.support;
-    let grounded = yes_number(t.motion.on_ground);
-    StepAnswer {
-        motion: MotionNumbers {
-            feet,
-            velocity,
-            on_ground: grounded,
-        },
-        liquid,
-        support,
-        refusal: 0,
-    }
-}
-
-// A refusal before the step: all as given, liquid none, and no sample asked for.
-pub fn refused_falling(refusal: u32, given: MotionNumbers, fall: Fall) -> FallingAnswer
-    ensures { result ≡ refused_falling refusal given fall }
-{
-    FallingAnswer {
-        step: StepAnswer {
+    match answer {
+        Err(_) => HandedStep {
             motion: given,
             liquid: LiquidKind::None,
             support: Support::NotAsked,
-            refusal,
         },
+        Ok(t) => HandedStep {
+            motion: MotionNumbers {
+                feet: t.motion.feet,
+                velocity: t.motion.velocity,
+                on_ground: yes_number(t.motion.on_ground),
+            },
+            liquid: t.liquid,
+            support: t.support,
+        },
+    }
+}
+
+/// The record that a host is handed: as given where the step is refused.
+pub fn fall_handed(fall: Fall, answer: Result<FallingTick, Refusal>) -> Fall
+    ensures { result ≡ fall_left fall (asked answer) }
+{
+    match answer {
+        Err(_) => fall,
+        Ok(t) => t.fall,
+    }
+}
+
+/// A step that was made, and the record after it: from the feet given to the feet reached.
+#[tactic(auto, using(base::proofs::Cases::cases), unfolding(crate::specs::Answers::with_fall, bodies::specs::Body::is_yes, bodies::specs::Body::yes_number, base::specs::Choose::choose))]
+pub fn with_fall(fall: Fall, given: MotionNumbers, tick: Tick) -> FallingTick
+    ensures { falling_answer given fall (found result) ≡ with_fall fall given (step_answer given (found tick)) }
+{
+    let motion = tick.motion;
+    let fall = fall_after(
         fall,
-    }
+        given.feet.y,
+        motion.feet.y,
+        motion.on_ground,
+        tick.liquid,
+    );
+    FallingTick { tick, fall }
 }
 
-// A record that does not fit: 3, before the step.
-pub fn unfit_record(given: MotionNumbers, fall: Fall) -> FallingAnswer
-    ensures { result ≡ refused_falling 3 given fall }
+/// The number that a sample comes to, and the sample.
+pub fn friction_by(default: f64, sample: Sample) -> Friction
+    ensures { friction_told (found result) ≡ friction_answer default (found sample) }
 {
-    refused_falling(3, given, fall)
-}
-
-// A step's answer, and the record after it.
-pub fn with_fall(fall: Fall, given: MotionNumbers, a: StepAnswer) -> FallingAnswer
-    ensures { result ≡ with_fall fall given a }
-{
-    if a.refusal == 0 {
-        let liquid = a.liquid;
-        let after = fall_after(
-            fall,
-            given.feet.y,
-            a.motion.feet.y,
-            a.motion.on_ground == 1,
-            liquid,
-        );
-        return FallingAnswer {
-            step: a,
-            fall: after,
-        };
-    }
-    FallingAnswer { step: a, fall }
-}
-
-pub fn refused_friction(n: u32) -> FrictionAnswer
-    ensures { result ≡ refused_friction n }
-{
-    FrictionAnswer {
-        value: 0.0,
-        support: Support::NotAsked,
-        refusal: n,
-    }
-}
-
-// The number that a sample comes to, and the sample.
-pub fn friction_by(default: f64, s: Sample) -> FrictionAnswer
-    ensures { result ≡ friction_answer default (found s) }
-{
-    let value = drags::sample_or(default, s);
-    FrictionAnswer {
-        value,
-        support: Support::Asked(s),
-        refusal: 0,
-    }
+    let value = drags::sample_or(default, sample);
+    Friction { value, sample }
 }

@@ -6,9 +6,10 @@ use Prim.Native.Nat.{ℕ, suc, ◌+◌, ◌-◌, ◌≤◌, ◌<◌, min}
 use native.Mathlib.Numerals.{add-one}
 use native.Mathlib.Omega.{arith}
 use lib.Dec.{eqb}
-use lib.ListN.{length, get_or, take, drop, length-take, length-drop, drop_of_length-le}
+use lib.ListN.{length, get_or, take, drop, length-take, length-drop}
 use lib.Seq.{drop-cons, take_all}
-use borrow.Author.Tests.{eq-eqb, ne_eqb}
+use lib.Pointwise.{pointwise}
+use borrow.Author.Tests.{eqb-true, eqb-false, eq-eqb, ne_eqb}
 use Rattle.base.proofs.Every.{and_right}
 use Rattle.suffixes.specs.Bytes.{equal, ends_with, starts_with, has_within}
 
@@ -25,29 +26,33 @@ unequal [] (y ∷ b) h = refl
 unequal (x ∷ a) [] h = refl
 unequal (x ∷ a) (y ∷ b) h = and_right (eqb x y) (equal a b) (unequal a b (λ e. h (ap suc e)))
 
--- what is left of the two from place i on; w is what the whole comes to
-module _ (a b : List ℕ) (e : length a ≡ length b) (i : ℕ) (w : Bool) (inv : equal (drop i a) (drop i b) ≡ w) where
-  turn : i < length a → (eqb (get_or a i 0) (get_or b i 0) && equal (drop (i + 1) a) (drop (i + 1) b)) ≡ w
-  unfolding equal
-  turn h = let k : i < length b = omega arith in rw (from a i h, from b i k) at inv
+-- the library's equality of bytes
+pub same_bytes : (a b : List ℕ) → pointwise eqb a b ≡ equal a b
+unfolding equal
+same_bytes [] [] = refl
+same_bytes [] (y ∷ b) = refl
+same_bytes (x ∷ a) [] = refl
+same_bytes (x ∷ a) (y ∷ b) = ap (λ (t : Bool). eqb x y && t) (same_bytes a b)
 
-  pub equal-end : length a ≤ i → true ≡ w
-  unfolding equal
-  equal-end h = let k : length b ≤ i = omega arith in rw (drop_of_length-le a h, drop_of_length-le b k) at inv
+eqb_comm : (a b : ℕ) → eqb a b ≡ eqb b a
+eqb_comm a b = go (eqb b a) refl
+  where
+    go : (t : Bool) → eqb b a ≡ t → eqb a b ≡ t
+    go true e = eq-eqb a b (sym (eqb-true b a e))
+    go false e = ne_eqb a b (λ (h : a ≡ b). eqb-false b a e (sym h))
 
-  pub equal-stop : i < length a → (get_or a i 0 ≡ get_or b i 0 → ⊥) → false ≡ w
-  equal-stop h n = let t = turn h in rw (ne_eqb _ _ n) at t
-
-  pub equal_next : i < length a → get_or a i 0 ≡ get_or b i 0 → equal (drop (i + 1) a) (drop (i + 1) b) ≡ w
-  equal_next h n = let t = turn h in rw (eq-eqb _ _ n) at t
+same_turned : (a b : List ℕ) → pointwise eqb b a ≡ equal a b
+unfolding equal
+same_turned [] [] = refl
+same_turned [] (y ∷ b) = refl
+same_turned (x ∷ a) [] = refl
+same_turned (x ∷ a) (y ∷ b) = rw (eqb_comm y x, same_turned a b)
 
 -- ---- ends_with
--- the bytes from place k on, as the program takes them
-pub ends_by : (l suffix : List ℕ) → let k = length l - length suffix in equal (take (length l - k) (drop k l)) suffix ≡ ends_with l suffix
+-- as the library finds it
+pub ends_by : (id suffix : List ℕ) → pointwise eqb suffix (drop (length id - length suffix) id) ≡ ends_with id suffix
 unfolding ends_with
-ends_by l suffix =
-    let k = length l - length suffix in
-    ap (λ (d : List ℕ). equal d suffix) (take_all (length l - k) (drop k l) (simp length-drop (omega arith)))
+ends_by id suffix = same_turned (drop (length id - length suffix) id) suffix
 
 -- no identifier ends in a longer suffix
 pub too_short : (id suffix : List ℕ) → length id < length suffix → ends_with id suffix ≡ false
@@ -60,10 +65,10 @@ too_short id suffix h =
     shorter d n m l h e = omega arith
 
 -- ---- has_within
--- as many bytes as the part has, from place k on, as the program takes them
-pub starts_by : (l p : List ℕ) (k : ℕ) → equal (take (k + length p - k) (drop k l)) p ≡ starts_with (drop k l) p
+-- as the library finds it, from place k on
+pub starts_by : (id part : List ℕ) (k : ℕ) → pointwise eqb part (take (length part) (take (length id - k) (drop k id))) ≡ starts_with (drop k id) part
 unfolding starts_with
-starts_by l p k = let e : k + length p - k ≡ length p = omega arith in ap (λ (n : ℕ). equal (take n (drop k l)) p) e
+starts_by id part k = rw (take_all (length id - k) (drop k id) (simp length-drop (omega arith))) (same_turned (take (length part) (drop k id)) part)
 
 -- no part is longer than what it is looked for in
 pub starts-short : (l p : List ℕ) → length l < length p → starts_with l p ≡ false

@@ -1,11 +1,11 @@
 -- A summary that passes its check is one whose words are those built afresh; and a look-up over the words with it is the look-up over those of cells
 -- and columns. Assumes nothing.
-use mathlib.Core.Path.{◌≡◌, refl, sym, ap, ◌∙◌, subst}
-use mathlib.Core.Bool.{Bool, true, false, ◌&&◌}
+use mathlib.Core.Path.{◌≡◌, refl, sym, ap, ◌∙◌}
+use mathlib.Core.Bool.{Bool, true, false}
 use mathlib.Core.List.{List}
-use Prim.Native.Nat.{ℕ, ◌+◌, ◌≤◌, ◌<◌}
+use Prim.Native.Nat.{ℕ, ◌+◌, ◌<◌}
 use native.Mathlib.Omega.{arith}
-use lib.Dec.{ltb, eqb}
+use lib.Dec.{ltb}
 use lib.ListN.{length, get_or, take}
 use lib.Seq.{get_or-take, length-take-le}
 use borrow.Author.Tests.{lt-ltb, eqb-true}
@@ -13,14 +13,14 @@ use Rattle.base.specs.Choose.{choose}
 use Rattle.base.proofs.Every.{every-at}
 use Rattle.window.specs.declared.Pos.{Pos}
 use Rattle.window.specs.declared.Window.{Window}
-use Rattle.window.specs.Window.{column_inside, height_inside, cell_count, column_count, index_of, column_index_of, column_lent, sizes_fit}
+use Rattle.window.specs.Window.{column_inside, height_inside, column_count, index_of, column_index_of}
 use Rattle.window.specs.Look.{look_at}
 use Rattle.window.specs.Numbers.{with_air}
 use Rattle.window.proofs.Cells.{outside-refused, is-inside, index_below}
-use Rattle.groups.specs.Groups.{group_count, group_at, group_word}
+use Rattle.groups.specs.Groups.{group_count}
 use Rattle.groups.specs.Summary.{words_before, has_summary, agrees_at, agrees, summary_refusal}
 use Rattle.groups.proofs.Same.{column-before}
-use Rattle.groups.proofs.Sets.{Kept, Has, has}
+use Rattle.groups.proofs.Sets.{Kept, Has}
 use Rattle.summary.specs.Calls.{plain_words}
 
 -- ---- by its check

@@ -1,3 +1,3 @@
 -- Laws of this crate's definitions, on plain values.
-pub mod Plain
+pub mod Parts
 pub mod Agree

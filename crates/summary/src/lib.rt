@@ -3,77 +3,67 @@
 #![tactic(auto)]
 
 ghost use Rattle.std.specs.Prelude.{◌≡◌};
+ghost use Rattle.base.specs.Refusals.{verdict};
 ghost use Rattle.summary.specs.Calls.{plain_words, plain_refusal, summed_refusal, build_entry, built_entry, set_entry, after_set_entry};
 
-use window::{Pos, Window};
+use base::Refusal;
+use tables::Tables;
+use window::{Pos, View, Window};
 
-fn wide(x: u32) -> usize
-    ensures { result ≡ x }
+/// The words of cells and columns, without those of a summary.
+pub fn plain(view: View<'_>) -> View<'_>
+    ensures words { result.words.now ≡ plain_words view.entry.words.now view.entry.window }
+    ensures window { result.window ≡ view.entry.window }
 {
-    x as usize
-}
-
-// The words of cells and columns, without those of a summary.
-pub fn plain_words(words: &[u32], w: Window) -> &[u32]
-    ensures { result.now ≡ plain_words words.now w }
-{
-    let l = groups::layout_of(w.sizes);
-    if l.fits {
-        let n = wide(l.before);
-        if n < words.len() {
-            return &words[0..n];
+    let words = match groups::layout_of(view.window.sizes) {
+        Some(layout) if (layout.before as usize) < view.words.len() => {
+            &view.words[..layout.before as usize]
         }
-        return &words[0..];
-    }
-    &words[0..]
+        _ => view.words,
+    };
+    View { words, ..view }
 }
 
-// 1 for the tables, 2 for the window, 3 for its air state, or 0.
-fn check_plain(records: &[u32], shapes: &[f32], words: &[u32], w: Window) -> u32
-    ensures { result ≡ plain_refusal records.now shapes.now words.now w }
+// Refused with `Tables`, with `Window`, or with `Number` for the window's air state.
+fn check_plain(tables: Tables<'_>, view: View<'_>) -> Result<(), Refusal>
+    ensures { verdict result ≡ plain_refusal tables.entry.records.now tables.entry.shapes.now view.entry.words.now view.entry.window }
 {
-    let cells = plain_words(words, w);
-    lent::check_direct(records, shapes, cells, w)
+    lent::check_direct(tables, plain(view))
 }
 
-// For hosts: the check of what is lent with a summary. 0; 1, 2 or 3; then 11 or 13.
-pub fn check_summed(records: &[u32], shapes: &[f32], words: &[u32], w: Window) -> u32
-    ensures { result ≡ summed_refusal records.now shapes.now words.now w }
+/// For hosts: the check of what is lent with a summary. Refused with `Tables`, `Window` or `Number`; then with `Room` or `Summary`.
+#[tactic(auto, using(base::proofs::Cases::cases), unfolding(crate::specs::Calls::summed_refusal, base::specs::Choose::choose))]
+pub fn check_summed(tables: Tables<'_>, view: View<'_>) -> Result<(), Refusal>
+    ensures { verdict result ≡ summed_refusal tables.entry.records.now tables.entry.shapes.now view.entry.words.now view.entry.window }
 {
-    let bad = check_plain(records, shapes, words, w);
-    if bad == 0 {
-        return groups::check_summary(records, words, w);
-    }
-    bad
+    check_plain(tables, view)?;
+    groups::check_summary(tables, view)
 }
 
-// For hosts: the summary is built behind cells and columns. 0; or 1, 2, 3 or 11, and nothing is written.
-pub fn build_summary(records: &[u32], shapes: &[f32], words: &mut [u32], w: Window) -> u32
-    ensures value { result ≡ build_entry records.now shapes.now words.old w }
-    ensures words_after { words.new ≡ built_entry records.now shapes.now words.old w }
+/// For hosts: the summary is built behind cells and columns. Refused with `Tables`, `Window`, `Number` or `Room`, and nothing is written. The slice
+/// is written, so that it goes beside its window, and not as a view of both.
+#[tactic(auto, using(base::proofs::Cases::cases), unfolding(crate::specs::Calls::build_entry, crate::specs::Calls::built_entry, base::specs::Choose::choose))]
+pub fn build_summary(tables: Tables<'_>, words: &mut [u32], w: Window) -> Result<(), Refusal>
+    ensures value { verdict result ≡ build_entry tables.entry.records.now tables.entry.shapes.now words.old w }
+    ensures words_after { words.new ≡ built_entry tables.entry.records.now tables.entry.shapes.now words.old w }
 {
-    let bad = check_plain(records, shapes, words, w);
-    if bad == 0 {
-        return groups::build(records, words, w);
-    }
-    bad
+    check_plain(tables, View { words, window: w })?;
+    groups::build(tables, words, w)
 }
 
-// For hosts: one cell is set, and the word of its group mended. 0; or 1, 2, 3, 11, 13 or 5, and nothing is written.
+/// For hosts: one cell is set, and the word of its group mended. Refused with `Tables`, `Window`, `Number`, `Room`, `Summary` or `OutsideWindow`, and
+/// nothing is written.
+#[tactic(auto, using(base::proofs::Cases::cases), unfolding(crate::specs::Calls::set_entry, crate::specs::Calls::after_set_entry, base::specs::Choose::choose))]
 pub fn set_block(
-    records: &[u32],
-    shapes: &[f32],
+    tables: Tables<'_>,
     words: &mut [u32],
     w: Window,
     p: Pos,
     state: u32,
-) -> u32
-    ensures value { result ≡ set_entry records.now shapes.now words.old w p }
-    ensures words_after { words.new ≡ after_set_entry records.now shapes.now words.old w p state }
+) -> Result<(), Refusal>
+    ensures value { verdict result ≡ set_entry tables.entry.records.now tables.entry.shapes.now words.old w p }
+    ensures words_after { words.new ≡ after_set_entry tables.entry.records.now tables.entry.shapes.now words.old w p state }
 {
-    let bad = check_summed(records, shapes, words, w);
-    if bad == 0 {
-        return groups::set_cell(records, words, w, p, state);
-    }
-    bad
+    check_summed(tables, View { words, window: w })?;
+    groups::set_cell(tables, words, w, p, state)
 }

@@ -4,7 +4,9 @@ use mathlib.Core.Bool.{true, false}
 use mathlib.Core.List.{List}
 use Prim.Native.Nat.{ℕ, suc, ◌+◌, ◌-◌, ◌≤◌, ◌<◌, min}
 use native.Mathlib.Omega.{arith}
-use lib.ListN.{length, get_or, take, drop}
+use native.Mathlib.Numerals.{add-one}
+use lib.ListN.{length, get_or, take, drop, drop_of_length-le}
+use lib.Seq.{drop-cons}
 use lib.Ieee.{Float}
 use Rattle.base.specs.Choose.{choose}
 use Rattle.base.proofs.Cases.{yes, no}
@@ -25,6 +27,16 @@ module _ (bs : List Aabb) (count most : ℕ) (whole : length bs ≡ most) (n i :
   clip-end : (d w : Float) → n ≤ i → clip_all clip (drop i (take count bs)) mover d ≡ w → d ≡ w
   unfolding clip_all
   clip-end d w h inv = rw (past-boxes bs count most whole n i counts h) at inv
+
+-- the same of boxes that are all there
+module _ (bs : List Aabb) (i : ℕ) (clip : Aabb → Aabb → Float → Float) (mover : Aabb) where
+  pub slice-turn : (z : Aabb) (d e w : Float) → i < length bs → e ≡ clip (get_or bs i z) mover d → clip_all clip (drop i bs) mover d ≡ w → clip_all clip (drop (i + 1) bs) mover e ≡ w
+  unfolding clip_all
+  slice-turn z d e w h q inv = let t = rw (drop-cons bs i z h) at inv in rw (add-one, q) t
+
+  pub slice-end : (d w : Float) → length bs ≤ i → clip_all clip (drop i bs) mover d ≡ w → d ≡ w
+  unfolding clip_all
+  slice-end d w h inv = rw (drop_of_length-le bs h) at inv
 
 -- a pass, step by step as the code makes it
 pub pass-is : (boxes : List Aabb) (q : Request) (pass : ℕ) (s t : Sweep) (got : Swept) (axis : ℕ) (d e : Float) → axis ≡ axis_of pass → d ≡ wanted_of pass axis q s.now → e ≡ clip_all (clip_along axis) boxes s.now.aabb d → got ≡ gone_of pass axis s.now e → t ≡ next_sweep pass q s.first got → t ≡ pass_of pass boxes q s

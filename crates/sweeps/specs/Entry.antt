@@ -1,12 +1,12 @@
 -- The move over a list that is handed in: it refuses 3, then 4, then 6, or is the move.
 use Rattle.std.specs.Prelude.{Bool, false, not, ◌&&◌, ℕ, eqb, ltb, Float}
 use Rattle.base.specs.Choose.{choose}
+use Rattle.base.specs.Ask.{Ask, refused, found}
 use Rattle.floats.specs.Numbers.{zero64}
 use Rattle.boxes.specs.declared.Vec3.{Vec3}
 use Rattle.boxes.specs.declared.Aabb.{Aabb}
 use Rattle.sweeps.specs.declared.BoxList.{BoxList}
 use Rattle.sweeps.specs.declared.MoveResult.{MoveResult}
-use Rattle.sweeps.specs.declared.MoveAnswer.{MoveAnswer}
 use Rattle.boxes.specs.Boxes.{vec}
 use Rattle.sweeps.specs.Lists.{is_cap, cap_of, list_of}
 use Rattle.sweeps.specs.Move.{move_over}
@@ -24,6 +24,15 @@ refusal_of cap aabb delta step sound count =
 -- a refused move returns its box, moved zero, ground false
 abbrev pub refused_move : Aabb → MoveResult
 refused_move aabb = record { aabb = aabb; moved = vec zero64 zero64 zero64; on_ground = false }
+
+-- what a move that is handed in comes to: refusal 0 and the move, or a refusal and what a refused move returns
+pub record MoveAnswer : Type 0 where
+  pub refusal : ℕ
+  pub result : MoveResult
+
+abbrev pub move_answer : Aabb → Ask MoveResult → MoveAnswer
+move_answer aabb (found m) = record { refusal = 0; result = m }
+move_answer aabb (refused k) = record { refusal = k; result = refused_move aabb }
 
 abbrev pub answer_of : ℕ → MoveResult → Aabb → MoveAnswer
 answer_of refusal moved aabb = record { refusal = refusal; result = choose (eqb refusal 0) moved (refused_move aabb) }

@@ -1,12 +1,13 @@
 -- The capped list: room for 512 boxes and a count, and the cap on it. Its meaning is the list of its first `count` boxes; what lies beyond means
 -- nothing. Document 02's words stand in quotes.
-use Rattle.std.specs.Prelude.{Bool, List, ℕ, min, eqb, leb, length, take, replicate}
+use Rattle.std.specs.Prelude.{Bool, List, [], Result, Ok, Err, ℕ, min, eqb, leb, length, take, replicate}
 use Rattle.base.specs.Choose.{choose}
 use Rattle.floats.specs.Numbers.{zero64}
 use Rattle.boxes.specs.Boxes.{vec, box}
 use Rattle.boxes.specs.declared.Aabb.{Aabb}
 use Rattle.sweeps.specs.declared.BoxList.{BoxList}
-use Rattle.sweeps.specs.declared.Collected.{Collected}
+use Rattle.base.specs.declared.Refusal.{Refusal}
+use Rattle.base.specs.Refusals.{number_of}
 
 -- how many boxes a list has room for
 abbrev pub room : ℕ
@@ -35,9 +36,11 @@ pub record Held : Type 0 where
   pub count : ℕ
   pub boxes : List Aabb
 
-abbrev pub held_in : Collected → Held
-held_in r = record { refusal = r.refusal; count = r.list.count; boxes = list_of r.list }
-
 -- the count is the length of the list
 abbrev pub held : ℕ → List Aabb → Held
 held k bs = record { refusal = k; count = length bs; boxes = bs }
+
+-- a refusal hands back no box
+abbrev pub held_in : Result BoxList Refusal → Held
+held_in (Ok l) = record { refusal = 0; count = l.count; boxes = list_of l }
+held_in (Err e) = held (number_of e) []

@@ -8,12 +8,20 @@ use Rattle.base.specs.Choose.{choose}
 use Rattle.floats.specs.Numbers.{zero64}
 use Rattle.boxes.specs.declared.Vec3.{Vec3}
 use Rattle.boxes.specs.declared.Aabb.{Aabb}
+use Rattle.sweeps.specs.declared.Along.{Along}
+use Rattle.sweeps.specs.declared.Along.TheVariants.{X, Y, Z}
 use Rattle.sweeps.specs.declared.Swept.{Swept}
 use Rattle.sweeps.specs.declared.Request.{Request}
 use Rattle.sweeps.specs.declared.Sweep.{Sweep}
 use Rattle.sweeps.specs.declared.MoveResult.{MoveResult}
 use Rattle.boxes.specs.Boxes.{vec, offset_by, clip_x, clip_y, clip_z}
 use Rattle.sweeps.specs.Move.{clip_all, longer, stopped_falling, tries_step}
+
+-- the number of an axis
+abbrev pub axis_number : Along → ℕ
+axis_number X = 0
+axis_number Y = 1
+axis_number Z = 2
 
 -- y, x, z: 0 is x, 1 is y, 2 is z
 unfoldable pub axis_of : ℕ → ℕ

@@ -11,18 +11,19 @@ pub use passes::{axis_of, clip_along, ended, stopped_falling};
 // How many boxes a list has room for.
 pub const ROOM: usize = 512;
 
-// The capped list: room for 512 boxes and a count.
+// The capped list: room for 512 boxes and a count. It is an array with its count beside it, since there is no heap, and it goes by value.
 #[derive(Clone, Copy)]
 pub struct BoxList {
     pub boxes: [Aabb; ROOM],
     pub count: usize,
 }
 
-// A list, or the number of a refusal and an empty list. The list is the first field, so that handing it on moves nothing.
-#[derive(Clone, Copy)]
-pub struct Collected {
-    pub list: BoxList,
-    pub refusal: u32,
+/// What a pass goes along.
+#[derive(Clone, Copy, Debug, PartialEq, Eq)]
+pub enum Along {
+    X,
+    Y,
+    Z,
 }
 
 // A box that has moved, and by how much.
@@ -38,13 +39,6 @@ pub struct MoveResult {
     pub aabb: Aabb,
     pub moved: Vec3,
     pub on_ground: bool,
-}
-
-// A move that is handed in may be refused: refusal 0 and the move, or a refusal, the box given, moved zero, and ground false.
-#[derive(Clone, Copy)]
-pub struct MoveAnswer {
-    pub refusal: u32,
-    pub result: MoveResult,
 }
 
 // What a move is asked for.

@@ -1,36 +1,20 @@
 // The capped list: one record, room for 512 boxes and a count. It is built by value; a loop that fills it does so in place, since
 // a call that takes and hands back a list copies it.
-ghost use Rattle.std.specs.Prelude.{◌≡◌, min, []};
-ghost use Rattle.sweeps.specs.Lists.{room, is_cap, cap_of, no_box, empty_list, held_in, held};
+ghost use Rattle.std.specs.Prelude.{◌≡◌, min};
+ghost use Rattle.sweeps.specs.Lists.{room, is_cap, cap_of, list_of, empty_list};
 
-use crate::{BoxList, Collected, ROOM};
-use boxes::{Aabb, Vec3};
-
-fn no_box() -> Aabb
-    ensures { result ≡ no_box }
-{
-    Aabb {
-        min: Vec3 {
-            x: 0.0,
-            y: 0.0,
-            z: 0.0,
-        },
-        max: Vec3 {
-            x: 0.0,
-            y: 0.0,
-            z: 0.0,
-        },
-    }
-}
+use crate::{BoxList, ROOM};
+use boxes::{Aabb, vectors};
 
 // How many boxes of a list count: a count above the room counts as the room.
 pub fn counted(count: usize) -> usize
     ensures { result ≡ min count room }
 {
-    if count < ROOM { count } else { ROOM }
+    count.min(ROOM)
 }
 
 // Whether a cap is no 3.
+#[tactic(auto, unfolding(crate::specs::Lists::is_cap))]
 pub fn is_cap(cap: u32) -> bool
     ensures { result ≡ is_cap cap }
 {
@@ -38,6 +22,7 @@ pub fn is_cap(cap: u32) -> bool
 }
 
 // The cap in force: 0 stands for the room.
+#[tactic(auto, using(base::proofs::Cases::cases), unfolding(crate::specs::Lists::cap_of, base::specs::Choose::choose))]
 pub fn cap_of(cap: u32) -> usize
     ensures { result ≡ cap_of cap }
 {
@@ -48,20 +33,21 @@ pub fn cap_of(cap: u32) -> usize
 }
 
 impl BoxList {
+    #[tactic(auto, unfolding(crate::specs::Lists::empty_list))]
     pub fn new() -> BoxList
         ensures { result ≡ empty_list }
     {
-        let b = no_box();
-        let boxes = [b; ROOM];
-        BoxList { boxes, count: 0 }
+        let b = Aabb::new(vectors::zero(), vectors::zero());
+        BoxList {
+            boxes: [b; ROOM],
+            count: 0,
+        }
     }
-}
 
-impl Collected {
-    pub fn refused(refusal: u32) -> Collected
-        ensures { held_in result ≡ held refusal [] }
+    // The boxes that count.
+    pub fn as_slice(&self) -> &[Aabb]
+        ensures { result.now ≡ list_of self.now }
     {
-        let list = BoxList::new();
-        Collected { list, refusal }
+        &self.boxes[..counted(self.count)]
     }
 }

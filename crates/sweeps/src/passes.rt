@@ -3,38 +3,37 @@
 ghost use Rattle.std.specs.Prelude.{◌≡◌};
 ghost use Rattle.sweeps.specs.Entry.{refused_move};
 ghost use Rattle.sweeps.specs.Move.{stopped_falling};
-ghost use Rattle.sweeps.specs.Passes.{axis_of, clip_along, end_of_move};
+ghost use Rattle.sweeps.specs.Passes.{axis_number, axis_of, clip_along, end_of_move};
 
-use crate::{MoveResult, Request, Sweep};
-use boxes::{Aabb, Vec3};
+use crate::{Along, MoveResult, Request, Sweep};
+use boxes::{Aabb, vectors};
 
-// The axes in the order of the passes: y, x, z. 0 is x, 1 is y, 2 is z.
-const ORDER: [u32; 3] = [1, 0, 2];
+// The axes in the order of the passes.
+const ORDER: [Along; 3] = [Along::Y, Along::X, Along::Z];
 
-pub fn axis_of(pass: u32) -> u32
-    ensures { result ≡ axis_of pass }
+pub fn axis_of(pass: u32) -> Along
+    ensures { axis_number result ≡ axis_of pass }
 {
     let k = (pass % 3) as usize;
     ORDER[k]
 }
 
-pub fn clip_along(axis: u32, b: Aabb, mover: Aabb, d: f64) -> f64
-    ensures { result ≡ clip_along axis b mover d }
+#[tactic(auto, using(base::proofs::Cases::cases), unfolding(crate::specs::Passes::clip_along, base::specs::Choose::choose))]
+pub fn clip_along(axis: Along, b: Aabb, mover: Aabb, d: f64) -> f64
+    ensures { result ≡ clip_along (axis_number axis) b mover d }
 {
-    if axis == 0 {
-        return b.clip_x(mover, d);
+    match axis {
+        Along::X => b.clip_x(mover, d),
+        Along::Y => b.clip_y(mover, d),
+        Along::Z => b.clip_z(mover, d),
     }
-    if axis == 1 {
-        return b.clip_y(mover, d);
-    }
-    b.clip_z(mover, d)
 }
 
 // A downward way dy was stopped: it came to y.
 pub fn stopped_falling(dy: f64, y: f64) -> bool
     ensures { result ≡ stopped_falling dy y }
 {
-    if dy < 0.0 { y != dy } else { false }
+    dy < 0.0 && y != dy
 }
 
 // What a move comes to whose passes are over. The flag is worked out after the step, from the attempt that was kept.
@@ -42,11 +41,9 @@ pub fn ended(q: Request, s: Sweep) -> MoveResult
     ensures { result ≡ end_of_move q s }
 {
     let kept = s.now;
-    let aabb = kept.aabb;
-    let moved = kept.moved;
     MoveResult {
-        aabb,
-        moved,
+        aabb: kept.aabb,
+        moved: kept.moved,
         on_ground: stopped_falling(q.delta.y, kept.moved.y),
     }
 }
@@ -58,11 +55,7 @@ impl MoveResult {
     {
         MoveResult {
             aabb,
-            moved: Vec3 {
-                x: 0.0,
-                y: 0.0,
-                z: 0.0,
-            },
+            moved: vectors::zero(),
             on_ground: false,
         }
     }

@@ -4,23 +4,42 @@
 ghost use Rattle.std.specs.Prelude.{◌≡◌, from_bits, slice_index};
 ghost use Rattle.std.specs.Float.{binary32};
 ghost use Rattle.tables.specs.Tables.{word_at, is_registered, head_of, head_at, blocks_motion, friction_at, kind_of, liquid_of, liquid_at, boxes_at, state_boxes, float_at, shape_box_of, box_at};
+ghost use Rattle.tables.specs.Kinds.{kind_read};
 
-// A kind of liquid, in the order of word 2's numbers.
-#[derive(Clone, Copy)]
+use base::Refusal;
+
+/// A kind of liquid, in the order of word 2's numbers.
+#[derive(Clone, Copy, Debug, PartialEq, Eq)]
 pub enum LiquidKind {
     None,
     Water,
     Lava,
 }
 
-// The liquid of a state: depth 0 to 7, or 8 to 15 where it is falling; 0 where there is none.
+impl TryFrom<u32> for LiquidKind {
+    type Error = Refusal;
+
+    ghost try_from_gives = { λ number read. read ≡ kind_read number };
+
+    #[tactic(auto, using(base::proofs::Cases::cases), unfolding(crate::specs::Kinds::kind_read, base::specs::Choose::choose))]
+    fn try_from(number: u32) -> Result<LiquidKind, Refusal> {
+        match number {
+            0 => Ok(LiquidKind::None),
+            1 => Ok(LiquidKind::Water),
+            2 => Ok(LiquidKind::Lava),
+            _ => Err(Refusal::Tables),
+        }
+    }
+}
+
+/// The liquid of a state: depth 0 to 7, or 8 to 15 where it is falling; 0 where there is none.
 #[derive(Clone, Copy)]
 pub struct LiquidState {
     pub kind: LiquidKind,
     pub depth: u32,
 }
 
-// What a record tells of itself before its neighbours are asked: what it connects as (0 nothing), and its boxes.
+/// What a record tells of itself before its neighbours are asked: what it connects as (0 nothing), and its boxes.
 #[derive(Clone, Copy)]
 pub struct Head {
     pub registered: bool,
@@ -29,7 +48,7 @@ pub struct Head {
     pub count: u32,
 }
 
-// A box of a shape, in its block's coordinates.
+/// A box of a shape, in its block's coordinates.
 #[derive(Clone, Copy)]
 pub struct ShapeBox {
     pub x0: f64,
@@ -40,39 +59,118 @@ pub struct ShapeBox {
     pub z1: f64,
 }
 
-fn wide(x: u32) -> usize
-    ensures { result ≡ x }
-{
-    x as usize
+/// The tables that a host lends: records of 20 words, and boxes of six numbers.
+#[derive(Clone, Copy)]
+pub struct Tables<'a> {
+    pub records: &'a [u32],
+    pub shapes: &'a [f32],
 }
 
-// The word at place i: 0 where there is none.
-fn word_at(records: &[u32], i: usize) -> u32
-    ensures { result ≡ slice_index records.now i }
-{
-    if i < records.len() { records[i] } else { 0 }
+impl<'a> Tables<'a> {
+    /// Word k of a state's record: 0 where there is none, and from k = 20 on, where the next record begins.
+    pub fn word(self, state: u32, k: u32) -> u32
+        ensures { result ≡ word_at self.entry.records.now state k }
+    {
+        word(self.records, state, k)
+    }
+
+    #[tactic(auto, unfolding(crate::specs::Tables::is_registered))]
+    pub fn is_registered(self, state: u32) -> bool
+        ensures { result ≡ is_registered self.entry.records.now state }
+    {
+        self.word(state, 0) % 2 == 1
+    }
+
+    #[tactic(auto, unfolding(crate::specs::Tables::blocks_motion))]
+    pub fn blocks_motion(self, state: u32) -> bool
+        ensures { result ≡ blocks_motion self.entry.records.now state }
+    {
+        self.word(state, 0) / 2 % 2 == 1
+    }
+
+    /// Words 0, 4, 7 and 8 of a state's record. One test says that they are all there.
+    pub fn head(self, state: u32) -> Head
+        ensures { result ≡ head_at self.entry.records.now state }
+    {
+        let records = self.records;
+        let i = state as usize * 20;
+        if i + 8 < records.len() {
+            return head_of(records[i], records[i + 4], records[i + 7], records[i + 8]);
+        }
+        head_of(
+            self.word(state, 0),
+            self.word(state, 4),
+            self.word(state, 7),
+            self.word(state, 8),
+        )
+    }
+
+    /// A state's friction: 0.0 where there is no record, a NaN where its bits are a NaN's.
+    #[tactic(auto, unfolding(crate::specs::Tables::friction_at))]
+    pub fn friction(self, state: u32) -> f64
+        ensures { result ≡ friction_at self.entry.records.now state }
+    {
+        std::num::f32_to_f64_with_nan(single_of(self.word(state, 1)))
+    }
+
+    /// The liquid of a state; an unknown state, or one that is no liquid, has none.
+    #[tactic(auto, using(base::proofs::Cases::cases), unfolding(crate::specs::Tables::liquid_at, base::specs::Choose::choose))]
+    pub fn liquid(self, state: u32) -> LiquidState
+        ensures { result ≡ liquid_at self.entry.records.now state }
+    {
+        if self.is_registered(state) {
+            liquid_of(self.word(state, 2), self.word(state, 3))
+        } else {
+            LiquidState {
+                kind: LiquidKind::None,
+                depth: 0,
+            }
+        }
+    }
+
+    /// The part of the shapes that is `count` boxes from box `first` on: nothing where it is not there whole.
+    pub fn part(self, first: u32, count: u32) -> &'a [f32]
+        ensures { result.now ≡ boxes_at self.entry.shapes.now first count }
+    {
+        let shapes = self.shapes;
+        if count == 0 {
+            return &shapes[0..0];
+        }
+        let start = first as usize * 6;
+        let end = start + count as usize * 6;
+        if end <= shapes.len() {
+            &shapes[start..end]
+        } else {
+            &shapes[0..0]
+        }
+    }
+
+    /// The boxes of a state, as a part of the lent shapes.
+    pub fn boxes(self, state: u32) -> &'a [f32]
+        ensures { result.now ≡ state_boxes self.entry.records.now self.entry.shapes.now state }
+    {
+        let count = self.word(state, 8);
+        self.part(self.word(state, 7), count)
+    }
 }
 
-// Word k of a state's record: 0 where there is none, and from k = 20 on, where the next record begins.
+/// Word k of record `state`: 0 where there is none, and from k = 20 on, where the next record begins.
+#[tactic(auto, using(base::proofs::Cases::cases), unfolding(base::specs::Choose::choose))]
 pub fn word(records: &[u32], state: u32, k: u32) -> u32
     ensures { result ≡ word_at records.now state k }
 {
     if k < 20 {
-        return word_at(records, wide(state) * 20 + wide(k));
+        word_or_zero(records, state as usize * 20 + k as usize)
+    } else {
+        0
     }
-    0
 }
 
-pub fn is_registered(records: &[u32], state: u32) -> bool
-    ensures { result ≡ is_registered records.now state }
+// The word at place i: 0 where there is none.
+fn word_or_zero(records: &[u32], i: usize) -> u32
+    ensures { result ≡ slice_index records.now i }
 {
-    word(records, state, 0) % 2 == 1
-}
-
-pub fn blocks_motion(records: &[u32], state: u32) -> bool
-    ensures { result ≡ blocks_motion records.now state }
-{
-    word(records, state, 0) / 2 % 2 == 1
+    if i < records.len() { records[i] } else { 0 }
 }
 
 fn head_of(flags: u32, kind: u32, first: u32, count: u32) -> Head
@@ -86,23 +184,7 @@ fn head_of(flags: u32, kind: u32, first: u32, count: u32) -> Head
     }
 }
 
-// Words 0, 4, 7 and 8 of a state's record. One test says that they are all there.
-pub fn head_at(records: &[u32], state: u32) -> Head
-    ensures { result ≡ head_at records.now state }
-{
-    let i = wide(state) * 20;
-    if i + 8 < records.len() {
-        return head_of(records[i], records[i + 4], records[i + 7], records[i + 8]);
-    }
-    head_of(
-        word(records, state, 0),
-        word(records, state, 4),
-        word(records, state, 7),
-        word(records, state, 8),
-    )
-}
-
-// The f32 with these bits. Above the infinity's, with the sign's bit off, they are a NaN's.
+/// The f32 with these bits. Above the infinity's, with the sign's bit off, they are a NaN's.
 pub fn single_of(bits: u32) -> f32
     ensures { result ≡ from_bits binary32 bits }
 {
@@ -112,79 +194,20 @@ pub fn single_of(bits: u32) -> f32
     0.0 / 0.0
 }
 
-// A state's friction: 0.0 where there is no record, a NaN where its bits are a NaN's.
-pub fn friction(records: &[u32], state: u32) -> f64
-    ensures { result ≡ friction_at records.now state }
-{
-    std::num::f32_to_f64_with_nan(single_of(word(records, state, 1)))
-}
-
-fn kind_of(number: u32) -> LiquidKind
-    ensures { result ≡ kind_of number }
-{
-    if number == 1 {
-        return LiquidKind::Water;
-    }
-    if number == 2 {
-        return LiquidKind::Lava;
-    }
-    LiquidKind::None
-}
-
+#[tactic(auto, using(base::proofs::Cases::cases), unfolding(crate::specs::Tables::liquid_of, crate::specs::Tables::kind_of, crate::specs::Kinds::kind_read, base::specs::Choose::choose))]
 fn liquid_of(number: u32, depth: u32) -> LiquidState
     ensures { result ≡ liquid_of number depth }
 {
-    let kind = kind_of(number);
-    match kind {
-        LiquidKind::None => LiquidState {
+    match LiquidKind::try_from(number) {
+        Ok(LiquidKind::None) | Err(_) => LiquidState {
             kind: LiquidKind::None,
             depth: 0,
         },
-        LiquidKind::Water => LiquidState { kind, depth },
-        LiquidKind::Lava => LiquidState { kind, depth },
+        Ok(kind) => LiquidState { kind, depth },
     }
 }
 
-// The liquid of a state; an unknown state, or one that is no liquid, has none.
-pub fn liquid_state(records: &[u32], state: u32) -> LiquidState
-    ensures { result ≡ liquid_at records.now state }
-{
-    if is_registered(records, state) {
-        let number = word(records, state, 2);
-        let depth = word(records, state, 3);
-        return liquid_of(number, depth);
-    }
-    LiquidState {
-        kind: LiquidKind::None,
-        depth: 0,
-    }
-}
-
-// The part of the shapes that is `count` boxes from box `first` on: nothing where it is not there whole.
-pub fn boxes_at(shapes: &[f32], first: u32, count: u32) -> &[f32]
-    ensures { result.now ≡ boxes_at shapes.now first count }
-{
-    if count == 0 {
-        return &shapes[0..0];
-    }
-    let start = wide(first) * 6;
-    let end = start + wide(count) * 6;
-    if end <= shapes.len() {
-        return &shapes[start..end];
-    }
-    &shapes[0..0]
-}
-
-// The boxes of a state, as a part of the lent shapes.
-pub fn state_boxes<'a>(records: &[u32], shapes: &'a [f32], state: u32) -> &'a [f32]
-    ensures { result.now ≡ state_boxes records.now shapes.now state }
-{
-    let first = word(records, state, 7);
-    let count = word(records, state, 8);
-    boxes_at(shapes, first, count)
-}
-
-// Number i of a shape: 0.0 where there is none.
+/// Number i of a shape: 0.0 where there is none.
 pub fn float_at(shape: &[f32], i: usize) -> f64
     ensures { result ≡ float_at shape.now i }
 {
@@ -226,28 +249,22 @@ fn box_of(x0: f32, y0: f32, z0: f32, x1: f32, y1: f32, z1: f32) -> ShapeBox
 fn cut_box(shape: &[f32], k: u32) -> ShapeBox
     ensures { result ≡ box_at shape.now k }
 {
-    let i = wide(k) * 6;
-    let x0 = float_at(shape, i);
-    let y0 = float_at(shape, i + 1);
-    let z0 = float_at(shape, i + 2);
-    let x1 = float_at(shape, i + 3);
-    let y1 = float_at(shape, i + 4);
-    let z1 = float_at(shape, i + 5);
+    let i = k as usize * 6;
     ShapeBox {
-        x0,
-        y0,
-        z0,
-        x1,
-        y1,
-        z1,
+        x0: float_at(shape, i),
+        y0: float_at(shape, i + 1),
+        z0: float_at(shape, i + 2),
+        x1: float_at(shape, i + 3),
+        y1: float_at(shape, i + 4),
+        z1: float_at(shape, i + 5),
     }
 }
 
-// Box k of a shape. One test says that all its numbers are there.
+/// Box k of a shape. One test says that all its numbers are there.
 pub fn box_at(shape: &[f32], k: u32) -> ShapeBox
     ensures { result ≡ box_at shape.now k }
 {
-    let i = wide(k) * 6;
+    let i = k as usize * 6;
     if i + 5 < shape.len() {
         return box_of(
             shape[i],

@@ -4,11 +4,21 @@
 
 ghost use Rattle.std.specs.Prelude.{◌≡◌, [], ◌∷◌, ◌-◌, ◌*◌, ◌%◌};
 ghost use Rattle.text.specs.Cursor.{Put};
-ghost use Rattle.text.specs.Text.{hex_digit, hex_at, hex_of, vec_text, feet_line, velocity_line, ground_digit, ground_line, liquid_text, liquid_line, lines_of, refused_text, text_of, written, written_count};
+ghost use Rattle.text.specs.Text.{hex_digit, hex_at, hex_of, vec_text, feet_line, velocity_line, ground_digit, ground_line, liquid_text, liquid_line, lines_of, refused_text, written, written_count};
+ghost use Rattle.text.specs.Told.{told_text};
+ghost use Rattle.base.specs.Refusals.{number_of};
 
+use base::Refusal;
 use bodies::MotionNumbers;
 use boxes::Vec3;
 use tables::LiquidKind;
+
+/// What the four lines of a step tell.
+#[derive(Clone, Copy)]
+pub struct Lines {
+    pub motion: MotionNumbers,
+    pub liquid: LiquidKind,
+}
 
 fn put(out: &mut [u8], at: usize, b: u8) -> usize
     ensures { Put out.old at (b ∷ []) out.new result }
@@ -24,10 +34,8 @@ fn put_text(out: &mut [u8], at: usize, text: &[u8]) -> usize
     ensures { Put out.old at text.now out.new result }
 {
     let mut cursor = at;
-    let mut i = 0usize;
-    while i < text.len() {
+    for i in 0..text.len() {
         cursor = put(out, cursor, text[i]);
-        i += 1;
     }
     cursor
 }
@@ -60,10 +68,8 @@ fn put_hex(out: &mut [u8], at: usize, x: f64) -> usize
 {
     let bits = floats::bits_of_float(x);
     let mut cursor = at;
-    let mut k = 0u8;
-    while k < 16 {
+    for k in 0..16 {
         cursor = put(out, cursor, hex_at(bits, k));
-        k += 1;
     }
     cursor
 }
@@ -136,37 +142,32 @@ fn put_lines(out: &mut [u8], at: usize, motion: MotionNumbers, kind: LiquidKind)
     put_liquid(out, grounded, kind)
 }
 
-pub fn put_refusal(out: &mut [u8], at: usize, refusal: u32) -> usize
-    ensures { Put out.old at (refused_text refusal) out.new result }
+/// The line of a refusal: `refused N`.
+pub fn put_refusal(out: &mut [u8], at: usize, refusal: Refusal) -> usize
+    ensures { Put out.old at (refused_text (number_of refusal)) out.new result }
 {
     let name = put_text(out, at, b"refused ");
-    let digit = put(out, name, 48 + (refusal % 10) as u8);
+    let digit = put(out, name, 48 + (refusal.number() % 10) as u8);
     put_text(out, digit, b"\n")
 }
 
 // Four lines, or `refused N`.
-fn put_answer(
-    out: &mut [u8],
-    at: usize,
-    refusal: u32,
-    motion: MotionNumbers,
-    kind: LiquidKind,
-) -> usize
-    ensures { Put out.old at (text_of refusal motion kind) out.new result }
+fn put_answer(out: &mut [u8], at: usize, answer: Result<Lines, Refusal>) -> usize
+    ensures { Put out.old at (told_text answer) out.new result }
 {
-    if refusal == 0 {
-        return put_lines(out, at, motion, kind);
+    match answer {
+        Ok(lines) => put_lines(out, at, lines.motion, lines.liquid),
+        Err(refusal) => put_refusal(out, at, refusal),
     }
-    put_refusal(out, at, refusal)
 }
 
-// An answer from the buffer's start on. It returns how many bytes that is; a buffer of fewer than 160 is left as it is, and the answer is 0.
-pub fn write_answer(out: &mut [u8], refusal: u32, motion: MotionNumbers, kind: LiquidKind) -> usize
-    ensures out_after { out.new ≡ written out.old (text_of refusal motion kind) }
-    ensures value { result ≡ written_count out.old (text_of refusal motion kind) }
+/// An answer from the buffer's start on. It returns how many bytes that is; a buffer of fewer than 160 is left as it is, and the answer is 0.
+pub fn write_answer(out: &mut [u8], answer: Result<Lines, Refusal>) -> usize
+    ensures out_after { out.new ≡ written out.old (told_text answer) }
+    ensures value { result ≡ written_count out.old (told_text answer) }
 {
     if out.len() < 160 {
         return 0;
     }
-    put_answer(out, 0, refusal, motion, kind)
+    put_answer(out, 0, answer)
 }

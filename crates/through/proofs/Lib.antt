@@ -1,4 +1,3 @@
 -- The laws of the move through a window.
 pub mod Moved
-pub mod Unique
 pub mod Same

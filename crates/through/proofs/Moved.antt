@@ -22,8 +22,7 @@ use Rattle.window.specs.declared.Window.{Window}
 use Rattle.window.specs.Look.{look_at}
 use Rattle.ranges.specs.declared.Range.{Range}
 use Rattle.ranges.specs.Ranges.{trimmed}
-use Rattle.passing.specs.declared.Reach.{Reach}
-use Rattle.passing.specs.Passing.{reach_in, lines_by, passes}
+use Rattle.passing.specs.Passing.{Reached, reach_in, lines_by, passes}
 use Rattle.collection.specs.Collect.{push, range_of, swept_area}
 use Rattle.collection.specs.Past.{collect_in_past, collect_past}
 use Rattle.collection.specs.Answers.{held_asked}
@@ -75,7 +74,7 @@ unfolding move_from move_aabb_past
 as-asked cap over cells w records shapes q area r e er = rw (in-range over cap (look_at cells w) records shapes area r er, e)
 
 -- ---- the lines of a layer, as the program has them
-module _ (words : List ℕ) (w : Window) (r : Range) (k : Reach) (y lines x : ℕ) (e : k ≡ reach_in words w r) (f : lines ≡ lines_by words w r k y) where
+module _ (words : List ℕ) (w : Window) (r : Range) (k : Reached) (y lines x : ℕ) (e : k ≡ reach_in words w r) (f : lines ≡ lines_by words w r k y) where
   come-to : lines ≡ choose (passes words w r y) 0 r.x.count
   come-to = rw e at f
 

@@ -1,7 +1,7 @@
 -- How the program makes a move: over a list with room for few boxes, and where more come with more room. No contract of a host's function
 -- cites this file.
 use Rattle.std.specs.Prelude.{Bool, List, ℕ, min, replicate, Float}
-use Rattle.base.specs.Ask.{Ask, refused, found, ◌>>=◌}
+use Rattle.base.specs.Ask.{Ask, found, ◌>>=◌}
 use Rattle.boxes.specs.declared.Aabb.{Aabb}
 use Rattle.sweeps.specs.declared.Request.{Request}
 use Rattle.sweeps.specs.declared.MoveResult.{MoveResult}

@@ -1,6 +1,6 @@
 -- The move through a window, as the Rust's move_aabb: the swept area, collection, the move over what was collected.
 use Rattle.std.specs.Prelude.{Bool, List, ℕ, Float}
-use Rattle.base.specs.Ask.{Ask, refused, found, ◌>>=◌}
+use Rattle.base.specs.Ask.{Ask, found, ◌>>=◌}
 use Rattle.boxes.specs.declared.Vec3.{Vec3}
 use Rattle.boxes.specs.declared.Aabb.{Aabb}
 use Rattle.sweeps.specs.declared.MoveResult.{MoveResult}
@@ -10,8 +10,6 @@ use Rattle.window.specs.Look.{Block}
 use Rattle.ranges.specs.declared.Range.{Range}
 use Rattle.collection.specs.Collect.{swept_area, collect_block_boxes}
 use Rattle.collection.specs.Past.{collect_past}
-use Rattle.through.specs.declared.AskedMove.{AskedMove}
-use Rattle.through.specs.declared.AskedMove.TheVariants.{To, Refused}
 
 -- `cap` is the cap in force
 unfoldable pub move_aabb : ℕ → (Pos → Ask Block) → List ℕ → List Float → Aabb → Vec3 → Float → Bool → Ask MoveResult
@@ -24,7 +22,3 @@ unfoldable pub move_aabb_past : ℕ → (Range → ℕ → Bool) → (Pos → As
 move_aabb_past cap over look records shapes aabb delta step_height was_on_ground = do
   boxes ← collect_past over cap look records shapes (swept_area aabb delta step_height)
   found (move_over boxes aabb delta step_height was_on_ground)
-
-abbrev pub moved_asked : AskedMove → Ask MoveResult
-moved_asked (To m) = found m
-moved_asked (Refused n) = refused n

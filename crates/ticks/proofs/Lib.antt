@@ -1,5 +1,4 @@
 -- The laws of a tick.
-pub mod Answers
 pub mod Refuses
 pub mod Alike
 pub mod Tells

@@ -1,3 +1,2 @@
--- The definitions of module 8's tick, and what the program's answers say.
+-- The definitions of module 8's tick.
 pub mod Step
-pub mod Answers

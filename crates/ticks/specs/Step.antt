@@ -12,13 +12,11 @@ use Rattle.sweeps.specs.Lists.{cap_of}
 use Rattle.boxes.specs.Boxes.{plus, from_feet, feet_of}
 use Rattle.tables.specs.declared.LiquidKind.{LiquidKind}
 use Rattle.tables.specs.declared.LiquidKind.TheVariants.{None}
-use Rattle.tables.specs.declared.LiquidState.{LiquidState}
 use Rattle.window.specs.declared.Pos.{Pos}
 use Rattle.window.specs.declared.Window.{Window}
 use Rattle.window.specs.Look.{Block, look_at}
 use Rattle.passing.specs.Passing.{passes}
 use Rattle.through.specs.Through.{move_aabb, move_aabb_past}
-use Rattle.currents.specs.declared.Current.{Current}
 use Rattle.boxes.specs.Vectors.{zero_vec}
 use Rattle.flow.specs.Liquid.{liquid_held}
 use Rattle.currents.specs.Current.{item_current}

@@ -4,7 +4,7 @@
 ghost use Rattle.std.specs.Prelude.{◌≡◌};
 ghost use Rattle.ticks.specs.Step.{tick_to, tick_after};
 
-use bodies::{Body, Motion, Rules, is_falling_block, is_living};
+use bodies::{Body, Motion, Rules};
 use boxes::Vec3;
 use drags::Support;
 use step_answers::Tick;
@@ -14,26 +14,12 @@ mod moving;
 
 pub use moving::step_through;
 
-// An item before its move: its velocity with current and flotation, the liquid that floats it, and whether it rests.
+/// A body before its move: its velocity, an item's with current and flotation, the liquid that floats an item, and whether it rests.
 #[derive(Clone, Copy)]
 pub struct Begun {
     pub velocity: Vec3,
     pub flotation: LiquidKind,
     pub rests: bool,
-}
-
-// The same, or the number of a refusal.
-#[derive(Clone, Copy)]
-pub enum AskedBegun {
-    Is(Begun),
-    Refused(u32),
-}
-
-// A step, or the number of a refusal.
-#[derive(Clone, Copy)]
-pub enum AskedTick {
-    To(Tick),
-    Refused(u32),
 }
 
 fn tick_to(feet: Vec3, velocity: Vec3, grounded: bool, liquid: LiquidKind, support: Support) -> Tick
@@ -50,7 +36,8 @@ fn tick_to(feet: Vec3, velocity: Vec3, grounded: bool, liquid: LiquidKind, suppo
     }
 }
 
-// What follows the move, from the sample on; v is the velocity with its blocked axes zeroed.
+/// What follows the move, from the sample on; v is the velocity with its blocked axes zeroed.
+#[tactic(auto, using(base::proofs::Cases::cases), unfolding(crate::specs::Step::tick_after, base::specs::Choose::choose))]
 fn tick_after(
     rules: Rules,
     body: Body,
@@ -62,25 +49,14 @@ fn tick_after(
 ) -> Tick
     ensures { result ≡ tick_after rules body liquid feet grounded support v }
 {
-    let model = body.model;
-    if is_falling_block(model) & grounded {
-        return tick_to(
-            feet,
-            Vec3::new(0.0, 0.0, 0.0),
-            grounded,
-            LiquidKind::None,
-            support,
-        );
+    if body.model.is_falling_block() && grounded {
+        let stopped = Vec3::new(0.0, 0.0, 0.0);
+        return tick_to(feet, stopped, grounded, LiquidKind::None, support);
     }
-    if is_living(model) {
+    if body.model.is_living() {
         let velocity = drags::apply_living_drag(rules, body, liquid, support, v);
         return tick_to(feet, velocity, grounded, liquid, support);
     }
-    tick_to(
-        feet,
-        drags::dragged(body, support, v),
-        grounded,
-        LiquidKind::None,
-        support,
-    )
+    let velocity = drags::dragged(body, support, v);
+    tick_to(feet, velocity, grounded, LiquidKind::None, support)
 }

@@ -17,18 +17,19 @@ ghost use Rattle.timed.specs.Ways.{box_between, along_of, way_of};
 
 use boxes::{Aabb, Vec3};
 use groups::Place;
-use through::AskedMove;
+use sweeps::Request;
+use tables::Tables;
+use window::View;
 
+#[tactic(auto, using(base::proofs::Cases::cases), unfolding(crate::specs::Ways::along_of, base::specs::Choose::choose))]
 fn along(v: Vec3, k: u32) -> f64
     ensures { result ≡ along_of k v }
 {
-    if k == 0 {
-        return v.x;
+    match k {
+        0 => v.x,
+        1 => v.y,
+        _ => v.z,
     }
-    if k == 1 {
-        return v.y;
-    }
-    v.z
 }
 
 // The way that a box goes along axis k (x, y, z), over tables and a window that were checked before: 0.0 where the move is refused.
@@ -61,31 +62,20 @@ pub extern "C" fn boltjuniper_way(
 ) -> f64
     ensures { result ≡ way_of k (move_aabb_past (cap_of 0) (passes cells.now (window_of ox oy oz sx sy sz lowest highest air)) (look_at cells.now (window_of ox oy oz sx sy sz lowest highest air)) records.now shapes.now (box_between x0 y0 z0 x1 y1 z1) (vec dx dy dz) step (not (eqb grounded 0))) }
 {
-    let w = window::window_of(ox, oy, oz, sx, sy, sz, lowest, highest, air);
-    let a = Aabb {
-        min: Vec3 {
-            x: x0,
-            y: y0,
-            z: z0,
-        },
-        max: Vec3 {
-            x: x1,
-            y: y1,
-            z: z1,
-        },
+    let tables = Tables { records, shapes };
+    let view = View {
+        words: cells,
+        window: window::window_of(ox, oy, oz, sx, sy, sz, lowest, highest, air),
     };
-    let d = Vec3 {
-        x: dx,
-        y: dy,
-        z: dz,
+    let q = Request {
+        aabb: Aabb::new(Vec3::new(x0, y0, z0), Vec3::new(x1, y1, z1)),
+        delta: Vec3::new(dx, dy, dz),
+        step,
+        on_ground: grounded != 0,
     };
-    let told = through::move_through(0, records, shapes, cells, w, a, d, step, grounded != 0);
-    match told {
-        AskedMove::Refused(_) => 0.0,
-        AskedMove::To(m) => {
-            let way = m.moved;
-            along(way, k)
-        }
+    match through::move_through(0, tables, view, q) {
+        Err(_) => 0.0,
+        Ok(m) => along(m.moved, k),
     }
 }
 
@@ -111,10 +101,13 @@ pub extern "C" fn boltjuniper_connected(
 ) -> u32
     ensures { result ≡ (connected_entry records.now shapes.now cells.now (window_of ox oy oz sx sy sz lowest highest air) (cell_holding (vec x y z)) state).state }
 {
-    let w = window::window_of(ox, oy, oz, sx, sy, sz, lowest, highest, air);
+    let tables = Tables { records, shapes };
+    let view = View {
+        words: cells,
+        window: window::window_of(ox, oy, oz, sx, sy, sz, lowest, highest, air),
+    };
     let p = ranges::cell_holding(Vec3 { x, y, z });
-    let a = connect::connected_state_at(records, shapes, cells, w, p, state);
-    a.state
+    connect::connected_state_at(tables, view, p, state).unwrap_or(0)
 }
 
 // The cell at x, y, z, counted from the origin, becomes this state, and the word of its group is mended: 0; or 11 for words without a summary, then 5 for
@@ -140,6 +133,10 @@ pub extern "C" fn boltjuniper_set_at(
     ensures value { result ≡ set_refusal cells.old (window_of ox oy oz sx sy sz lowest highest air) (cell_at (window_of ox oy oz sx sy sz lowest highest air) x y z) }
     ensures cells_after { cells.new ≡ after_set records.now cells.old (window_of ox oy oz sx sy sz lowest highest air) (cell_at (window_of ox oy oz sx sy sz lowest highest air) x y z) state }
 {
+    let tables = Tables {
+        records,
+        shapes: &[],
+    };
     let w = window::window_of(ox, oy, oz, sx, sy, sz, lowest, highest, air);
-    groups::set_at(records, cells, w, Place { x, y, z }, state)
+    base::code(groups::set_at(tables, cells, w, Place { x, y, z }, state))
 }

@@ -90,10 +90,11 @@ const TURNS: [u32; 1620] = [
 ];
 
 // Number i of a table: 0 where there is none.
+#[tactic(auto, unfolding(crate::specs::Turns::entry_at))]
 fn entry(table: &[u32], i: usize) -> u32
     ensures { result ≡ entry_at table.now i }
 {
-    if i < table.len() { table[i] } else { 0 }
+    table.get(i).copied().unwrap_or(0)
 }
 
 // Link k of a wall, counted from the first: the state that it leads to, and 0 where there is no such wall or link.
@@ -101,10 +102,9 @@ pub fn turn(wall: u32, k: u32) -> u32
     ensures value { result ≡ wall_turn wall k }
     ensures rule { wall < 162 → k < 10 → Rule wall k result }
 {
-    if wall < 162 {
-        if k < 10 {
-            return entry(&TURNS, (wall * 10 + k) as usize);
-        }
+    if wall < 162 && k < 10 {
+        entry(&TURNS, (wall * 10 + k) as usize)
+    } else {
+        0
     }
-    0
 }

@@ -1,11 +1,11 @@
 -- The library's floor is `floor_of`, whose form is the definition's own. Assumes nothing.
 use Rattle.std.proofs.Common.{arith, ◌≡◌, ◌+◌, ◌-◌, ◌*◌, ◌/◌, ◌<◌, ℕ}
-use Rattle.std.specs.Prelude.{Bool, true, false, ℤ, Float}
+use Rattle.std.specs.Prelude.{true, false, Float}
 use Rattle.std.specs.Float.{nan, inf, fin, binary64, floor, round_with}
 use Rattle.std.specs.Float.Ieee.{up, down, round}
 use lib.Ieee.Fits.{down_pos}
 use mathlib.Core.Path.{ap, refl}
-use Rattle.wholes.specs.Whole.{floor_of, floor_size, whole_f}
+use Rattle.wholes.specs.Whole.{floor_of, floor_size}
 
 sums : (a c : ℕ) → 0 < c → a + c - 1 ≡ a + (c - 1)
 sums a c l = omega arith

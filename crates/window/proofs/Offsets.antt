@@ -19,9 +19,8 @@ use Rattle.base.specs.Ask.{refused, found}
 use Rattle.window.specs.declared.Pos.{Pos}
 use Rattle.window.specs.declared.Sizes.{Sizes}
 use Rattle.window.specs.declared.Window.{Window}
-use Rattle.window.specs.declared.Cell.TheVariants.{Outside, Unloaded, State}
 use Rattle.window.specs.Window.{within, is_void, index_at, cell_count, column_count, index_of, column_index_of}
-use Rattle.window.specs.Look.{none, some, look_at, asked}
+use Rattle.window.specs.Look.{none, some, look_at}
 use Rattle.window.specs.Offsets.{is_ahead, in_column, look_down, look_within}
 use Rattle.window.proofs.Order.{lt-moved, le-moved}
 
@@ -77,7 +76,7 @@ column-place s x z = omega arith
 -- ---- the look-up, where a, b and c say whether a cell is within on each axis, and t whether its column may have a word; that stands at k, and the
 -- cell's at j
 looked-in : (words : List ℕ) (a b c t void : Bool) (air i k m j : ℕ) → i ≡ k → m ≡ j
-    → asked (choose a (choose c (choose t (choose (ltb i (length words)) (in_column (get_or words i 0) air void (choose b (State (get_or words m 0)) Outside)) Outside) Outside) Outside) Outside)
+    → choose a (choose c (choose t (choose (ltb i (length words)) (in_column (get_or words i 0) air void (choose b (found (some (get_or words m 0))) (refused 5))) (refused 5)) (refused 5)) (refused 5)) (refused 5)
     ≡ choose (not ((a && c) && (t && ltb k (length words)))) (refused 5)
     (choose (eqb (get_or words k 0) 0) (found none) (choose void (found (some air)) (choose (not b) (refused 5) (found (some (get_or words j 0))))))
 unfolding choose
@@ -87,7 +86,7 @@ looked-in words true b true false void air i k m j e f = refl
 looked-in words true b true true void air i k m j e f = rw (e, f) (column (ltb k (length words)) (eqb (get_or words k 0) 0) void b)
   where
     column : (t u v b : Bool)
-        → asked (choose t (choose u Unloaded (choose v (State air) (choose b (State (get_or words j 0)) Outside))) Outside)
+        → choose t (choose u (found none) (choose v (found (some air)) (choose b (found (some (get_or words j 0))) (refused 5)))) (refused 5)
         ≡ choose (not t) (refused 5) (choose u (found none) (choose v (found (some air)) (choose (not b) (refused 5) (found (some (get_or words j 0))))))
     column false u v b = refl
     column true true v b = refl
@@ -97,7 +96,7 @@ looked-in words true b true true void air i k m j e f = rw (e, f) (column (ltb k
 
 -- the cell at the offsets of p is the look-up at p
 pub looked : (words : List ℕ) (w : Window) (p : Pos)
-    → asked (look_within words w.sizes w.air (is_void w p) (p.x -ℤ w.origin.x) (p.y -ℤ w.origin.y) (p.z -ℤ w.origin.z)) ≡ look_at words w p
+    → look_within words w.sizes w.air (is_void w p) (p.x -ℤ w.origin.x) (p.y -ℤ w.origin.y) (p.z -ℤ w.origin.z) ≡ look_at words w p
 unfolding look_within look_down look_at index_of column_index_of
 looked words w p =
     let o = w.origin in

@@ -3,3 +3,4 @@ pub mod Window
 pub mod Look
 pub mod Offsets
 pub mod Numbers
+pub mod Views

@@ -34,17 +34,11 @@ pub fn window_of(
     }
 }
 
-// The same window under another air state: in a step it is that of the rules.
-pub fn with_air(w: Window, air: u32) -> Window
-    ensures { result ≡ with_air w air }
-{
-    let origin = w.origin;
-    let sizes = w.sizes;
-    Window {
-        origin,
-        sizes,
-        lowest: w.lowest,
-        highest: w.highest,
-        air,
+impl Window {
+    /// The same window under another air state.
+    pub fn with_air(self, air: u32) -> Window
+        ensures { result ≡ with_air self air }
+    {
+        Window { air, ..self }
     }
 }

@@ -2,9 +2,11 @@
 #![tactic(auto)]
 
 ghost use Rattle.std.specs.Prelude.{◌≡◌};
+ghost use Rattle.base.specs.Refusals.{verdict};
 ghost use Rattle.window.specs.Window.{size_is_fit, sizes_fit, coordinate_fits, origin_fits, heights_fit, column_fits, columns_fit, window_refusal};
 
-use window::{Pos, Sizes, Window};
+use base::Refusal;
+use window::{Pos, Sizes, View, Window};
 
 fn size_fits(n: u32) -> bool
     ensures { result ≡ size_is_fit n }
@@ -37,12 +39,7 @@ fn heights_fit(w: Window) -> bool
     coordinate_fits(w.lowest) & coordinate_fits(w.highest) & (w.lowest <= w.highest)
 }
 
-fn wide(x: u32) -> usize
-    ensures { result ≡ x }
-{
-    x as usize
-}
-
+// A column's word is 1 or 0; one that is not there is 0.
 fn column_fits(words: &[u32], i: usize) -> bool
     ensures { result ≡ column_fits words.now i }
 {
@@ -53,37 +50,32 @@ fn column_fits(words: &[u32], i: usize) -> bool
 }
 
 // So many words from the first on are 1 or 0.
+#[tactic(auto, using(base::proofs::Every::each), unfolding(window::specs::Window::columns_fit))]
 fn columns_fit(words: &[u32], first: u32, count: u32) -> bool
     ensures { result ≡ columns_fit words.now first count }
 {
-    let mut k = 0u32;
-    while k < count {
-        if column_fits(words, wide(first) + wide(k)) {
-            k += 1;
-        } else {
+    for k in 0..count {
+        if !column_fits(words, first as usize + k as usize) {
             return false;
         }
     }
     true
 }
 
-// The check of a window that a host hands in: 0, or 2.
-pub fn check_window(cells: &[u32], w: Window) -> u32
-    ensures { result ≡ window_refusal cells.now w }
+/// The check of a window that a host hands in.
+#[tactic(auto, using(base::proofs::Cases::cases), unfolding(window::specs::Window::window_refusal, window::specs::Window::window_fits, base::specs::Choose::choose))]
+pub fn check_window(view: View<'_>) -> Result<(), Refusal>
+    ensures { verdict result ≡ window_refusal view.entry.words.now view.entry.window }
 {
-    if sizes_fit(w.sizes) {
-        if origin_fits(w.origin) & heights_fit(w) {
-            let count = w.sizes.x * w.sizes.y * w.sizes.z;
-            let columns = w.sizes.x * w.sizes.z;
-            if cells.len() == wide(count + columns) {
-                if columns_fit(cells, count, columns) {
-                    return 0;
-                }
-                return 2;
-            }
-            return 2;
+    let w = view.window;
+    if sizes_fit(w.sizes) && origin_fits(w.origin) && heights_fit(w) {
+        let count = w.sizes.x * w.sizes.y * w.sizes.z;
+        let columns = w.sizes.x * w.sizes.z;
+        if view.words.len() == (count + columns) as usize
+            && columns_fit(view.words, count, columns)
+        {
+            return Ok(());
         }
-        return 2;
     }
-    2
+    Err(Refusal::Window)
 }

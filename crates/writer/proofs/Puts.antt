@@ -21,10 +21,9 @@ use Rattle.base.proofs.Stored.{stored-length}
 use Rattle.part_writer.proofs.Parts.{part_length, part_same, next-written, room-there}
 use Rattle.scene_room.proofs.Rooms.{room-many}
 use Rattle.lent_words.specs.Words.{window_words}
-use Rattle.writer.specs.declared.Written.{Written}
 use Rattle.files.specs.Contents.{Contents}
 use Rattle.writer.specs.Contents.{counts_for}
-use Rattle.writer.specs.Written.{body_word_of, bytes_by, scene_bytes, scene_blocks, contents_refusal, room_for, scene_refusal, written_unless, answer_by, written_scene, scene_answer, written_checked, checked_answer}
+use Rattle.writer.specs.Written.{Written, body_word_of, bytes_by, scene_bytes, scene_blocks, contents_refusal, room_for, scene_refusal, written_unless, answer_by, written_scene, scene_answer, written_checked, checked_answer}
 
 -- ---- the parts
 

@@ -1,5 +1,5 @@
 -- A scene as it is written. Document 01's and 02's words stand in quotes.
-use Rattle.std.specs.Prelude.{List, ◌++◌, ◌≡◌, ℕ, ◌*◌, ◌<◌, eqb, length, Float}
+use Rattle.std.specs.Prelude.{Result, Ok, Err, List, ◌++◌, ◌≡◌, ℕ, ◌*◌, ◌<◌, eqb, length, Float}
 use Rattle.base.specs.Choose.{choose}
 use Rattle.base.specs.Loop.{stored}
 use Rattle.cover.specs.Cover.{box_count}
@@ -12,9 +12,8 @@ use Rattle.blocks.specs.Blocks.{body_part, record_part, box_part, window_part, c
 use Rattle.files.specs.declared.Counts.{Counts}
 use Rattle.files.specs.Files.{blocks_for}
 use Rattle.part_writer.specs.Bytes.{part_bytes, word_in, bits_in}
-use Rattle.files.specs.declared.Counted.{Counted}
-use Rattle.files.specs.declared.Counted.TheVariants as counted
-use Rattle.writer.specs.declared.Written.{Written}
+use Rattle.base.specs.declared.Refusal.{Refusal}
+use Rattle.base.specs.Refusals.{number_of}
 use Rattle.files.specs.Contents.{Contents}
 use Rattle.writer.specs.Contents.{counts_by, counts_for}
 unfoldable pub use Rattle.body_words.specs.Words.{word_of_wide, body_word_of}
@@ -56,6 +55,16 @@ room_refusal c size = room_for (scene_blocks c) size
 unfoldable pub scene_refusal : Contents → ℕ → ℕ
 scene_refusal c size = or_else (refusal_of_contents c) (room_refusal c size)
 
+-- ---- what a recorder is handed: refusal 0 and how many bytes were written; or a refusal, and 0
+
+pub record Written : Type 0 where
+  pub refusal : ℕ
+  pub bytes : ℕ
+
+abbrev pub bytes_told : Result ℕ Refusal → Written
+bytes_told (Ok n) = record { refusal = 0; bytes = n }
+bytes_told (Err e) = record { refusal = number_of e; bytes = 0 }
+
 -- ---- what is handed back, by the refusal: the buffer, with "bytes past the scene" as they were, and how many bytes were written
 
 -- a refusal writes nothing
@@ -80,6 +89,6 @@ abbrev pub checked_answer : ℕ → Contents → Written
 checked_answer size c = answer_by (room_refusal c size) c
 
 -- what the program finds of the counts: a part alone that is longer than a scene has no room
-abbrev pub CountedFor : List ℕ → List Float → List ℕ → Counted → Type 0
-CountedFor records shapes cells (counted.Are n) = n ≡ counts_by (state_count records) (box_count shapes) (length cells)
-CountedFor records shapes cells counted.Unfit = 128 < blocks_for (counts_by (state_count records) (box_count shapes) (length cells))
+abbrev pub CountedFor : List ℕ → List Float → List ℕ → Result Counts Refusal → Type 0
+CountedFor records shapes cells (Ok n) = n ≡ counts_by (state_count records) (box_count shapes) (length cells)
+CountedFor records shapes cells (Err e) = (number_of e ≡ 12) × (128 < blocks_for (counts_by (state_count records) (box_count shapes) (length cells)))

@@ -1,12 +1,18 @@
 -- `answer_rows::put_row` meets its contract. Assumes nothing.
 use mathlib.Core.Path.{sym}
 use Prim.Native.Nat.{◌*◌}
+use Rattle.base.specs.Refusals.{asked}
+use Rattle.step_answers.specs.Answers.{falling_answer}
 use Rattle.answer_rows.specs.Answers.{answer_width, answer_numbers}
 use Rattle.base.proofs.Stored.{put-behind, stored-beyond}
 use Rattle.answer_rows.proofs.put_row.Goals as goal
 
 pub returns-then-at-out : goal.returns-then-at-out
-returns-then-at-out c = rw (← c.wide-at.ensures) (put-behind c.args.out.now c.put_answer.new.row (c.wide-at.result * answer_width) (answer_numbers c.args.a) c.put_answer.ensures)
+returns-then-at-out c =
+    let a = c.args in
+    put-behind a.out.now c.put_answer.new.row (a.i * answer_width) (answer_numbers (falling_answer a.given a.fall (asked a.answer))) c.put_answer.ensures
 
 pub returns-else-at-out : goal.returns-else-at-out
-returns-else-at-out c = rw (← c.wide-at.ensures) (sym (stored-beyond c.args.out.now (c.wide-at.result * answer_width) (answer_numbers c.args.a) c.if-at-out.false))
+returns-else-at-out c =
+    let a = c.args in
+    sym (stored-beyond a.out.now (a.i * answer_width) (answer_numbers (falling_answer a.given a.fall (asked a.answer))) c.if-at-out.false)

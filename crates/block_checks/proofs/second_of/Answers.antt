@@ -1,18 +1,21 @@
 -- `block_checks::second_of` meets its contract. Assumes nothing.
-use Rattle.std.proofs.Common.{rules}
-use Rattle.std.proofs.Common.{◌≡◌, ◌+◌, ◌-◌, ◌*◌, ◌%◌, ◌≤◌, refl, ◌∙◌, arith, rules}
-use Rattle.block_checks.proofs.Checks.{sum-turn, weighted-turn}
+use Rattle.std.proofs.Common.{◌≡◌, ℕ, ◌+◌, ◌*◌, ◌%◌, [], ◌∷◌, ◌∙◌, refl, ap, sym, rules}
+use native.Mathlib.Nat.{mod-mod}
+use Rattle.std.proofs.iter.Yields.{nat_range_steps, Range-gives}
+use Rattle.std.proofs.lemmas.Fn.{fold_over}
+use Rattle.std.proofs.lemmas.List.Sums.{fold-append}
+use Rattle.std.specs.List.{fold, range_with_len}
+use Rattle.block_checks.proofs.Checks.{folded}
 use Rattle.block_checks.specs.Checks.{second_of, sum_of, file_word}
 use Rattle.block_checks.proofs.second_of.Goals as goal
 
-pub loop-k-init : goal.loop-k-init
-unfolding sum_of
-loop-k-init c = (search rules, refl)
-
-pub loop-k-preserved : goal.loop-k-preserved
-loop-k-preserved c =
-    (search rules, c.wrapping_add_u32-sum.ensures.value ∙ sum-turn _ c.loop-k.k _ _ c.loop-k.invariant.1 (weighted-turn _ _ _ _ c.file_word.ensures c.weighted.ensures))
-
 pub returns : goal.returns
-unfolding second_of
-returns c = let k : c.loop-k.k ≡ 126 = omega arith in rw k at c.loop-k.invariant.1
+unfolding second_of sum_of
+returns c =
+    let block = c.args.block.now in
+    let h = λ (s k : ℕ). (s + (k + 1) * file_word block k % 4294967296) % 4294967296 in
+    let all : c.fold.result ≡ fold h 0 (range_with_len 0 126) =
+    fold_over nat_range_steps (λ x. x) _ (λ ys a. a ≡ fold h 0 ys) _
+    (λ ys a x b f' j k. (let e : b ≡ h a x = search rules in e ∙ ap (λ z. h z x) j ∙ sym (fold-append h 0 ys (x ∷ [])), search rules))
+    _ (range_with_len 0 126) 0 c.fold.result (Range-gives (record { start = 0; end = 126 })) refl c.fold.ensures.ran in
+    all ∙ folded (λ k. (k + 1) * file_word block k) (λ k. (k + 1) * file_word block k % 4294967296) (λ k. mod-mod ((k + 1) * file_word block k) 4294967296) 126 0 0 refl

@@ -1,17 +1,13 @@
 -- `block_writer::put_word` meets its contract. Assumes nothing.
-use lib.ListN.{length-set}
-use native.Mathlib.Omega.{arith}
-use Rattle.block_writer.proofs.Words.{word-put}
+use Rattle.std.proofs.Common.{◌+◌, ◌*◌, ◌∙◌, arith}
+use Rattle.base.proofs.Stored.{stored-mid}
+use Rattle.block_writer.specs.Bytes.{word_bytes}
+use Rattle.block_writer.proofs.Words.{le-bytes}
 use Rattle.block_writer.proofs.put_word.Goals as goal
 
-pub bounds-block-i-2 : goal.bounds-block-i-2
-bounds-block-i-2 c = rw length-set (omega arith)
-
-pub bounds-block-i-3 : goal.bounds-block-i-3
-bounds-block-i-3 c = rw (length-set, length-set) (omega arith)
-
-pub bounds-block-i-4 : goal.bounds-block-i-4
-bounds-block-i-4 c = rw (length-set, length-set, length-set) (omega arith)
-
 pub returns : goal.returns
-returns c = word-put _ _ _
+unfolding word_bytes
+returns c =
+    let at = c.args.k * 4 in
+    let put = c.copy_from_slice.ensures.after ∙ c.to_le_bytes.ensures ∙ le-bytes c.args.w in
+    rw put (stored-mid c.args.block.now at (at + 4) (word_bytes c.args.w) (omega arith) c.requires (omega arith))

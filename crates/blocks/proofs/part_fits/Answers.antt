@@ -1,39 +1,26 @@
 -- `blocks::part_fits` meets its contract. Assumes nothing.
-use Rattle.std.proofs.Common.{rules}
+use Rattle.std.proofs.Common.{ℕ, ◌+◌, ◌∙◌, refl, ap, arith, rules, tests}
+use Rattle.std.proofs.lemmas.Iterator.{YieldsList-from_range, serves_from_Range}
+use Rattle.std.proofs.lemmas.Iterator.Search.{all_from_yields_List}
+use Rattle.base.specs.Every.{every}
+use Rattle.block_rules.proofs.Ranges.{all-every}
 use Rattle.blocks.proofs.Parts.{blocks-most}
 use Rattle.blocks.specs.Blocks.{part_fits, is_second, block_fits, block_of, used_in}
-use Rattle.base.proofs.Every.{every-from, every-not}
-use borrow.Author.Count.{below_more, below_none}
-use native.Mathlib.Omega.{arith}
-use Prim.Native.Nat.{ℕ, ◌+◌, ◌≤◌, ◌<◌, ◌-◌}
-use mathlib.Core.Path.{◌≡◌, sym, ◌∙◌}
-use mathlib.Core.Bool.{true}
 use Rattle.blocks.proofs.part_fits.Goals as goal
 
-pub loop-j-init : goal.loop-j-init
-loop-j-init c = (search rules, below_none _)
-
-pub overflow_add-first : goal.overflow_add-first
-overflow_add-first c = let m = blocks-most c.args.p in let e = c.blocks_of-n.ensures in search rules
-
-pub overflow_add-first-in-loop-j : goal.overflow_add-first-in-loop-j
-overflow_add-first-in-loop-j c = let m = blocks-most c.args.p in let e = c.blocks_of-n.ensures in search rules
-
-pub loop-j-preserved : goal.loop-j-preserved
-unfolding is_second
-loop-j-preserved c =
-    let e = rw (c.block_of.ensures, c.used_in-used.ensures, c.has_new_mark-second.ensures) at c.block_fits.ensures in
-    (search rules, below_more _ _ c.loop-j.invariant.1 (sym e ∙ c.if-block_fits.true))
-
-pub returns-else-block_fits : goal.returns-else-block_fits
-unfolding part_fits is_second
-returns-else-block_fits c =
-    let e = rw (c.block_of.ensures, c.used_in-used.ensures, c.has_new_mark-second.ensures) at c.block_fits.ensures in
-    let n = c.blocks_of-n.ensures in
-    sym (every-not _ _ c.loop-j.j (omega arith) (sym e ∙ c.if-block_fits.false))
+pub all-requires-clause-callable : goal.all-requires-clause-callable
+all-requires-clause-callable c =
+    let m = blocks-most c.args.p in
+    let e = c.blocks_of.ensures in
+    serves_from_Range (λ x q k. search rules) (λ x l h. search rules)
 
 pub returns : goal.returns
-unfolding part_fits
+unfolding part_fits is_second
 returns c =
-    let n = c.blocks_of-n.ensures in
-    sym (every-from _ _ (λ j h. c.loop-j.invariant.1 j (omega arith)))
+    let file = c.args.file.now in
+    let p = c.args.p in
+    let test = λ (j : ℕ). block_fits (is_second file) (block_of file (p.first + j)) (p.first + j) p.kind (used_in p j) in
+    let e = c.has_new_mark-second.ensures in
+    all_from_yields_List test _ _ _ c.all.ensures.ran (YieldsList-from_range 0 c.blocks_of.result c.blocks_of.result refl (omega arith)) (λ x b q k. search (rules, tests))
+    ∙ all-every test c.blocks_of.result
+    ∙ ap (λ (n : ℕ). every n test) c.blocks_of.ensures

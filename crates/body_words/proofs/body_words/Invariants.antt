@@ -11,6 +11,3 @@ use Rattle.body_words.proofs.body_words.Given as goal
 
 abbrev pub invariant-loop-i : goal.invariant-loop-i
 invariant-loop-i l = (l.i ≤ 49) × (length l.body ≡ 49) × (take l.i l.body ++ listed (body_word_of l.numbers l.words l.age l.n) (49 - l.i) l.i ≡ listed (body_word_of l.numbers l.words l.age l.n) 49 0)
-
-abbrev pub decreases-loop-i : goal.decreases-loop-i
-decreases-loop-i l = 49 - l.i

@@ -1,20 +1,15 @@
 -- `collection::collect_up_to` meets its contract: its loops over layers, lines, cells and a cell's boxes have left what `Collects.antt` says.
 -- Assumes nothing.
-use mathlib.Core.Path.{◌≡◌, refl, sym, ap, ◌∙◌}
-use mathlib.Core.Logic.{⊎_elim}
-use mathlib.Core.List.{List, []}
-use Prim.Native.Nat.{ℕ, ◌+◌, ◌-◌, ◌<◌}
+use mathlib.Core.Path.{refl, sym, ap, ◌∙◌}
+use mathlib.Core.List.{List}
+use Prim.Native.Nat.{ℕ, ◌<◌}
 use native.Mathlib.Omega.{arith}
-use lib.ListN.{take}
 use Rattle.boxes.specs.declared.Aabb.{Aabb}
 use Rattle.sweeps.specs.declared.BoxList.{BoxList}
 use Rattle.sweeps.specs.Lists.{room}
-use Rattle.window.specs.Look.{look_at}
-use Rattle.tables.specs.Tables.{boxes_at}
-use Rattle.solids.specs.Parts.{nth_aabb, shape_asked}
+use Rattle.std.proofs.lemmas.Result.{err_from_is_err_and}
 use Rattle.collection.specs.Collect.{push}
-use Rattle.collection.specs.Past.{none}
-use Rattle.collection.proofs.Collects.{Room, all_past, layers_from, lines_from, cells_from, boxes_from, walk_begins, layer-begins, line-begins, cells-turn, cell-begins, cell-refused, box-next, boxes-end, cells-end, lines_end, layers-end, kept, passed, box-refused, full, empty-list, collected, not-collected}
+use Rattle.collection.proofs.Collects.{all_past, walk_begins, layer-begins, line-begins, cells-turn, cell-begins, cell-refused, box-next, boxes-end, cells-end, lines_end, layers-end, kept, passed, box-refused, full, empty-list, collected, not-collected}
 use Rattle.collection.proofs.Past.{all-on, all_end}
 use Rattle.collection.proofs.collect_up_to.Goals as goal
 use Rattle.collection.proofs.collect_up_to.Goals.{then-intersects+else-i-most, else-intersects}
@@ -31,22 +26,21 @@ loop-x-init c = let i = c.loop-y.invariant in (i.0, sym (layer-begins (push c.co
 pub loop-z-init : goal.loop-z-init
 loop-z-init c = let i = c.loop-x.invariant in (i.0, sym (line-begins (push c.counted-most.result) _ _ _ _ _ _ _ _ _ (all-on _ _ c.loop-x-test.true)) ∙ i.1)
 
-pub returns-in-Refused : goal.returns-in-Refused
-returns-in-Refused c =
+pub returns-in_err-part : goal.returns-in_err-part
+returns-in_err-part c =
     let most = c.counted-most.result in
     let i = c.loop-z.invariant in
     let turn = cells-turn (push most) _ _ _ _ _ _ _ _ _ _ c.loop-z-test.true _ c.place-p.ensures in
-    let shape = sym c.part_at.ensures ∙ ap shape_asked c.in-Refused.is in
-    let stop = cell-refused (push most) _ _ _ _ _ _ _ _ turn c.in-Refused.n shape in
-    rw c.counted-most.ensures at (c.refused.ensures ∙ not-collected _ most _ _ _ _ _ _ (sym stop ∙ i.1))
+    let stop = cell-refused (push most) _ _ _ _ _ _ _ _ turn _ (sym c.in_err-part.ensures) in
+    let p = err_from_is_err_and c.from_residual.result c.from_residual.ensures.1 in
+    rw (p.1, p.2) (rw c.counted-most.ensures at (not-collected _ most _ _ _ _ _ _ (sym stop ∙ i.1)))
 
 pub loop-k-init : goal.loop-k-init
 loop-k-init c =
     let f = push c.counted-most.result in
     let i = c.loop-z.invariant in
     let turn = cells-turn f _ _ _ _ _ _ _ _ _ _ c.loop-z-test.true _ c.place-p.ensures in
-    let shape = sym c.part_at.ensures ∙ ap shape_asked c.in-Is.is in
-    let begun = cell-begins f _ _ _ _ _ _ _ _ turn c.in-Is.s _ _ shape refl c.count_in-n.ensures in
+    let begun = cell-begins f _ _ _ _ _ _ _ _ turn c.in_ok-part.part _ _ (sym c.in_ok-part.ensures) refl c.count_in-n.ensures in
     (i.0, sym begun ∙ i.1)
 
 pub returns-then-i-most : goal.returns-then-i-most
@@ -55,7 +49,7 @@ returns-then-i-most c =
     let i = c.loop-k.invariant in
     let more = full room _ _ i.0 most _ _ c.if-i-most.true (sym c.intersects.ensures ∙ c.if-intersects.true) in
     let stop = box-refused (push most) _ _ _ _ _ _ _ c.loop-k-test.true c.box_in-b.ensures 6 more in
-    rw c.counted-most.ensures at (c.refused-then-i-most.ensures ∙ not-collected _ most _ _ _ _ _ 6 (sym stop ∙ i.1))
+    rw c.counted-most.ensures at (not-collected _ most _ _ _ _ _ 6 (sym stop ∙ i.1))
 
 pub offset_bounds-list-i : goal.offset_bounds-list-i
 offset_bounds-list-i c =
@@ -74,12 +68,6 @@ overflow_add-list c =
     let p = c.counted-most.ensures in
     let i = c.loop-k.invariant.0.whole in
     omega arith
-
-pub overflow_step-k : goal.overflow_step-k
-overflow_step-k c = omega arith
-
-pub loop-k-smaller : goal.loop-k-smaller
-loop-k-smaller c = omega arith
 
 pub loop-k-preserved : goal.loop-k-preserved
 loop-k-preserved c =
@@ -100,29 +88,11 @@ loop-k-preserved c =
           (went.0, sym (box-next (push most) _ _ _ _ _ _ _ c.loop-k-test.true c.box_in-b.ensures _ went.1) ∙ i.1)
     ]
 
-pub overflow_step-z : goal.overflow_step-z
-overflow_step-z c = let h : c.loop-z.z < c.args.r.z.count = c.loop-z-test.true in omega (arith, c.well_formed.1.1.1.1.1.1)
-
-pub loop-z-smaller : goal.loop-z-smaller
-loop-z-smaller c = omega arith
-
 pub loop-z-preserved : goal.loop-z-preserved
 loop-z-preserved c = let i = c.loop-k.invariant in (i.0, sym (boxes-end (push c.counted-most.result) _ _ _ _ _ _ c.loop-k-test.false) ∙ i.1)
 
-pub overflow_step-x : goal.overflow_step-x
-overflow_step-x c = let h : c.loop-x.x < c.args.r.x.count = c.loop-x-test.true in omega (arith, c.well_formed.1.1.1.1.1.1)
-
-pub loop-x-smaller : goal.loop-x-smaller
-loop-x-smaller c = omega arith
-
 pub loop-x-preserved : goal.loop-x-preserved
 loop-x-preserved c = let i = c.loop-z.invariant in (i.0, sym (cells-end (push c.counted-most.result) _ _ _ _ _ _ _ _ _ _ c.loop-z-test.false) ∙ i.1)
-
-pub overflow_step-y : goal.overflow_step-y
-overflow_step-y c = let h : c.loop-y.y < c.args.r.y.count = c.loop-y-test.true in omega (arith, c.well_formed.1.1.1.1.1.1)
-
-pub loop-y-smaller : goal.loop-y-smaller
-loop-y-smaller c = omega arith
 
 pub loop-y-preserved : goal.loop-y-preserved
 loop-y-preserved c = let i = c.loop-x.invariant in (i.0, sym (lines_end (push c.counted-most.result) _ _ _ _ _ _ _ _ _ (all_end _ _ c.loop-x-test.false)) ∙ i.1)

@@ -3,16 +3,10 @@ use Rattle.cover.specs.Gaps.{covers_by_search}
 use Rattle.cover.proofs.Covered.{covers-search}
 use Rattle.cover.proofs.covers_face.Goals as goal
 
-pub returns-then-nan_on_face : goal.returns-then-nan_on_face
+pub returns-then-not-nan_on_face : goal.returns-then-not-nan_on_face
 unfolding covers_by_search
-returns-then-nan_on_face c = rw (covers-search _ _ c.shared_slice_known-1.given, ← c.nan_on_face.ensures, c.if-nan_on_face.true)
+returns-then-not-nan_on_face c = rw (covers-search _ _ c.shared_slice_known-1.given, ← c.nan_on_face.ensures, c.if-not-nan_on_face.true, ← c.gap_on_face.ensures)
 
-pub returns-then-gap_on_face : goal.returns-then-gap_on_face
+pub returns-else-not-nan_on_face : goal.returns-else-not-nan_on_face
 unfolding covers_by_search
-returns-then-gap_on_face c =
-    rw (covers-search _ _ c.shared_slice_known-1.given, ← c.nan_on_face.ensures, c.if-nan_on_face.false, ← c.gap_on_face.ensures, c.if-gap_on_face.true)
-
-pub returns : goal.returns
-unfolding covers_by_search
-returns c =
-    rw (covers-search _ _ c.shared_slice_known-1.given, ← c.nan_on_face.ensures, c.if-nan_on_face.false, ← c.gap_on_face.ensures, c.if-gap_on_face.false)
+returns-else-not-nan_on_face c = rw (covers-search _ _ c.shared_slice_known-1.given, ← c.nan_on_face.ensures, c.if-not-nan_on_face.false)

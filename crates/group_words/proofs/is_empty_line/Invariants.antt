@@ -1,16 +1,11 @@
 -- `group_words::is_empty_line` meets its contract. Assumes nothing.
 use mathlib.Core.Bool.{true}
-use mathlib.Core.Path.{◌≡◌, sym, ◌∙◌}
-use Prim.Native.Nat.{ℕ, ◌+◌, ◌≤◌, ◌<◌, ◌-◌}
-use native.Mathlib.Omega.{arith}
-use borrow.Author.Count.{below_more, below_none}
-use Rattle.base.proofs.Every.{every-from, every-not}
-use Rattle.window.specs.Look.{look_at}
-use Rattle.group_words.specs.Groups.{cell_at, is_empty, is_empty_line}
+use mathlib.Core.Path.{◌≡◌}
+use Prim.Native.Nat.{◌+◌}
+use Rattle.base.specs.Every.{every}
+use Rattle.window.specs.Views.{look_in}
+use Rattle.group_words.specs.Groups.{cell_at, is_empty}
 use Rattle.group_words.proofs.is_empty_line.Given as goal
 
 abbrev pub invariant-loop-k : goal.invariant-loop-k
-invariant-loop-k l = (l.k ≤ l.n) × ((j : ℕ) → j < l.k → is_empty l.records (look_at l.words l.w (cell_at l.w (l.x + j) l.y l.z)) ≡ true)
-
-abbrev pub decreases-loop-k : goal.decreases-loop-k
-decreases-loop-k l = l.n - l.k
+invariant-loop-k l = every l.k (λ i. is_empty l.tables.records.now (look_in l.view (cell_at l.view.window (l.x + i) l.y l.z))) ≡ true

@@ -21,6 +21,3 @@ nonzero_div-result c = rw c.groups_on-deep.ensures (omega (arith, some-on _ (siz
 
 pub nonzero_rem-result-2 : goal.nonzero_rem-result-2
 nonzero_rem-result-2 c = rw c.groups_on-deep.ensures (omega (arith, some-on _ (sizes-small c.args.s c.requires).z.low))
-
-pub returns : goal.returns
-returns c = rw (c.groups_on-across.ensures, c.groups_on-deep.ensures)

@@ -1,7 +1,6 @@
 -- `groups::group_place` meets its contract. Assumes nothing.
 use Rattle.groups.proofs.Counts.{rows_fit, row_fits, line-fits, index-fits, place-fits}
 use Rattle.window.proofs.Check.{sizes-small}
-use native.Mathlib.Omega.{arith}
 use Rattle.groups.proofs.group_place.Goals as goal
 
 pub words_before-before-requires : goal.words_before-before-requires

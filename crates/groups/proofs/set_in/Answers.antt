@@ -1,5 +1,5 @@
 -- `groups::set_in` meets its contract. Assumes nothing.
-use mathlib.Core.Path.{◌≡◌, ◌∙◌}
+use mathlib.Core.Path.{◌∙◌}
 use Rattle.group_words.proofs.Cells.{word-near}
 use Rattle.groups.proofs.Places.{near-group}
 use Rattle.groups.proofs.set_in.Goals as goal

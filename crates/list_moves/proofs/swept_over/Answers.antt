@@ -1,54 +1,33 @@
 -- `list_moves::swept_over` meets its contract. Assumes nothing.
-use mathlib.Core.Path.{◌≡◌, refl, sym, ap, ◌∙◌}
-use Prim.Native.Nat.{◌-◌}
-use native.Mathlib.Omega.{arith}
-use lib.ListN.{length, drop, length-map}
-use Rattle.sweeps.specs.Lists.{room, list_of}
-use Rattle.sweeps.specs.Move.{clip_all}
-use Rattle.sweeps.specs.Passes.{clip_along, passes_from, sweep_of}
-use Rattle.sweeps.proofs.Turns.{clip-turn, made, pass_on, pass-over, passes-end}
+use mathlib.Core.Path.{◌≡◌, ap, ◌∙◌}
+use mathlib.Core.List.{List}
+use Rattle.boxes.specs.declared.Aabb.{Aabb}
+use Rattle.sweeps.specs.Passes.{axis_number, clip_along, pass_of, sweep_of}
+use Rattle.sweeps.proofs.Turns.{slice-turn, slice-end, pass-is, pass_on, pass-over, passes-end}
 use Rattle.list_moves.proofs.swept_over.Goals as goal
-use Rattle.list_moves.proofs.swept_over.Goals.{Start}
+use Rattle.list_moves.proofs.swept_over.Goals.{After-next_sweep-s}
 
--- the array has as many elements as there is room
-whole : (c : Start) → length c.args.list.boxes ≡ room
-whole c = c.well_formed.0.1.1.0.1.0.1
+-- a pass was made
+made : (c : After-next_sweep-s) → c.next_sweep-s.result ≡ pass_of c.loop-pass.pass c.as_slice-boxes.result.now c.args.q c.loop-pass.s
+made c =
+    let axis = axis_number c.axis_of-axis.result in
+    let gone-through = slice-end c.as_slice-boxes.result.now c.loop-b.b-index (clip_along axis) c.loop-pass.s.now.aabb c.loop-b.d _ c.loop-b-test.false c.loop-b.invariant in
+    pass-is c.as_slice-boxes.result.now c.args.q c.loop-pass.pass c.loop-pass.s _ _ axis _ _ c.axis_of-axis.ensures c.wanted-d.ensures gone-through c.gone.ensures c.next_sweep-s.ensures
 
-pub loop-pass-init : goal.loop-pass-init
-loop-pass-init c = ap (passes_from 7 0 _ _) c.begun-s.ensures
-
-pub loop-i-init : goal.loop-i-init
-loop-i-init c = refl
-
-pub offset_bounds-list-i : goal.offset_bounds-list-i
-offset_bounds-list-i c = omega arith
-
-pub bounds-list-i : goal.bounds-list-i
-bounds-list-i c = omega arith
-
-pub overflow_add-i : goal.overflow_add-i
-overflow_add-i c = omega arith
-
-pub loop-i-smaller : goal.loop-i-smaller
-loop-i-smaller c = omega arith
-
-pub loop-i-preserved : goal.loop-i-preserved
-loop-i-preserved c =
-    clip-turn c.args.list.boxes c.args.list.count room (whole (goal.at.loop-i-preserved c).Start) _ c.loop-i.i c.counted-n.ensures (clip_along c.axis_of-axis.result) c.loop-pass.s.now.aabb _ c.loop-i.d _ _ c.loop-i-test.true c.clip_along-d.ensures c.loop-i.invariant
+pub loop-b-preserved : goal.loop-b-preserved
+loop-b-preserved c =
+    slice-turn c.as_slice-boxes.result.now c.loop-b.b-index (clip_along (axis_number c.axis_of-axis.result)) c.loop-pass.s.now.aabb _ c.loop-b.d _ _ c.loop-b-test.true c.clip_along-d.ensures c.loop-b.invariant
 
 pub returns-then-s : goal.returns-then-s
 returns-then-s c =
-    pass-over _ _ c.loop-pass.pass c.loop-pass.s c.next_sweep-s.result _ (made c.args.list.boxes c.args.list.count room (whole (goal.at.returns-then-s c).Start) _ _ c.counted-n.ensures _ c.loop-pass.pass c.loop-pass.s _ _ _ _ c.loop-i.d c.axis_of-axis.ensures c.wanted-d.ensures c.loop-i-test.false c.loop-i.invariant c.gone.ensures c.next_sweep-s.ensures) c.loop-pass-test.true c.if-s.true c.loop-pass.invariant
-
-pub overflow_add-pass : goal.overflow_add-pass
-overflow_add-pass c = omega arith
-
-pub loop-pass-smaller : goal.loop-pass-smaller
-loop-pass-smaller c = omega arith
+    pass-over _ _ c.loop-pass.pass c.loop-pass.s _ _ (made (goal.at.returns-then-s c).After-next_sweep-s) c.loop-pass-test.true c.if-s.true c.loop-pass.invariant
+    ∙ ap (λ (bs : List Aabb). sweep_of bs c.args.q) c.as_slice-boxes.ensures
 
 pub loop-pass-preserved : goal.loop-pass-preserved
 loop-pass-preserved c =
-    pass_on _ _ c.loop-pass.pass c.loop-pass.s c.next_sweep-s.result _ (made c.args.list.boxes c.args.list.count room (whole (goal.at.loop-pass-preserved c).Start) _ _ c.counted-n.ensures _ c.loop-pass.pass c.loop-pass.s _ _ _ _ c.loop-i.d c.axis_of-axis.ensures c.wanted-d.ensures c.loop-i-test.false c.loop-i.invariant c.gone.ensures c.next_sweep-s.ensures) c.loop-pass-test.true c.if-s.false c.loop-pass.invariant
+    pass_on _ _ c.loop-pass.pass c.loop-pass.s _ _ (made (goal.at.loop-pass-preserved c).After-next_sweep-s) c.loop-pass-test.true c.if-s.false c.loop-pass.invariant
 
 pub returns : goal.returns
-returns c = passes-end _ _ c.loop-pass.pass c.loop-pass.s _ c.loop-pass-test.false c.loop-pass.invariant
+returns c =
+    passes-end _ _ c.loop-pass.pass c.loop-pass.s _ c.loop-pass-test.false c.loop-pass.invariant
+    ∙ ap (λ (bs : List Aabb). sweep_of bs c.args.q) c.as_slice-boxes.ensures

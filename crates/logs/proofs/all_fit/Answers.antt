@@ -1,23 +1,14 @@
 -- `logs::all_fit` meets its contract. Assumes nothing.
-use Rattle.std.proofs.Common.{rules}
+use Rattle.std.proofs.Common.{◌∙◌, refl, arith, rules, tests}
+use Rattle.std.proofs.lemmas.Iterator.{YieldsList-from_range}
+use Rattle.std.proofs.lemmas.Iterator.Search.{all_from_yields_List}
+use Rattle.block_rules.proofs.Ranges.{all-every}
 use Rattle.blocks.specs.Blocks.{part_word}
 use Rattle.logs.specs.Logs.{event_fits}
-use Rattle.base.proofs.Every.{every-from, every-not}
-use borrow.Author.Count.{below_more, below_none}
-use native.Mathlib.Omega.{arith}
-use Prim.Native.Nat.{ℕ, ◌≤◌, ◌<◌, ◌-◌}
-use mathlib.Core.Path.{◌≡◌, sym, ◌∙◌}
-use mathlib.Core.Bool.{true}
 use Rattle.logs.proofs.all_fit.Goals as goal
 
-pub loop-i-init : goal.loop-i-init
-loop-i-init c = (search rules, below_none _)
-
-pub loop-i-preserved : goal.loop-i-preserved
-loop-i-preserved c = (search rules, below_more _ _ c.loop-i.invariant.1 (sym c.event_fits.ensures ∙ c.if-event_fits.true))
-
-pub returns-else-event_fits : goal.returns-else-event_fits
-returns-else-event_fits c = sym (every-not _ _ c.loop-i.i (omega arith) (sym c.event_fits.ensures ∙ c.if-event_fits.false))
-
 pub returns : goal.returns
-returns c = sym (every-from _ _ (λ j h. c.loop-i.invariant.1 j (omega arith)))
+returns c =
+    let test = event_fits (part_word c.args.file.now c.args.p) in
+    all_from_yields_List test _ _ _ c.all.ensures.ran (YieldsList-from_range 0 c.args.n c.args.n refl (omega arith)) (λ x b q k. search (rules, tests))
+    ∙ all-every test c.args.n

@@ -1,43 +1,36 @@
 -- `midnight::answer_all` meets its contract. Assumes nothing.
-use Rattle.std.proofs.Common.{rules}
-use native.Mathlib.Omega.{arith}
-use mathlib.Core.Path.{◌≡◌, refl, sym, ap, ◌∙◌}
+use mathlib.Core.Path.{◌≡◌, refl, ap, ◌∙◌}
 use mathlib.Core.List.{List}
-use Prim.Native.Nat.{ℕ, ◌-◌, ◌*◌, ◌≤◌}
-use lib.ListN.{length}
-use Rattle.base.specs.Loop.{listed, stored}
-use Rattle.night_rows.specs.Rows.{Row, row_with, row_at}
-use Rattle.answer_rows.specs.Answers.{answer_width}
-use Rattle.night_answers.specs.Answers.{NightLent, lent_with}
-use Rattle.midnight.specs.Run.{bodies_of, rows_of}
+use Prim.Native.Nat.{ℕ}
+use lib.ListN.{length, get_or}
+use Rattle.base.specs.Refusals.{asked}
 use Rattle.base.proofs.Stored.{stored-length}
-use Rattle.base.proofs.Listed.{listed-length}
+use Rattle.step_answers.specs.Records.{FallingAnswer}
+use Rattle.step_answers.specs.Answers.{falling_answer}
+use Rattle.night_rows.specs.Rows.{Row, row_at, named_in}
+use Rattle.night_windows.specs.Windows.{verdicts}
+use Rattle.night_answers.specs.Answers.{NightLent, lent_with, row_answer_by}
 use Rattle.midnight.proofs.Turns.{rows-begin, rows-turn, rows_end}
 use Rattle.midnight.proofs.answer_all.Goals as goal
 
 pub loop-i-init : goal.loop-i-init
-loop-i-init c = (search rules, refl, rows-begin _ _ _ _)
-
-pub slice_bounds-row_answer-end : goal.slice_bounds-row_answer-end
-slice_bounds-row_answer-end c = sym (ap (λ (l : List ℕ). length l) c.check_all-checked.ensures ∙ listed-length _ 16 0)
-
-pub overflow_add-i : goal.overflow_add-i
-overflow_add-i c = omega (arith, c.loop-i-test.true, c.ranges.bodies)
+loop-i-init c = (refl, rows-begin _ _ _ _)
 
 pub loop-i-preserved : goal.loop-i-preserved
 loop-i-preserved c =
     let at-loop = c.loop-i in
     let a = c.args in
-    let lent : NightLent = lent_with a.records.now a.shapes.now a.windows.now a.count a.cells.now in
-    let rows : ℕ → Row = row_at a.older a.numbers.now a.words.now in
-    let said = rw (c.words_at-own_words.ensures, c.numbers_at-own_numbers.ensures) at c.row_answer-a.ensures in (
-      search rules,
-      rw c.put_row.ensures (stored-length at-loop.out _ _ ∙ at-loop.invariant.1),
-      rows-turn lent rows a.bodies at-loop.i at-loop.out _ c.check_all-checked.result c.requires c.check_all-checked.ensures _ c.row_answer-a.result said c.put_row.ensures c.loop-i-test.true at-loop.invariant.2,
+    let lent : NightLent = lent_with a.tables.records.now a.tables.shapes.now a.windows.rows.now a.windows.count a.windows.cells.now in
+    let rows : ℕ → Row = row_at a.bodies.older a.bodies.numbers.now a.bodies.words.now in
+    let checked : List ℕ = verdicts c.check_all-checked.result in
+    let handed : FallingAnswer = falling_answer c.given.result c.fall.result (asked c.row_answer-answer.result) in
+    let said : handed ≡ row_answer_by (get_or checked (named_in (rows at-loop.i)) 2) lent (rows at-loop.i) =
+    (λ j. falling_answer (c.given.ensures j) (c.fall.ensures j) (asked c.row_answer-answer.result))
+    ∙ c.row_answer-answer.ensures
+    ∙ ap (λ (r : Row). row_answer_by (get_or checked (named_in r) 2) lent r) c.row-row.ensures in (
+      ap (λ (l : List _). length l) c.put_row.ensures ∙ stored-length at-loop.out _ _ ∙ at-loop.invariant.0,
+      rows-turn lent rows a.bodies.count at-loop.i at-loop.out _ checked c.requires c.check_all-checked.ensures _ handed said c.put_row.ensures c.loop-i-test.true at-loop.invariant.1,
     )
 
-pub shape_of-out : goal.shape_of-out
-shape_of-out c = c.loop-i.invariant.1
-
 pub returns : goal.returns
-returns c = rows_end _ _ _ c.loop-i.i c.loop-i.out _ c.loop-i-test.false c.loop-i.invariant.2
+returns c = rows_end _ _ _ c.loop-i.i c.loop-i.out _ c.loop-i-test.false c.loop-i.invariant.1

@@ -1,27 +1,24 @@
 -- `midnight::run_checked` meets its contract. Assumes nothing.
+use mathlib.Core.Path.{refl}
+use Rattle.base.proofs.Answers.{some_number}
 use Rattle.night_answers.specs.Answers.{NightLent, lent_with}
-use Rattle.midnight.proofs.Orders.{refused-run, few-windows, zero-told, accepted-run}
+use Rattle.midnight.proofs.Orders.{refused-run, few-windows, accepted-run}
 use Rattle.midnight.proofs.run_checked.Goals as goal
 
-pub returns-then-refusal-ne0 : goal.returns-then-refusal-ne0
-returns-then-refusal-ne0 c =
+pub returns-in_err-check_counts-clause-out_after : goal.returns-in_err-check_counts-clause-out_after
+returns-in_err-check_counts-clause-out_after c =
     let a = c.args in
-    let lent : NightLent = lent_with a.records.now a.shapes.now a.windows.now a.count a.cells.now in
-    let told = c.count_refusal-refusal.ensures in
-    record { value = told; out_after = refused-run a.older lent a.numbers.now a.words.now a.bodies a.out.now _ told c.if-refusal-ne0.true }
+    let lent : NightLent = lent_with a.tables.records.now a.tables.shapes.now a.windows.rows.now a.windows.count a.windows.cells.now in
+    refused-run a.bodies.older lent a.bodies.numbers.now a.bodies.words.now a.bodies.count a.out.now _ c.in_err-check_counts.ensures (some_number _)
 
 pub answer_all-requires : goal.answer_all-requires
 answer_all-requires c =
     let a = c.args in
-    let lent : NightLent = lent_with a.records.now a.shapes.now a.windows.now a.count a.cells.now in
-    few-windows a.older lent a.numbers.now a.words.now a.bodies a.out.now _ c.count_refusal-refusal.ensures c.if-refusal-ne0.false
+    let lent : NightLent = lent_with a.tables.records.now a.tables.shapes.now a.windows.rows.now a.windows.count a.windows.cells.now in
+    few-windows a.bodies.older lent a.bodies.numbers.now a.bodies.words.now a.bodies.count a.out.now _ c.in_ok-check_counts.ensures refl
 
-pub returns : goal.returns
-returns c =
+pub returns-clause-out_after : goal.returns-clause-out_after
+returns-clause-out_after c =
     let a = c.args in
-    let lent : NightLent = lent_with a.records.now a.shapes.now a.windows.now a.count a.cells.now in
-    let told = c.count_refusal-refusal.ensures in
-    let none = c.if-refusal-ne0.false in record {
-      value = zero-told a.older lent a.numbers.now a.words.now a.bodies a.out.now _ told none;
-      out_after = accepted-run a.older lent a.numbers.now a.words.now a.bodies a.out.now _ told none _ c.answer_all.ensures;
-    }
+    let lent : NightLent = lent_with a.tables.records.now a.tables.shapes.now a.windows.rows.now a.windows.count a.windows.cells.now in
+    accepted-run a.bodies.older lent a.bodies.numbers.now a.bodies.words.now a.bodies.count a.out.now _ c.in_ok-check_counts.ensures refl _ c.answer_all.ensures

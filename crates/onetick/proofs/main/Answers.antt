@@ -7,13 +7,11 @@ pub slice_bounds-out-end : goal.slice_bounds-out-end
 slice_bounds-out-end c =
     let most : c.answer-m.result ≤ 160 = rw c.answer-m.ensures.value (written-most _ _ _ _) in
     let kept = c.answer-m.auto.out in
-    let room = c.answer_room-out.ensures in
     omega arith
 
 pub slice_bounds-write_all-end : goal.slice_bounds-write_all-end
 slice_bounds-write_all-end c =
     let most : c.answer-m.result ≤ 160 = rw c.answer-m.ensures.value (written-most _ _ _ _) in
     let kept = c.answer-m.auto.out in
-    let room = c.answer_room-out.ensures in
     let within : c.answer-m.result ≤ length c.answer-m.new.out = omega arith in
     sym (length-take-le c.answer-m.result c.answer-m.new.out within)

@@ -1,9 +1,8 @@
 -- `palette::put_words` meets its contract. Assumes nothing.
 use Rattle.std.proofs.Common.{rules}
-use mathlib.Core.Path.{◌≡◌, refl}
-use Prim.Native.Nat.{◌-◌, ◌/◌, ◌%◌, ◌≤◌}
-use lib.ListN.{length, length-set}
-use Rattle.base.specs.Loop.{listed, stored}
+use mathlib.Core.Path.{refl}
+use Prim.Native.Nat.{◌/◌, ◌%◌}
+use lib.ListN.{length-set}
 use Rattle.palette.specs.Palette.{palette_word, palette_records}
 use Rattle.palette_boxes.proofs.Boxes.{list-turn, list-end}
 use Rattle.palette.proofs.put_words.Goals as goal
@@ -13,7 +12,7 @@ unfolding palette_records
 loop-i-init c = (search rules, refl, refl)
 
 pub loop-i-preserved : goal.loop-i-preserved
-loop-i-preserved c = (search rules, rw (c.put_word.ensures, length-set) c.loop-i.invariant.1, list-turn (λ i. palette_word (i / 20) (i % 20)) 4240 c.loop-i.i c.loop-i.out _ _ c.palette_word-x.result c.palette_word-x.ensures c.put_word.ensures c.loop-i-test.true c.loop-i.invariant.2)
+loop-i-preserved c = (search rules, rw (length-set) c.loop-i.invariant.1, list-turn (λ i. palette_word (i / 20) (i % 20)) 4240 c.loop-i.i c.loop-i.out _ _ c.palette_word.result c.palette_word.ensures refl c.loop-i-test.true c.loop-i.invariant.2)
 
 pub shape_of-out : goal.shape_of-out
 shape_of-out c = c.loop-i.invariant.1

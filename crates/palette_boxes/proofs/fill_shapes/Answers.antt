@@ -1,5 +1,5 @@
 -- `palette_boxes::fill_shapes` meets its contract. Assumes nothing.
-use Rattle.std.proofs.Common.{◌∙◌, rules, le-ltb, lt-ltb}
+use Rattle.std.proofs.Common.{◌∙◌, le-ltb, lt-ltb}
 use Rattle.base.specs.Choose.{choose}
 use Rattle.palette_boxes.specs.Shapes.{palette_shapes}
 use Rattle.base.proofs.Stored.{stored-length, stored-first}

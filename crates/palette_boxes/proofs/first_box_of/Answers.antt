@@ -1,6 +1,6 @@
 -- `palette_boxes::first_box_of` meets its contract. Assumes nothing.
 use Rattle.std.proofs.Common.{rules}
-use Rattle.std.proofs.Common.{◌≡◌, ◌-◌, ◌*◌, ◌≤◌, refl, ap, ◌∙◌, arith, rules, le-leb}
+use Rattle.std.proofs.Common.{◌≡◌, refl, ap, ◌∙◌, arith, rules, le-leb}
 use borrow.Author.Tests.{lt-leb}
 use Rattle.base.specs.Choose.{choose}
 use Rattle.palette_boxes.specs.Shapes.{first_box, first_box_of}

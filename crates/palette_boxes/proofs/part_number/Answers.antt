@@ -1,5 +1,5 @@
 -- `palette_boxes::part_number` meets its contract. Assumes nothing.
-use Rattle.std.proofs.Common.{ap, ◌∙◌, rules}
+use Rattle.std.proofs.Common.{ap, ◌∙◌}
 use Rattle.palette_boxes.specs.Shapes.{box_of_part}
 use Rattle.palette_boxes.proofs.Boxes.{part_at}
 use Rattle.palette_boxes.proofs.part_number.Goals as goal

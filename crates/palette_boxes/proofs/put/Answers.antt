@@ -1,6 +1,6 @@
 -- `palette_boxes::put` meets its contract. Assumes nothing.
 use lib.Seq.{set_out}
-use Rattle.std.proofs.Common.{sym, rules}
+use Rattle.std.proofs.Common.{sym}
 use Rattle.palette_boxes.proofs.put.Goals as goal
 
 pub returns-else-i-out : goal.returns-else-i-out

@@ -1,7 +1,6 @@
 -- `palette_boxes::put_all` meets its contract. Assumes nothing.
 use Rattle.std.proofs.Common.{rules}
-use Rattle.std.proofs.Common.{◌≡◌, ◌-◌, ◌*◌, ◌≤◌, length, refl, arith, rules}
-use Rattle.base.specs.Loop.{stored, appended}
+use Rattle.std.proofs.Common.{refl, arith, rules}
 use Rattle.palette_boxes.specs.Shapes.{boxes_of_state, palette_shapes}
 use Rattle.base.proofs.Appended.{appended-turn, appended-end}
 use Rattle.base.proofs.Stored.{stored-length}

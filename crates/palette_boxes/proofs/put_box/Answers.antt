@@ -1,6 +1,6 @@
 -- `palette_boxes::put_box` meets its contract. Assumes nothing.
 use Rattle.std.proofs.Common.{rules}
-use Rattle.std.proofs.Common.{◌≡◌, ℕ, ◌+◌, ◌-◌, ◌≤◌, map, length, drop, refl, ap, ◌∙◌, add-zero, length-set, rules}
+use Rattle.std.proofs.Common.{ℕ, map, length, refl, ap, ◌∙◌, add-zero, length-set, rules}
 use Rattle.base.specs.Loop.{stored}
 use Rattle.palette_boxes.specs.Shapes.{sixteenths}
 use Rattle.palette_boxes.proofs.Boxes.{box-six, box-turn, box-end}

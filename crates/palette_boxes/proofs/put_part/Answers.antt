@@ -1,5 +1,5 @@
 -- `palette_boxes::put_part` meets its contract. Assumes nothing.
-use Rattle.std.proofs.Common.{◌≡◌, true, false, sym, ◌∙◌, add-zero, rules}
+use Rattle.std.proofs.Common.{◌≡◌, true, false, sym, ◌∙◌, add-zero}
 use Rattle.base.specs.Loop.{stored}
 use Rattle.palette_boxes.specs.Shapes.{has_part}
 use Rattle.base.proofs.Stored.{stored-length}

@@ -4,20 +4,17 @@ use borrow.Author.Tests.{lt-ltb, le-ltb}
 use Rattle.base.specs.Choose.{choose}
 use Rattle.night_rows.specs.Rows.{row_at}
 use Rattle.base.proofs.Listed.{listed-length}
-use Rattle.parties.specs.Parties.{party_refusal, party_written}
+use Rattle.parties.specs.Parties.{party_written}
 use Rattle.parties.proofs.run_party.Goals as goal
 
-pub returns-then-bodies-gt2048 : goal.returns-then-bodies-gt2048
-unfolding party_refusal party_written choose
-returns-then-bodies-gt2048 c =
-    let a = c.args in
-    let many = lt-ltb _ _ c.if-bodies-gt2048.true in
-    record { value = rw many; half_after = rw (listed-length (row_at false a.numbers.now a.words.now) a.bodies 0, many) }
+pub returns-then-party-gt2048-clause-half_after : goal.returns-then-party-gt2048-clause-half_after
+unfolding party_written choose
+returns-then-party-gt2048-clause-half_after c =
+    let p = c.args.party in
+    rw (listed-length (row_at false p.numbers.now p.words.now) p.bodies 0, lt-ltb _ _ c.if-party-gt2048.true)
 
-pub returns : goal.returns
-unfolding party_refusal party_written choose
-returns c =
-    let a = c.args in
-    let few = le-ltb _ _ c.if-bodies-gt2048.false in
-    let done = c.run_checked.ensures in
-    record { value = rw few done.value; half_after = rw (listed-length (row_at false a.numbers.now a.words.now) a.bodies 0, few) done.out_after }
+pub returns-clause-half_after : goal.returns-clause-half_after
+unfolding party_written choose
+returns-clause-half_after c =
+    let p = c.args.party in
+    rw (listed-length (row_at false p.numbers.now p.words.now) p.bodies 0, le-ltb _ _ c.if-party-gt2048.false) c.run_checked.ensures.out_after

@@ -1,13 +1,20 @@
 -- `passing::reach_in` meets its contract. Assumes nothing.
-use Rattle.passing.specs.Passing.{reach_in}
-use Rattle.base.specs.Choose.{choose}
-use borrow.Author.Tests.{lt-ltb, le-ltb}
+use mathlib.Core.Path.{sym, ◌∙◌}
+use Rattle.passing.proofs.Bounds.{first-x, first-z, across-x, across-z}
 use Rattle.passing.proofs.reach_in.Goals as goal
 
-pub returns-then-wide-words : goal.returns-then-wide-words
-unfolding reach_in choose
-returns-then-wide-words c = rw (← c.layout_of-l.ensures, ← c.wide.ensures, lt-ltb _ _ c.if-wide-words.true, ← c.reach_of.ensures)
+pub overflow_cast-result : goal.overflow_cast-result
+overflow_cast-result c =
+    first-x c.args.view.window.sizes _ _ c.place_in-a.result c.place_in-b.result c.layout_of.ensures c.in_ok-layout.was (sym c.spans_it.ensures ∙ c.if-not-spans_it.false)
 
-pub returns : goal.returns
-unfolding reach_in choose
-returns c = rw (← c.layout_of-l.ensures, ← c.wide.ensures, le-ltb _ _ c.if-wide-words.false)
+pub overflow_cast-result-2 : goal.overflow_cast-result-2
+overflow_cast-result-2 c =
+    first-z c.args.view.window.sizes _ _ c.place_in-a.result c.place_in-b.result c.layout_of.ensures c.in_ok-layout.was (sym c.spans_it.ensures ∙ c.if-not-spans_it.false)
+
+pub overflow_cast-result-3 : goal.overflow_cast-result-3
+overflow_cast-result-3 c =
+    across-x c.args.view.window.sizes _ _ c.place_in-a.result c.place_in-b.result c.layout_of.ensures c.in_ok-layout.was (sym c.spans_it.ensures ∙ c.if-not-spans_it.false) _ c.groups_between.ensures
+
+pub overflow_cast-result-4 : goal.overflow_cast-result-4
+overflow_cast-result-4 c =
+    across-z c.args.view.window.sizes _ _ c.place_in-a.result c.place_in-b.result c.layout_of.ensures c.in_ok-layout.was (sym c.spans_it.ensures ∙ c.if-not-spans_it.false) _ c.groups_between-2.ensures

@@ -8,5 +8,5 @@ use Rattle.recorder.proofs.boltjuniper_write_checked.Goals as goal
 pub returns : goal.returns
 returns c =
     let a = c.args in
-    let w = rw (to_z-of_z w32 a.ox c.ranges.ox, to_z-of_z w32 a.oy c.ranges.oy, to_z-of_z w32 a.oz c.ranges.oz, to_z-of_z w32 a.lowest c.ranges.lowest, to_z-of_z w32 a.highest c.ranges.highest) at c.window_of-w.ensures in
-    record { value = c.bytes_or_refusal.ensures ∙ ap bytes_or_refusal (rw w at c.write_checked-a.ensures.value); out_after = rw w at c.write_checked-a.ensures.out_after }
+    let w = rw (to_z-of_z w32 a.ox c.ranges.ox, to_z-of_z w32 a.oy c.ranges.oy, to_z-of_z w32 a.oz c.ranges.oz, to_z-of_z w32 a.lowest c.ranges.lowest, to_z-of_z w32 a.highest c.ranges.highest) at c.window_of.ensures in
+    record { value = c.bytes_or_refusal.ensures ∙ ap bytes_or_refusal (rw w at c.write_checked.ensures.value); out_after = rw w at c.write_checked.ensures.out_after }

@@ -5,4 +5,4 @@ use Rattle.recorder.proofs.boltjuniper_write_log.Goals as goal
 
 pub returns : goal.returns
 returns c =
-    record { value = c.bytes_or_refusal.ensures ∙ ap bytes_or_refusal c.write_log-a.ensures.value; out_after = c.write_log-a.ensures.out_after }
+    record { value = c.bytes_or_refusal.ensures ∙ ap bytes_or_refusal c.write_log.ensures.value; out_after = c.write_log.ensures.out_after }

@@ -16,7 +16,7 @@ use Rattle.roots.proofs.Pattern.{pattern}
 use Rattle.roots.proofs.Near.{root_is}
 use Rattle.roots.proofs.Roots.{root-nearest, root-unique}
 use Rattle.roots.proofs.sqrt.Goals as goal
-use Rattle.roots.proofs.sqrt.Goals.{Start, Then-x-infinity}
+use Rattle.roots.proofs.sqrt.Goals.{Start, Then-x-infinity, else-x-via-then-x+else-x-infinity, else-x-via-else-x}
 
 held : (c : Start) → T (fits binary64 c.args.x)
 held c = subst T (sym c.well_formed.0.1) tt
@@ -67,28 +67,24 @@ float_to_bits-b c = subst (λ (z : Float). T (not (is_nan z))) (sym (number (goa
 pub root_bits-r-requires : goal.root_bits-r-requires
 root_bits-r-requires c = in-range c.args.x (number (goal.at.root_bits-r-requires c).Then-x-infinity).0 (number (goal.at.root_bits-r-requires c).Then-x-infinity).1 (number (goal.at.root_bits-r-requires c).Then-x-infinity).2 (held (goal.at.root_bits-r-requires c).Start)
 
-pub float_from_bits-r : goal.float_from_bits-r
-float_from_bits-r c = no_nan c.root_bits-r.result (bits-le _ _ c.root_bits-r.ensures)
+pub float_from_bits-result : goal.float_from_bits-result
+float_from_bits-result c = no_nan c.root_bits-r.result (bits-le _ _ c.root_bits-r.ensures)
 
 pub returns-then-x-infinity : goal.returns-then-x-infinity
 returns-then-x-infinity c =
     let a = answer c.args.x (number (goal.at.returns-then-x-infinity c).Then-x-infinity).0 (number (goal.at.returns-then-x-infinity c).Then-x-infinity).1 c.root_bits-r.result (number (goal.at.returns-then-x-infinity c).Then-x-infinity).2 (held (goal.at.returns-then-x-infinity c).Start) c.root_bits-r.ensures in
-    taken _ _ _ _ c.given.ensures a.0 a.1
-
-pub returns-then-x : goal.returns-then-x
-returns-then-x c =
-    let x = c.args.x in
-    turned-away _ _ _ _ c.refused.ensures
-    (at-infinity x (subst (λ (z : Float). lt z x ≡ true) zero_is c.if-x.true) (subst (λ (z : Float). lt x z ≡ false) infinity-is c.if-x-infinity.false))
+    taken _ _ _ a.0 a.1
 
 pub returns-then-x-2 : goal.returns-then-x-2
 returns-then-x-2 c =
     let x = c.args.x in
     let z = at_zero x (subst (λ (z : Float). eq x z ≡ true) zero_is c.if-x-2.true) in
-    taken _ _ _ _ c.given-then-x-2.ensures z.0 z.1
+    taken _ _ _ z.0 z.1
 
 pub returns-else-x-2 : goal.returns-else-x-2
 returns-else-x-2 c =
     let x = c.args.x in
-    turned-away _ _ _ _ c.refused-else-x-2.ensures
-    (below-zero x (subst (λ (z : Float). eq x z ≡ false) zero_is c.if-x-2.false) (subst (λ (z : Float). lt z x ≡ false) zero_is c.if-x.false))
+    elim c.else-x.branch [
+      | else-x-via-then-x+else-x-infinity w ↦ turned-away _ _ (at-infinity x (subst (λ (z : Float). lt z x ≡ true) zero_is w.if-x.true) (subst (λ (z : Float). lt x z ≡ false) infinity-is w.if-x-infinity.false))
+      | else-x-via-else-x w ↦ turned-away _ _ (below-zero x (subst (λ (z : Float). eq x z ≡ false) zero_is c.if-x-2.false) (subst (λ (z : Float). lt z x ≡ false) zero_is w.if-x.false))
+    ]

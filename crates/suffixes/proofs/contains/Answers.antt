@@ -1,51 +1,41 @@
 -- `suffixes::contains` meets its contract. The invariant: what is left, from `k` on, decides the whole. Assumes nothing.
+use mathlib.Core.Bool.{false}
 use mathlib.Core.Path.{◌≡◌, refl, sym, ◌∙◌}
-use Prim.Native.Nat.{◌+◌, ◌≤◌, ◌-◌}
+use Prim.Native.Nat.{◌+◌, ◌<◌}
 use native.Mathlib.Omega.{arith}
 use lib.ListN.{length, drop}
-use Rattle.suffixes.specs.Bytes.{has_within}
-use Rattle.suffixes.proofs.Bytes.{starts_by, starts-part, within_end, within-found, within-next}
+use Rattle.suffixes.specs.Bytes.{starts_with, has_within}
+use Rattle.suffixes.proofs.Bytes.{starts_by, starts-part, within-short, within_end, within-found, within-next}
 use Rattle.suffixes.proofs.contains.Goals as goal
+use Rattle.suffixes.proofs.contains.Goals.{Else-starts_with}
 
-pub loop-k-init : goal.loop-k-init
-loop-k-init c = (omega arith, refl)
-
-pub overflow_add-k : goal.overflow_add-k
-overflow_add-k c = omega arith
-
-pub overflow_add-k-in-loop-k : goal.overflow_add-k-in-loop-k
-overflow_add-k-in-loop-k c = omega arith
-
-pub slice_bounds-equals-count : goal.slice_bounds-equals-count
-slice_bounds-equals-count c = omega arith
-
-pub slice_bounds-equals-start : goal.slice_bounds-equals-start
-slice_bounds-equals-start c = omega arith
-
-pub slice_bounds-equals-end : goal.slice_bounds-equals-end
-slice_bounds-equals-end c = omega arith
-
-pub equals-requires : goal.equals-requires
-equals-requires c = tt
-
-pub returns-then-equals : goal.returns-then-equals
-returns-then-equals c =
-    within-found c.args.id.now c.args.part.now c.loop-k.k _ c.loop-k.invariant.1 (sym (starts_by _ _ c.loop-k.k) ∙ sym c.equals.ensures ∙ c.if-equals.true)
-
-pub overflow_add-k-in-loop-k-2 : goal.overflow_add-k-in-loop-k-2
-overflow_add-k-in-loop-k-2 c = omega arith
-
-pub loop-k-smaller : goal.loop-k-smaller
-loop-k-smaller c = omega arith
-
-pub loop-k-preserved : goal.loop-k-preserved
-loop-k-preserved c =
+-- what is left after a place where the part does not start
+on : (c : Else-starts_with) → (c.loop-k.k < length c.args.id.now) × (has_within (drop (c.loop-k.k + 1) c.args.id.now) c.args.part.now ≡ has_within c.args.id.now c.args.part.now)
+on c =
     let id = c.args.id.now in
     let part = c.args.part.now in
     let k = c.loop-k.k in
-    let e = sym (starts_by id part k) ∙ sym c.equals.ensures ∙ c.if-equals.false in
+    let e : starts_with (drop k id) part ≡ false = sym (starts_by id part k) ∙ sym c.starts_with.ensures.value ∙ c.if-starts_with.false in
     let p = starts-part (drop k id) part e in
-    (omega arith, within-next id part k _ c.loop-k.invariant.1 (omega arith) e)
+    let h : k < length id = omega arith in
+    (h, within-next id part k _ c.loop-k.invariant h e)
 
-pub returns : goal.returns
-returns c = within_end c.args.id.now c.args.part.now c.loop-k.k _ c.loop-k.invariant.1 c.loop-k.invariant.0 c.loop-k-test.false
+pub returns-then-id-part : goal.returns-then-id-part
+returns-then-id-part c = sym (within-short c.args.id.now c.args.part.now c.if-id-part.true)
+
+pub loop-k-init : goal.loop-k-init
+loop-k-init c = refl
+
+pub returns-then-starts_with : goal.returns-then-starts_with
+returns-then-starts_with c =
+    let id = c.args.id.now in
+    let part = c.args.part.now in
+    within-found id part c.loop-k.k _ c.loop-k.invariant (sym (starts_by id part c.loop-k.k) ∙ sym c.starts_with.ensures.value ∙ c.if-starts_with.true)
+
+pub loop-k-preserved : goal.loop-k-preserved
+loop-k-preserved c = (on (goal.at.loop-k-preserved c).Else-starts_with).1
+
+pub returns-else-starts_with : goal.returns-else-starts_with
+returns-else-starts_with c =
+    let a = on (goal.at.returns-else-starts_with c).Else-starts_with in
+    within_end c.args.id.now c.args.part.now (c.loop-k.k + 1) _ a.1 (omega arith) (omega arith)

@@ -1,16 +1,23 @@
 -- `wholes::ceil` meets its contract: the ceiling is the floor of -x, turned round. Assumes nothing.
-use mathlib.Core.Path.{sym, ap, ◌∙◌}
+use Rattle.std.proofs.lemmas.Result.{err_from_is_err_and}
+use mathlib.Core.Path.{◌≡◌, sym, ap, ◌∙◌}
 use lib.Ieee.{neg}
+use Rattle.base.specs.Choose.{choose}
 use Rattle.wholes.proofs.Rounding.{neg-finite, ceil-by-floor}
-use Rattle.floats.proofs.Answers.{taken, turned-away, was-taken, was-turned-away}
+use Rattle.floats.proofs.Answers.{taken, was-taken, was-turned-away}
 use Rattle.wholes.proofs.ceil.Goals as goal
 
-pub returns-then-below-eq0 : goal.returns-then-below-eq0
-returns-then-below-eq0 c =
-    let below = was-taken _ _ _ c.floor-below.ensures c.if-below-eq0.true in
-    let finite = sym (neg-finite c.args.x) ∙ below.0 in
-    taken _ _ _ _ c.given.ensures finite (ap neg below.1 ∙ ceil-by-floor c.args.x finite)
+pub returns-in_err-floor : goal.returns-in_err-floor
+unfolding choose
+returns-in_err-floor c =
+    let e = c.in_err-floor.field-0.0 in
+    let t = was-turned-away _ _ e c.in_err-floor.ensures in
+    let y = err_from_is_err_and c.from_residual.result c.from_residual.ensures.1 in
+    let k : y.0 ≡ e = y.2 in
+    rw (y.1, k, t.1, ← neg-finite c.args.x, t.0)
 
-pub returns-else-below-eq0 : goal.returns-else-below-eq0
-returns-else-below-eq0 c =
-    turned-away _ _ _ _ c.refused.ensures (sym (neg-finite c.args.x) ∙ was-turned-away _ _ _ c.floor-below.ensures c.if-below-eq0.false)
+pub returns : goal.returns
+returns c =
+    let below = was-taken _ _ _ c.in_ok-floor.ensures in
+    let finite = sym (neg-finite c.args.x) ∙ below.0 in
+    taken _ _ _ finite (ap neg below.1 ∙ ceil-by-floor c.args.x finite)

@@ -5,7 +5,7 @@ use Rattle.floats.proofs.Answers.{taken, turned-away}
 use Rattle.wholes.proofs.far_floor.Goals as goal
 
 pub returns-then-is_finite : goal.returns-then-is_finite
-returns-then-is_finite c = taken _ _ _ _ c.given.ensures (sym c.is_finite.ensures ∙ c.if-is_finite.true) (c.floor.ensures ∙ floor_same c.args.x)
+returns-then-is_finite c = taken _ _ _ (sym c.is_finite.ensures ∙ c.if-is_finite.true) (c.floor.ensures ∙ floor_same c.args.x)
 
 pub returns-else-is_finite : goal.returns-else-is_finite
-returns-else-is_finite c = turned-away _ _ _ _ c.refused.ensures (sym c.is_finite.ensures ∙ c.if-is_finite.false)
+returns-else-is_finite c = turned-away _ _ (sym c.is_finite.ensures ∙ c.if-is_finite.false)

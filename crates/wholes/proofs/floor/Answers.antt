@@ -21,7 +21,7 @@ pub returns-then-x-3 : goal.returns-then-x-3
 unfolding of_bits
 returns-then-x-3 c =
     let n = near (goal.at.returns-then-x-3 c).Then-x-2 in
-    taken _ _ _ _ c.given.ensures (near-finite c.args.x n) (zero-floor c.args.x n (held (goal.at.returns-then-x-3 c).Start) c.if-x-3.true)
+    taken _ _ _ (near-finite c.args.x n) (zero-floor c.args.x n (held (goal.at.returns-then-x-3 c).Start) c.if-x-3.true)
 
 pub returns-then-x-2 : goal.returns-then-x-2
 unfolding of_bits
@@ -29,5 +29,4 @@ returns-then-x-2 c =
     let n = near (goal.at.returns-then-x-2 c).Then-x-2 in
     let x = c.args.x in
     let w = sub binary64 (add binary64 x big64) big64 in
-    taken _ _ _ _ c.given-then-x-2.ensures (near-finite x n)
-    (ap (λ (e : Float). sub binary64 w e) c.excess_float-e.ensures ∙ near-floor x n c.if-x-3.false)
+    taken _ _ _ (near-finite x n) (ap (λ (e : Float). sub binary64 w e) c.excess-e.ensures ∙ near-floor x n c.if-x-3.false)

@@ -1,15 +1,13 @@
 -- `writer::counts_for` meets its contract. Assumes nothing.
+use mathlib.Core.Path.{refl}
 use Rattle.writer.proofs.Puts.{many-states, many-boxes, many-cells}
 use Rattle.writer.proofs.counts_for.Goals as goal
 
-pub returns-then-cells-le15744 : goal.returns-then-cells-le15744
-returns-then-cells-le15744 c = c.counts_of.ensures
+pub returns-then-states-gt4096 : goal.returns-then-states-gt4096
+returns-then-states-gt4096 c = (refl, many-states _ c.if-states-gt4096.true)
 
-pub returns-else-cells-le15744 : goal.returns-else-cells-le15744
-returns-else-cells-le15744 c = many-cells _ c.if-cells-le15744.false
+pub returns-then-boxes-gt16384 : goal.returns-then-boxes-gt16384
+returns-then-boxes-gt16384 c = (refl, many-boxes _ c.if-boxes-gt16384.true)
 
-pub returns-else-boxes-le16384 : goal.returns-else-boxes-le16384
-returns-else-boxes-le16384 c = many-boxes _ c.if-boxes-le16384.false
-
-pub returns-else-states-le4096 : goal.returns-else-states-le4096
-returns-else-states-le4096 c = many-states _ c.if-states-le4096.false
+pub returns-then-cells-gt15744 : goal.returns-then-cells-gt15744
+returns-then-cells-gt15744 c = (refl, many-cells _ c.if-cells-gt15744.true)

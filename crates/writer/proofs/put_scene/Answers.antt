@@ -15,7 +15,7 @@ shape_of-out c =
 
 pub returns : goal.returns
 returns c =
-    all-put (contents_of c.args.records.now c.args.shapes.now c.args.cells.now c.args.w c.args.numbers.now c.args.words.now c.args.age) c.args.n _ _ _ _ _ _ _ _ c.requires.0 c.requires.1 c.body_words-body.ensures c.window_words-place.ensures
+    all-put (contents_of c.args.tables.records.now c.args.tables.shapes.now c.args.view.words.now c.args.view.window c.args.numbers.now c.args.words.now c.args.age) c.args.n _ _ _ _ _ _ _ _ c.requires.0 c.requires.1 c.body_words-body.ensures c.window_words-place.ensures
     (rw c.body_part.ensures at c.put_words.ensures)
     (rw c.record_part.ensures at c.put_words-2.ensures)
     (rw c.box_part.ensures at c.put_singles.ensures)

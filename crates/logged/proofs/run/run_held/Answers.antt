@@ -11,14 +11,8 @@ use Rattle.logged.specs.Held.{held_minute}
 use Rattle.logged.proofs.Scenes.{handed-on}
 use Rattle.logged.proofs.run.run_held.Goals as goal
 
-pub slice_bounds-run_among-end : goal.slice_bounds-run_among-end
-slice_bounds-run_among-end c = let h = c.held-a.ensures in rw (length-take) (omega arith)
-
 pub slice_bounds-run_among-end-2 : goal.slice_bounds-run_among-end-2
-slice_bounds-run_among-end-2 c = let h = c.held-b.ensures in rw (length-take) (omega arith)
-
-pub slice_bounds-run_among-end-4 : goal.slice_bounds-run_among-end-4
-slice_bounds-run_among-end-4 c = let h = c.held-c.ensures in rw (length-take) (omega arith)
+slice_bounds-run_among-end-2 c = let h = c.held-c.ensures in rw (length-take) (omega arith)
 
 pub returns : goal.returns
 returns c =

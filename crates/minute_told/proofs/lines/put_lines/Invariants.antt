@@ -1,14 +1,8 @@
 -- `minute_told::lines::put_lines` meets its contract. Assumes nothing.
 use Rattle.base.specs.Loop.{listed}
-use Prim.Native.Nat.{◌-◌, ◌≤◌}
 use Rattle.text.specs.Cursor.{Put}
-use Rattle.text.proofs.Cursor.{same_size}
 use Rattle.minute_told.specs.Printed.{feet_lines, feet_at}
-use Rattle.minute_told.proofs.Text.{lines-begin, lines-turn, lines_end}
 use Rattle.minute_told.proofs.lines.put_lines.Given as goal
 
 abbrev pub invariant-loop-i : goal.invariant-loop-i
-invariant-loop-i l = (l.i ≤ l.ticks) × Put l.initial.out 0 (feet_lines (listed (feet_at l.feet) l.i 0)) l.out l.cursor
-
-abbrev pub decreases-loop-i : goal.decreases-loop-i
-decreases-loop-i l = l.ticks - l.i
+invariant-loop-i l = Put l.initial.out 0 (feet_lines (listed (feet_at l.feet) l.i 0)) l.out l.cursor

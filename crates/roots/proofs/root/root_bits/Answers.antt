@@ -1,5 +1,5 @@
 -- `roots::root::root_bits` meets its contract, by the facts of `Shift.antt`. Assumes nothing.
-use Prim.Native.Nat.{◌+◌, ◌*◌, ◌/◌, ◌%◌, ◌^◌}
+use Prim.Native.Nat.{◌+◌, ◌*◌, ◌^◌}
 use native.Mathlib.Omega.{arith}
 use Rattle.roots.specs.Steps.{RootBits, units_of}
 use Rattle.roots.proofs.Shift.{root-bits, bits-le}

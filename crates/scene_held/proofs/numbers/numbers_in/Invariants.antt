@@ -11,6 +11,3 @@ use Rattle.scene_held.proofs.numbers.numbers_in.Given as goal
 
 abbrev pub invariant-loop-k : goal.invariant-loop-k
 invariant-loop-k l = (l.k ≤ 19) × (length l.numbers ≡ 19) × (take l.k l.numbers ++ listed (body_float l.file) (19 - l.k) l.k ≡ listed (body_float l.file) 19 0)
-
-abbrev pub decreases-loop-k : goal.decreases-loop-k
-decreases-loop-k l = 19 - l.k

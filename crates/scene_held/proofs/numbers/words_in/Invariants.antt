@@ -11,6 +11,3 @@ use Rattle.scene_held.proofs.numbers.words_in.Given as goal
 
 abbrev pub invariant-loop-k : goal.invariant-loop-k
 invariant-loop-k l = (l.k ≤ 7) × (length l.words ≡ 7) × (take l.k l.words ++ listed (late_word l.file) (7 - l.k) l.k ≡ listed (late_word l.file) 7 0)
-
-abbrev pub decreases-loop-k : goal.decreases-loop-k
-decreases-loop-k l = 7 - l.k

@@ -13,6 +13,3 @@ use Rattle.scene_held.proofs.parts.take_singles.Given as goal
 
 abbrev pub invariant-loop-i : goal.invariant-loop-i
 invariant-loop-i l = (l.i ≤ l.n) × (l.n ≤ l.p.words) × (l.n ≤ length l.to) × (length l.to ≡ length l.initial.to) × (take l.i l.to ++ listed (λ k. of_bits binary32 (part_word l.file l.p k)) (l.n - l.i) l.i ≡ listed (λ k. of_bits binary32 (part_word l.file l.p k)) l.n 0)
-
-abbrev pub decreases-loop-i : goal.decreases-loop-i
-decreases-loop-i l = l.n - l.i

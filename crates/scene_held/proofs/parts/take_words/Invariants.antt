@@ -12,6 +12,3 @@ use Rattle.scene_held.proofs.parts.take_words.Given as goal
 
 abbrev pub invariant-loop-i : goal.invariant-loop-i
 invariant-loop-i l = (l.i ≤ l.n) × (l.n ≤ l.p.words) × (l.n ≤ length l.to) × (length l.to ≡ length l.initial.to) × (take l.i l.to ++ listed (part_word l.file l.p) (l.n - l.i) l.i ≡ listed (part_word l.file l.p) l.n 0)
-
-abbrev pub decreases-loop-i : goal.decreases-loop-i
-decreases-loop-i l = l.n - l.i

@@ -1,7 +1,0 @@
--- `block_writer::word_in` meets its contract. Assumes nothing.
-use lib.ListN.{get_or-eq_default}
-use mathlib.Core.Path.{sym}
-use Rattle.block_writer.proofs.word_in.Goals as goal
-
-pub returns-else-i-words : goal.returns-else-i-words
-returns-else-i-words c = sym (get_or-eq_default c.args.words.now 0 c.if-i-words.false)

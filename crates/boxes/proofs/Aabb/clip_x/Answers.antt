@@ -1,6 +1,0 @@
--- `boxes::Aabb::clip_x` meets its contract. Assumes nothing.
-use Rattle.boxes.proofs.Aabb.clip_x.Goals as goal
-
-pub returns : goal.returns
-returns c =
-    rw (c.clipped.ensures, c.on_y.ensures, c.on_z.ensures, c.on_x.ensures)

@@ -1,7 +1,0 @@
--- `files::body_fits` meets its contract. Assumes nothing.
-use Rattle.blocks.specs.Blocks.{part_fits}
-use mathlib.Core.Path.{ap, ◌∙◌}
-use Rattle.files.proofs.body_fits.Goals as goal
-
-pub returns : goal.returns
-returns c = c.part_fits.ensures ∙ ap (part_fits _) c.body_part.ensures

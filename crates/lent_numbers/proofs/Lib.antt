@@ -1,0 +1,2 @@
+-- A law of this crate's definitions.
+pub mod Answers

@@ -1,6 +1,0 @@
--- The index goes up to the length.
-use Rattle.std.proofs.Common.{length, ◌-◌}
-use Rattle.midnight_runs.proofs.alike.Given as goal
-
-abbrev pub decreases-loop-i : goal.decreases-loop-i
-decreases-loop-i l = length l.fn.a - l.i

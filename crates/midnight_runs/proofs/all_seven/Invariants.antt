@@ -1,6 +1,0 @@
--- The index goes up to the length.
-use Rattle.std.proofs.Common.{length, ◌-◌}
-use Rattle.midnight_runs.proofs.all_seven.Given as goal
-
-abbrev pub decreases-loop-i : goal.decreases-loop-i
-decreases-loop-i l = length l.fn.out - l.i

@@ -1,2 +1,0 @@
--- Laws of this crate's definitions, on plain values.
-pub mod Lists

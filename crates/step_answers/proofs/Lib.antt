@@ -1,0 +1,2 @@
+-- The laws of what a host is handed.
+pub mod Unique

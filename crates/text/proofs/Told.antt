@@ -1,0 +1,32 @@
+-- The text of an answer is `text_of` at the number of its refusal, and at 0 where there is none. Assumes nothing.
+use mathlib.Core.Path.{◌≡◌, refl}
+use Rattle.std.specs.Prelude.{Ok, Err}
+use Rattle.base.specs.Choose.{choose}
+use Rattle.base.specs.declared.Refusal.{Refusal}
+use Rattle.base.specs.declared.Refusal.TheVariants.{Tables, Window, Number, Place, OutsideWindow, TooManyBoxes, Unregistered, Malformed, NoWindow, Room, TooManyBlocks, Summary, TooMany}
+use Rattle.base.specs.Refusals.{number_of}
+use Rattle.bodies.specs.declared.MotionNumbers.{MotionNumbers}
+use Rattle.tables.specs.declared.LiquidKind.{LiquidKind}
+use Rattle.text.specs.declared.Lines.{Lines}
+use Rattle.text.specs.Text.{text_of}
+use Rattle.text.specs.Told.{told_text}
+
+pub told-lines : (l : Lines) → told_text (Ok l) ≡ text_of 0 l.motion l.liquid
+unfolding text_of choose
+told-lines l = refl
+
+pub told_refusal : (e : Refusal) (m : MotionNumbers) (k : LiquidKind) → told_text (Err e) ≡ text_of (number_of e) m k
+unfolding text_of choose
+told_refusal Tables m k = refl
+told_refusal Window m k = refl
+told_refusal Number m k = refl
+told_refusal Place m k = refl
+told_refusal OutsideWindow m k = refl
+told_refusal TooManyBoxes m k = refl
+told_refusal Unregistered m k = refl
+told_refusal Malformed m k = refl
+told_refusal NoWindow m k = refl
+told_refusal Room m k = refl
+told_refusal TooManyBlocks m k = refl
+told_refusal Summary m k = refl
+told_refusal TooMany m k = refl

@@ -1,2 +1,0 @@
--- How a view is taken apart.
-pub mod Apart
