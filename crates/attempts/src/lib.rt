@@ -4,10 +4,10 @@
 
 ghost use Rattle.std.specs.Prelude.{◌≡◌};
 ghost use Rattle.sweeps.specs.Move.{flat_square, longer, blocked_horizontally};
-ghost use Rattle.sweeps.specs.Passes.{axis_number, wanted_of, gone_of, tries, next_sweep, first_sweep};
+ghost use Rattle.sweeps.specs.Passes.{wanted_of, gone_of, tries, next_sweep, first_sweep};
 
 use boxes::Vec3;
-use sweeps::{Along, Request, Sweep, Swept, stopped_falling};
+use sweeps::{AxisName, Request, Sweep, Swept, stopped_falling};
 
 // Where a move stands before its first pass.
 pub fn begun(q: Request) -> Sweep
@@ -26,37 +26,37 @@ pub fn begun(q: Request) -> Sweep
 
 // The way that a pass starts with.
 #[tactic(auto, using(base::proofs::Cases::cases), unfolding(sweeps::specs::Passes::wanted_of, base::specs::Choose::choose))]
-pub fn wanted(pass: u32, axis: Along, q: Request, s: Swept) -> f64
-    ensures { result ≡ wanted_of pass (axis_number axis) q s }
+pub fn wanted<A: AxisName>(pass: u32, axis: A, q: Request, s: Swept) -> f64
+    ensures { result ≡ wanted_of pass (A.named axis) q s }
 {
-    match axis {
-        Along::X => q.delta.x,
-        Along::Z => q.delta.z,
-        Along::Y if pass < 3 => q.delta.y,
-        Along::Y if pass < 6 => q.step,
-        Along::Y => -s.moved.y,
+    match axis.number() {
+        0 => q.delta.x,
+        2 => q.delta.z,
+        _ if pass < 3 => q.delta.y,
+        _ if pass < 6 => q.step,
+        _ => -s.moved.y,
     }
 }
 
 // The attempt s after a pass that came to d.
 #[tactic(auto, using(base::proofs::Cases::cases), unfolding(sweeps::specs::Passes::gone_of, base::specs::Choose::choose))]
-pub fn gone(pass: u32, axis: Along, s: Swept, d: f64) -> Swept
-    ensures { result ≡ gone_of pass (axis_number axis) s d }
+pub fn gone<A: AxisName>(pass: u32, axis: A, s: Swept, d: f64) -> Swept
+    ensures { result ≡ gone_of pass (A.named axis) s d }
 {
-    match axis {
-        Along::X => Swept {
+    match axis.number() {
+        0 => Swept {
             aabb: s.aabb.offset(Vec3::new(d, 0.0, 0.0)),
             moved: Vec3::new(d, s.moved.y, s.moved.z),
         },
-        Along::Z => Swept {
+        2 => Swept {
             aabb: s.aabb.offset(Vec3::new(0.0, 0.0, d)),
             moved: Vec3::new(s.moved.x, s.moved.y, d),
         },
-        Along::Y if pass < 6 => Swept {
+        _ if pass < 6 => Swept {
             aabb: s.aabb.offset(Vec3::new(0.0, d, 0.0)),
             moved: Vec3::new(s.moved.x, d, s.moved.z),
         },
-        Along::Y => Swept {
+        _ => Swept {
             aabb: s.aabb.offset(Vec3::new(0.0, d, 0.0)),
             moved: Vec3::new(s.moved.x, s.moved.y + d, s.moved.z),
         },

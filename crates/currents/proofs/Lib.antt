@@ -1,4 +1,5 @@
 -- What the proofs of currents share.
+pub mod Answers
 pub mod Cells
 pub mod Constants
 pub mod Reach

@@ -31,8 +31,8 @@ pub fn step_falling_checked(
     if !fall_fits(fall) {
         return Err(Refusal::Number); // before any of the step's own
     }
-    let tick = step::step_checked(tables, view, rules, body, given, age)?;
-    Ok(with_fall(fall, given, tick))
+    let answer = step::step_checked(tables, view, rules, body, given, age);
+    with_fall(fall, given, answer)
 }
 
 /// For hosts: one tick of a body with its fall record, 1 and 2 before all that.
@@ -69,6 +69,6 @@ pub fn step_falling_summed(
         check_lent(tables, summary::plain(view))?;
         return Err(Refusal::Number);
     }
-    let tick = step::step_summed(tables, view, rules, body, given, age)?;
-    Ok(with_fall(fall, given, tick))
+    let answer = step::step_summed(tables, view, rules, body, given, age);
+    with_fall(fall, given, answer)
 }

@@ -5,9 +5,9 @@ mod sides;
 
 ghost use Rattle.std.specs.Prelude.{◌≡◌};
 ghost use Rattle.base.specs.Refusals.{asked};
-ghost use Rattle.window.specs.Look.{block_there, stepped};
+ghost use Rattle.window.specs.Look.{block_asked, block_there, stepped};
 ghost use Rattle.window.specs.Views.{look_in};
-ghost use Rattle.flow.specs.Liquid.{is_water, is_lava, is_liquid, alike, liquid_in, liquid_held, blocks_liquid_flow};
+ghost use Rattle.flow.specs.Liquid.{is_water, is_lava, is_liquid, alike, liquid_in, liquid_told, liquid_held, blocks_liquid_flow};
 
 use base::Refusal;
 pub use sides::liquid_flow;
@@ -44,8 +44,8 @@ pub(crate) fn are_alike(kind: LiquidKind, other: LiquidKind) -> bool
     }
 }
 
-/// The liquid in a cell, from what was looked up there. It is small, so that it goes where it is called.
-pub fn liquid_told(tables: Tables<'_>, block: Option<u32>) -> LiquidState
+/// The liquid of what a cell holds: none of what is not loaded. It is small, so that it goes where it is called.
+pub fn liquid_of(tables: Tables<'_>, block: Option<u32>) -> LiquidState
     ensures { result ≡ liquid_in tables.entry.records.now (block_there block) }
 {
     match block {
@@ -57,12 +57,22 @@ pub fn liquid_told(tables: Tables<'_>, block: Option<u32>) -> LiquidState
     }
 }
 
+/// The liquid in a cell, from what was looked up there: a look-up outside the window is handed on.
+pub fn liquid_told(
+    tables: Tables<'_>,
+    looked: Result<Option<u32>, Refusal>,
+) -> Result<LiquidState, Refusal>
+    ensures { asked result ≡ liquid_told tables.entry.records.now (block_asked looked) }
+{
+    Ok(liquid_of(tables, looked?))
+}
+
 /// The liquid in the cell at p.
 #[tactic(auto, unfolding(crate::specs::Liquid::liquid_held))]
 pub fn liquid_at(tables: Tables<'_>, view: View<'_>, p: Pos) -> Result<LiquidState, Refusal>
     ensures { asked result ≡ liquid_held (look_in view.entry) tables.entry.records.now p }
 {
-    Ok(liquid_told(tables, view.look(p)?))
+    liquid_told(tables, view.look(p))
 }
 
 /// Whether the cell a step away from p stops a flow. The Rust panics at an unregistered state.

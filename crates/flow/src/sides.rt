@@ -4,7 +4,7 @@ ghost use Rattle.base.specs.Refusals.{asked};
 ghost use Rattle.window.specs.Views.{look_in};
 ghost use Rattle.flow.specs.Flow.{difference, walled_by, liquid_flow};
 
-use crate::{are_alike, blocks_liquid_flow, liquid_told};
+use crate::{are_alike, blocks_liquid_flow, liquid_of};
 use base::Refusal;
 use boxes::Vec3;
 use boxes::vectors::zero;
@@ -29,14 +29,14 @@ fn difference_at(
 {
     let way = side_step(side, 0);
     let depth = effective_depth(state.depth);
-    let beside = liquid_told(tables, view.look_by(p, way)?);
+    let beside = liquid_of(tables, view.look_by(p, way)?);
     if are_alike(beside.kind, state.kind) {
         return Ok(Some(difference_to(effective_depth(beside.depth), depth)));
     }
     if blocks_liquid_flow(tables, view, p, way)? {
         return Ok(None);
     }
-    let under = liquid_told(tables, view.look_by(p, side_step(side, -1))?);
+    let under = liquid_of(tables, view.look_by(p, side_step(side, -1))?);
     if are_alike(under.kind, state.kind) {
         return Ok(Some(difference_below(effective_depth(under.depth), depth)));
     }

@@ -2,7 +2,7 @@
 #![tactic(auto)]
 
 ghost use Rattle.std.specs.Prelude.{◌≡◌, ◌&&◌, not, leb};
-ghost use Rattle.flow_sides.specs.Sides.{side_step, unit_to, effective_depth, difference_to, difference_below, flowed_by, normalised_flow};
+ghost use Rattle.flow_sides.specs.Sides.{side_step, unit_to, effective_depth, difference_to, difference_below, flowed_by, side_of, normalised_flow};
 
 use boxes::Vec3;
 use boxes::vectors::{add_scaled, normalize_or_zero, scale, subtract, unit_y};
@@ -11,6 +11,19 @@ use window::CellStep;
 
 /// The four sides in the Rust's order.
 pub const SIDES: [Side; 4] = [Side::East, Side::West, Side::South, Side::North];
+
+/// Side k of these four, and the last of them for every number above.
+#[tactic(auto, using(base::proofs::Cases::cases), unfolding(crate::specs::Sides::side_of, base::specs::Choose::choose))]
+pub fn side_of(k: u32) -> Side
+    ensures { result ≡ side_of k }
+{
+    match k {
+        0 => SIDES[0],
+        1 => SIDES[1],
+        2 => SIDES[2],
+        _ => SIDES[3],
+    }
+}
 
 /// The way to the cell on a side, y cells up.
 pub fn side_step(side: Side, y: i8) -> CellStep

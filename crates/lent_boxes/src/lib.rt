@@ -5,7 +5,7 @@ ghost use Rattle.std.specs.Prelude.{◌≡◌, ◌+◌, ◌/◌, ◌<◌, min, l
 ghost use Rattle.base.specs.Refusals.{verdict};
 ghost use Rattle.boxes.specs.Limits.{are_boxes};
 ghost use Rattle.sweeps.specs.Move.{clip_all};
-ghost use Rattle.sweeps.specs.Passes.{axis_number, clip_along};
+ghost use Rattle.sweeps.specs.Passes.{clip_along};
 ghost use Rattle.movers.specs.Movers.{aabb_at};
 ghost use Rattle.lent_boxes.specs.Boxes.{boxes_of, first_boxes, put_in, lent_fit};
 ghost use Rattle.lent_boxes.specs.Refusals.{list_refusal};
@@ -13,7 +13,7 @@ ghost use Rattle.lent_boxes.specs.Refusals.{list_refusal};
 use base::Refusal;
 use boxes::{Aabb, Vec3};
 use movers::check_mover;
-use sweeps::Along;
+use sweeps::AxisName;
 
 // How many boxes of n so many numbers hold.
 pub fn at_most(n: usize, places: usize) -> usize
@@ -41,10 +41,9 @@ fn aabb_at(numbers: &[f64], at: usize) -> Aabb
     }
 }
 
-// How far one pass of a move gets along an axis, before the first n boxes or before as many as there are. They are read where they lie: a list of
-// them would be made at each call, and copied where it is handed on.
-pub fn clip_all(numbers: &[f64], n: usize, axis: Along, mover: Aabb, way: f64) -> f64
-    ensures { result ≡ clip_all (clip_along (axis_number axis)) (first_boxes n numbers.now) mover way }
+// How far one pass of a move gets along the axis with this number.
+fn clip_along_axis(numbers: &[f64], n: usize, axis: u32, mover: Aabb, way: f64) -> f64
+    ensures { result ≡ clip_all (clip_along axis) (first_boxes n numbers.now) mover way }
 {
     let count = at_most(n, numbers.len());
     let mut d = way;
@@ -53,6 +52,14 @@ pub fn clip_all(numbers: &[f64], n: usize, axis: Along, mover: Aabb, way: f64) -
         d = sweeps::clip_along(axis, b, mover, d);
     }
     d
+}
+
+// How far one pass of a move gets along an axis, before the first n boxes or before as many as there are. They are read where they lie: a list of
+// them would be made at each call, and copied where it is handed on.
+pub fn clip_all<A: AxisName>(numbers: &[f64], n: usize, axis: A, mover: Aabb, way: f64) -> f64
+    ensures { result ≡ clip_all (clip_along (A.named axis)) (first_boxes n numbers.now) mover way }
+{
+    clip_along_axis(numbers, n, axis.number(), mover, way)
 }
 
 // A box among the numbers, as the box with this number; one for which there is no room is not put.

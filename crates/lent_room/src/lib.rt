@@ -8,7 +8,7 @@ ghost use Rattle.step_answers.specs.Answers.{step_answer};
 ghost use Rattle.lent_room.specs.Room.{short_of, whole_body, whole_falling, answer_written};
 
 use base::Refusal;
-use lent_steps::put_step;
+use lent_steps::{made, put_step};
 use step_answers::Tick;
 
 /// Whether a body's lengths fit, and there is room for ten numbers.
@@ -43,6 +43,6 @@ pub fn answer_into(out: &mut [f64], answer: Result<Tick, Refusal>) -> Result<(),
     ensures value { (given : MotionNumbers) → verdict result ≡ (step_answer given (asked answer)).refusal }
     ensures out_after { (given : MotionNumbers) → out.new ≡ answer_written out.old (step_answer given (asked answer)) }
 {
-    put_step(out, answer?);
+    put_step(out, made(answer?));
     Ok(())
 }

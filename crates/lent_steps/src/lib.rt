@@ -10,7 +10,7 @@ ghost use Rattle.base.specs.Loop.{stored};
 ghost use Rattle.base.specs.Refusals.{asked, verdict};
 ghost use Rattle.tables.specs.Tables.{kind_number};
 ghost use Rattle.bodies.specs.declared.MotionNumbers.{MotionNumbers};
-ghost use Rattle.step_answers.specs.Answers.{step_answer};
+ghost use Rattle.step_answers.specs.Answers.{step_answer, handed_with};
 ghost use Rattle.lent_steps.specs.Steps.{moved_numbers, support_numbers, step_numbers, made, comes_first, step_refusal, step_written};
 
 use base::Refusal;
@@ -18,7 +18,7 @@ use bodies::{MotionNumbers, yes_number};
 use drags::Support;
 pub use falling::{falling_into, put_falling};
 use lent_numbers::{put, put_vec};
-use step_answers::Tick;
+use step_answers::{HandedStep, Tick};
 use tables::LiquidKind;
 
 fn kind_number(kind: LiquidKind) -> u32
@@ -67,18 +67,28 @@ fn put_support(out: &mut [f64], i: u8, s: Support)
     put(out, k + 1, drags::sampled_number(s));
 }
 
-/// Ten numbers of a step that was made, as `step_numbers` has them; one whose place is not there is dropped.
-#[tactic(auto, unfolding(base::specs::Loop::stored))]
-pub fn put_step(out: &mut [f64], tick: Tick)
-    ensures { out.new ≡ stored out.old 0 (step_numbers (made tick)) }
+/// What a host is handed of a step that was made.
+pub fn made(tick: Tick) -> HandedStep
+    ensures { handed_with result 0 ≡ made tick }
 {
-    let motion = MotionNumbers {
-        feet: tick.motion.feet,
-        velocity: tick.motion.velocity,
-        on_ground: yes_number(tick.motion.on_ground),
-    };
-    put_motion(out, motion, tick.liquid);
-    put_support(out, 8, tick.support);
+    HandedStep {
+        motion: MotionNumbers {
+            feet: tick.motion.feet,
+            velocity: tick.motion.velocity,
+            on_ground: yes_number(tick.motion.on_ground),
+        },
+        liquid: tick.liquid,
+        support: tick.support,
+    }
+}
+
+/// Ten numbers of a step, refused or made, as `step_numbers` has them; one whose place is not there is dropped.
+#[tactic(auto, unfolding(base::specs::Loop::stored))]
+pub fn put_step(out: &mut [f64], step: HandedStep)
+    ensures { out.new ≡ stored out.old 0 (step_numbers (handed_with step 0)) }
+{
+    put_motion(out, step.motion, step.liquid);
+    put_support(out, 8, step.support);
 }
 
 /// Feet, velocity, ground, liquid, and the sample: ten numbers. A refusal writes nothing, so that it is all one what the step was given. `Room` is for
@@ -91,6 +101,6 @@ pub fn step_into(out: &mut [f64], answer: Result<Tick, Refusal>) -> Result<(), R
     if out.len() < 10 && !comes_first(answer) {
         return Err(Refusal::Room);
     }
-    put_step(out, answer?);
+    put_step(out, made(answer?));
     Ok(())
 }

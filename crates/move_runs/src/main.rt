@@ -5,7 +5,7 @@
 
 use boxes::{Aabb, Vec3};
 use std::io;
-use sweeps::Request;
+use sweeps::{BoxList, MoveResult, Request};
 use tables::Tables;
 use window::{View, Window};
 
@@ -82,7 +82,7 @@ fn collect_under(
 ) -> io::Result<()> {
     let answer = moves::collect_block_boxes(TABLES, view, area, cap);
     let refusal = runs::told(&answer);
-    let boxes = answer.map_or(0, |list| list.count);
+    let boxes = answer.unwrap_or_else(|_| BoxList::new()).count;
     runs::say(
         rt,
         "collect",
@@ -272,7 +272,8 @@ fn steps(rt: &impl Print) -> io::Result<()> {
         };
         let answer = moves::move_aabb(TABLES, empty((0, -1, 0), (-64, highest)), request, 0);
         let refusal = runs::told(&answer);
-        let went = if answer.is_ok_and(|m| m.moved.x == x) {
+        let came_to = MoveResult::handed(request.aabb, answer);
+        let went = if came_to.moved.x == x {
             "went all the way"
         } else {
             "stayed"
@@ -299,16 +300,13 @@ fn goes(
     };
     let answer = moves::move_aabb(TABLES, view, request, 0);
     let refusal = runs::told(&answer);
-    let (went, on_ground) = match answer {
-        Ok(m) => (m.moved, m.on_ground),
-        Err(_) => (Vec3::new(0.0, 0.0, 0.0), false),
-    };
-    let far = if went == moved {
+    let came_to = MoveResult::handed(aabb, answer);
+    let far = if came_to.moved == moved {
         ", went as far as it must"
     } else {
         ""
     };
-    let ground = if on_ground { ", ground" } else { "" };
+    let ground = if came_to.on_ground { ", ground" } else { "" };
     runs::say(
         rt,
         "move",

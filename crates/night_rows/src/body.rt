@@ -16,8 +16,8 @@ pub struct BodyRow<'a> {
 }
 
 impl<'a> BodyRow<'a> {
-    // The words behind the number of its window and its age.
-    fn scene_words(self) -> &'a [u32]
+    /// The words behind the number of its window and its age.
+    pub fn scene_words(self) -> &'a [u32]
         ensures { result.now ≡ drop 3 self.entry.words.now }
     {
         &self.words[self.words.len().min(3)..]

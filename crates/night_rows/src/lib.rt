@@ -48,6 +48,13 @@ pub struct WindowRow {
     pub count: u32,
 }
 
+/// A word, as it is.
+pub fn wide(x: u32) -> usize
+    ensures { result ≡ x }
+{
+    x as usize
+}
+
 /// So many from a place on, or what there is of them.
 pub fn part_of<T>(all: &[T], at: usize, count: usize) -> &[T]
     ensures { result.now ≡ take count (drop at all.now) }
@@ -93,7 +100,7 @@ impl<'a> Windows<'a> {
     pub fn row(self, j: u32) -> &'a [u32]
         ensures { result.now ≡ row_of window_width self.entry.rows.now j }
     {
-        part_of(self.rows, j as usize * WINDOW_WIDTH, WINDOW_WIDTH)
+        part_of(self.rows, wide(j) * WINDOW_WIDTH, WINDOW_WIDTH)
     }
 
     /// The window that row j is.
@@ -113,8 +120,8 @@ impl<'a> Bodies<'a> {
         let width = word_width(self.older);
         BodyRow {
             older: self.older,
-            numbers: part_of(self.numbers, i as usize * NUMBER_WIDTH, NUMBER_WIDTH),
-            words: part_of(self.words, i as usize * width, width),
+            numbers: part_of(self.numbers, wide(i) * NUMBER_WIDTH, NUMBER_WIDTH),
+            words: part_of(self.words, wide(i) * width, width),
         }
     }
 }

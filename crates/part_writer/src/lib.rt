@@ -33,10 +33,10 @@ fn block_words<F: Fn(usize) -> u32>(word: &F, from: u32) -> [u32; 123]
     words
 }
 
-// Block j of a part at its place: its payload is these words.
-fn put_block(out: &mut [u8], p: Part, j: usize, words: &[u32])
+// Block j of a part at its place: its payload is the words from word `from` on.
+fn put_block(out: &mut [u8], p: Part, j: usize, words: &[u32], from: u32)
     requires { (p.first + j < 128) × ((p.first + j) * 512 + 512 ≤ length out.old) }
-    ensures { out.new ≡ stored out.old ((p.first + j) * 512) (block_bytes (p.first + j) p.kind (λ k. word_in words.now (0 + k)) (used_in p j)) }
+    ensures { out.new ≡ stored out.old ((p.first + j) * 512) (block_bytes (p.first + j) p.kind (λ k. word_in words.now (from + k)) (used_in p j)) }
 {
     let used = blocks::used_in(p, j);
     let number = p.first as usize + j;
@@ -46,12 +46,12 @@ fn put_block(out: &mut [u8], p: Part, j: usize, words: &[u32])
         number as u32,
         p.kind,
         words,
-        0,
+        from,
         used,
     );
 }
 
-// A part at its place, whose word i is what `word` says.
+// A part at its place, whose word i is what `word` says: the words of a block are put side by side first.
 fn put_part<F: Fn(usize) -> u32>(out: &mut [u8], p: Part, word: F)
     requires { F.IsAlwaysCallable word }
     ensures { (f : ℕ → ℕ) → ((i w : ℕ) → F.post word i w → w ≡ f i) → out.new ≡ written_part out.old p f }
@@ -59,16 +59,21 @@ fn put_part<F: Fn(usize) -> u32>(out: &mut [u8], p: Part, word: F)
     if part_room(out.len(), p) {
         let per = blocks::per_block(p.kind);
         for j in 0..blocks::blocks_of(p) {
-            put_block(out, p, j, &block_words(&word, j as u32 * per));
+            put_block(out, p, j, &block_words(&word, j as u32 * per), 0);
         }
     }
 }
 
-// A part of these words at its place.
+// A part of these words at its place. They are written from where they lie, and not put side by side first as those of `put_part` are.
 pub fn put_words(out: &mut [u8], p: Part, words: &[u32])
     ensures { out.new ≡ written_part out.old p (word_in words.now) }
 {
-    put_part(out, p, |i| block_writer::word_in(words, i));
+    if part_room(out.len(), p) {
+        let per = blocks::per_block(p.kind);
+        for j in 0..blocks::blocks_of(p) {
+            put_block(out, p, j, words, j as u32 * per);
+        }
+    }
 }
 
 // The bits of an f32; a NaN's are those of one NaN.

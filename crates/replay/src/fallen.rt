@@ -25,8 +25,8 @@ pub(crate) fn run(rt: &impl Print, line: Line<'_>) -> io::Result<()> {
         return print!(rt; "{} {}", Refusal::Number, Record(fall));
     }
     let liquid = match line.word(6) {
-        "water" => LiquidKind::Water,
-        "lava" => LiquidKind::Lava,
+        [b'w', ..] => LiquidKind::Water,
+        [b'l', ..] => LiquidKind::Lava,
         _ => LiquidKind::None,
     };
     let after = fall_rule::fall_after(fall, old, new, line.flag(5), liquid);
@@ -40,9 +40,9 @@ fn feet_y(file: &[u8]) -> f64 {
     floats::float_of_bits(u64::from(low) + u64::from(high) * 4294967296)
 }
 
-fn run_scene(rt: &(impl Files + Print + Alloc), n: u32) -> io::Result<()> {
+fn run_scene(rt: &(impl Files + Print), n: u32) -> io::Result<()> {
     let mut room = [0; 65537];
-    let Some(file) = scenes::read(rt, n, "scn", &mut room)? else {
+    let Some(file) = scenes::read(rt, n, *b"scn", &mut room)? else {
         return Ok(());
     };
     let Ok(tick) = scene::tick_of(file) else {
@@ -64,7 +64,7 @@ fn run_scene(rt: &(impl Files + Print + Alloc), n: u32) -> io::Result<()> {
 }
 
 // The scenes that were made with heights and columns, those of both marks, and those of a cap. The scenes from 260 to 1999 have no stored record.
-pub(crate) fn run_scenes(rt: &(impl Files + Print + Alloc)) -> io::Result<()> {
+pub(crate) fn run_scenes(rt: &(impl Files + Print)) -> io::Result<()> {
     for n in (0..260).chain(2000..3204) {
         run_scene(rt, n)?;
     }

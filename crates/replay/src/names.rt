@@ -4,7 +4,7 @@ use idents::{Post, Properties};
 use std::io;
 
 pub(crate) fn ident(rt: &impl Print, line: Line<'_>) -> io::Result<()> {
-    let connects = idents::connects_as(line.word(1).as_bytes(), line.flag(2), line.flag(3));
+    let connects = idents::connects_as(line.word(1), line.flag(2), line.flag(3));
     print!(rt; "{}", idents::connects_number(connects))
 }
 
@@ -18,7 +18,7 @@ pub(crate) fn post(rt: &impl Print, line: Line<'_>) -> io::Result<()> {
         open: line.number(7),
         direction: line.number(8),
     };
-    match idents::wall_post(line.word(1).as_bytes(), properties) {
+    match idents::wall_post(line.word(1), properties) {
         Post::BadDirection => print!(rt; "panics"),
         post => print!(rt; "{}", idents::post_number(post)),
     }

@@ -4,12 +4,12 @@ use std::io;
 
 pub(crate) fn run(rt: &impl Print, line: Line<'_>) -> io::Result<()> {
     let x = line.float(1);
-    let answer = match line.word(0) {
-        "floor" => wholes::floor(x),
-        "ceil" => wholes::ceil(x),
-        "sqrt" => roots::sqrt(x),
-        "size" => floats::size(x),
-        "least" => floats::least(x, line.float(2)),
+    let answer = match line.call() {
+        b"floor" => wholes::floor(x),
+        b"ceil" => wholes::ceil(x),
+        b"sqrt" => roots::sqrt(x),
+        b"size" => floats::size(x),
+        b"least" => floats::least(x, line.float(2)),
         _ => floats::greatest(x, line.float(2)),
     };
     match answer {

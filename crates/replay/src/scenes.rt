@@ -6,16 +6,38 @@ use crate::cases::Case;
 use std::rt::Files;
 use std::{fs, io, str};
 
+fn digit(n: u32) -> u8 {
+    b'0' + (n % 10) as u8
+}
+
+// The name of the file of data/ with this number and ending.
+fn name(n: u32, ending: [u8; 3]) -> [u8; 8] {
+    let [a, b, c] = ending;
+    [
+        digit(n / 1000),
+        digit(n / 100),
+        digit(n / 10),
+        digit(n),
+        b'.',
+        a,
+        b,
+        c,
+    ]
+}
+
 // The file of data/ with this number and ending, as far as the room goes; nothing where there is none. A room of 65,537 bytes holds the longest file
 // and one byte more.
 pub(crate) fn read<'a>(
-    rt: &(impl Files + Alloc),
+    rt: &impl Files,
     n: u32,
-    ending: &str,
+    ending: [u8; 3],
     room: &'a mut [u8],
 ) -> io::Result<Option<&'a [u8]>> {
-    let path = format!(in rt.alloc(); "{n:04}.{ending}")?;
-    let Ok(mut file) = fs::open(rt, path.as_str()) else {
+    let name = name(n, ending);
+    let Ok(path) = str::from_utf8(&name) else {
+        return Ok(None);
+    };
+    let Ok(mut file) = fs::open(rt, path) else {
         return Ok(None);
     };
     let size = reading::read_full(&mut file, room)?;
@@ -42,9 +64,12 @@ pub(crate) fn put_lines(rt: &impl Print, file: &[u8]) -> io::Result<()> {
 // Behind the lines of a tick that is not refused stands its case, but of a converted scene.
 fn put_answer(rt: &impl Print, n: u32, file: &[u8]) -> io::Result<()> {
     put_lines(rt, file)?;
+    if (1000..2000).contains(&n) {
+        return Ok(());
+    }
     match scene::tick_of(file) {
-        Ok(tick) if !(1000..2000).contains(&n) => print!(rt; "; friction {}", Case(tick.support)),
-        _ => Ok(()),
+        Ok(tick) => print!(rt; "; friction {}", Case(tick.support)),
+        Err(_) => Ok(()),
     }
 }
 
@@ -67,9 +92,9 @@ fn put_rewritten(rt: &impl Print, file: &[u8]) -> io::Result<()> {
     }
 }
 
-fn run(rt: &(impl Files + Print + Alloc), n: u32) -> io::Result<()> {
+fn run(rt: &(impl Files + Print), n: u32) -> io::Result<()> {
     let mut room = [0; 65537];
-    let Some(file) = read(rt, n, "scn", &mut room)? else {
+    let Some(file) = read(rt, n, *b"scn", &mut room)? else {
         return Ok(());
     };
     print!(rt; "{n:04} ")?;
@@ -79,7 +104,7 @@ fn run(rt: &(impl Files + Print + Alloc), n: u32) -> io::Result<()> {
     println!(rt;)
 }
 
-pub(crate) fn run_all(rt: &(impl Files + Print + Alloc)) -> io::Result<()> {
+pub(crate) fn run_all(rt: &(impl Files + Print)) -> io::Result<()> {
     for n in 0..3204 {
         run(rt, n)?;
     }

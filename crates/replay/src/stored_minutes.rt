@@ -43,9 +43,9 @@ fn put_falls(rt: &impl Print, file: &[u8]) -> io::Result<()> {
     Ok(())
 }
 
-fn run(rt: &(impl Files + Print + Alloc), n: u32) -> io::Result<()> {
+fn run(rt: &(impl Files + Print), n: u32) -> io::Result<()> {
     let mut room = [0; 65537];
-    let Some(file) = scenes::read(rt, n, "log", &mut room)? else {
+    let Some(file) = scenes::read(rt, n, *b"log", &mut room)? else {
         return Ok(());
     };
     print!(rt; "minute {n:04} ")?;
@@ -62,7 +62,7 @@ fn run(rt: &(impl Files + Print + Alloc), n: u32) -> io::Result<()> {
     Ok(())
 }
 
-pub(crate) fn run_all(rt: &(impl Files + Print + Alloc)) -> io::Result<()> {
+pub(crate) fn run_all(rt: &(impl Files + Print)) -> io::Result<()> {
     for n in 0..87 {
         run(rt, n)?;
     }

@@ -29,17 +29,11 @@ pub(crate) fn run(rt: &impl Print, line: Line<'_>) -> io::Result<()> {
         step,
         on_ground: line.flag(11),
     };
-    let moved = match list_moves::move_over_list(128, list(line), request) {
-        Ok(moved) => moved,
-        Err(refusal) => {
-            print!(rt; "{refusal} ")?;
-            MoveResult {
-                aabb: request.aabb,
-                moved: Vec3::new(0.0, 0.0, 0.0),
-                on_ground: false,
-            }
-        }
-    };
+    let answer = list_moves::move_over_list(128, list(line), request);
+    if let Err(refusal) = answer {
+        print!(rt; "{refusal} ")?;
+    }
+    let moved = MoveResult::handed(request.aabb, answer);
     let min = VectorBits(moved.aabb.min);
     let max = VectorBits(moved.aabb.max);
     let way = VectorBits(moved.moved);

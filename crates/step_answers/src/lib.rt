@@ -75,11 +75,16 @@ pub fn fall_handed(fall: Fall, answer: Result<FallingTick, Refusal>) -> Fall
     }
 }
 
-/// A step that was made, and the record after it: from the feet given to the feet reached.
-#[tactic(auto, using(base::proofs::Cases::cases), unfolding(crate::specs::Answers::with_fall, bodies::specs::Body::is_yes, bodies::specs::Body::yes_number, base::specs::Choose::choose))]
-pub fn with_fall(fall: Fall, given: MotionNumbers, tick: Tick) -> FallingTick
-    ensures { falling_answer given fall (found result) ≡ with_fall fall given (step_answer given (found tick)) }
+/// A step, and the record after it: from the feet given to the feet reached. A refused step is handed on.
+#[tactic(auto, using(base::proofs::Cases::cases, base::proofs::Answers::some_number), unfolding(crate::specs::Answers::with_fall, bodies::specs::Body::is_yes, bodies::specs::Body::yes_number, base::specs::Choose::choose))]
+pub fn with_fall(
+    fall: Fall,
+    given: MotionNumbers,
+    answer: Result<Tick, Refusal>,
+) -> Result<FallingTick, Refusal>
+    ensures { falling_answer given fall (asked result) ≡ with_fall fall given (step_answer given (asked answer)) }
 {
+    let tick = answer?;
     let motion = tick.motion;
     let fall = fall_after(
         fall,
@@ -88,7 +93,7 @@ pub fn with_fall(fall: Fall, given: MotionNumbers, tick: Tick) -> FallingTick
         motion.on_ground,
         tick.liquid,
     );
-    FallingTick { tick, fall }
+    Ok(FallingTick { tick, fall })
 }
 
 /// The number that a sample comes to, and the sample.

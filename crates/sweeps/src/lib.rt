@@ -4,6 +4,9 @@
 mod list;
 mod passes;
 
+ghost use Rattle.std.specs.Prelude.{◌≡◌, ℕ};
+ghost use Rattle.sweeps.specs.Passes.{axis_number};
+
 use boxes::{Aabb, Vec3};
 pub use list::{cap_of, counted, is_cap};
 pub use passes::{axis_of, clip_along, ended, stopped_falling};
@@ -24,6 +27,35 @@ pub enum Along {
     X,
     Y,
     Z,
+}
+
+/// What names an axis: an `Along`, or the number of one, 0 for x, 1 for y and 2 for z, for a caller that counts them.
+pub trait AxisName: Copy {
+    ghost named: { Self → ℕ };
+
+    fn number(self) -> u32
+        ensures { result ≡ named self };
+}
+
+impl AxisName for Along {
+    ghost named = { axis_number };
+
+    #[tactic(auto, using(base::proofs::Cases::cases))]
+    fn number(self) -> u32 {
+        match self {
+            Along::X => 0,
+            Along::Y => 1,
+            Along::Z => 2,
+        }
+    }
+}
+
+impl AxisName for u32 {
+    ghost named = { λ n. n };
+
+    fn number(self) -> u32 {
+        self
+    }
 }
 
 // A box that has moved, and by how much.

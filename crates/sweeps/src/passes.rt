@@ -1,11 +1,13 @@
 // The axis of a pass, the clip along it, and what a move comes to whose passes are over. It is public: the moves over a capped list, through a
 // window and over lent boxes make their passes where their boxes lie.
 ghost use Rattle.std.specs.Prelude.{◌≡◌};
-ghost use Rattle.sweeps.specs.Entry.{refused_move};
+ghost use Rattle.base.specs.Refusals.{asked};
+ghost use Rattle.sweeps.specs.Entry.{refused_move, move_answer};
 ghost use Rattle.sweeps.specs.Move.{stopped_falling};
 ghost use Rattle.sweeps.specs.Passes.{axis_number, axis_of, clip_along, end_of_move};
 
-use crate::{Along, MoveResult, Request, Sweep};
+use crate::{Along, AxisName, MoveResult, Request, Sweep};
+use base::Refusal;
 use boxes::{Aabb, vectors};
 
 // The axes in the order of the passes.
@@ -19,13 +21,13 @@ pub fn axis_of(pass: u32) -> Along
 }
 
 #[tactic(auto, using(base::proofs::Cases::cases), unfolding(crate::specs::Passes::clip_along, base::specs::Choose::choose))]
-pub fn clip_along(axis: Along, b: Aabb, mover: Aabb, d: f64) -> f64
-    ensures { result ≡ clip_along (axis_number axis) b mover d }
+pub fn clip_along<A: AxisName>(axis: A, b: Aabb, mover: Aabb, d: f64) -> f64
+    ensures { result ≡ clip_along (A.named axis) b mover d }
 {
-    match axis {
-        Along::X => b.clip_x(mover, d),
-        Along::Y => b.clip_y(mover, d),
-        Along::Z => b.clip_z(mover, d),
+    match axis.number() {
+        0 => b.clip_x(mover, d),
+        1 => b.clip_y(mover, d),
+        _ => b.clip_z(mover, d),
     }
 }
 
@@ -57,6 +59,16 @@ impl MoveResult {
             aabb,
             moved: vectors::zero(),
             on_ground: false,
+        }
+    }
+
+    /// What a move of this box comes to, refused or made.
+    pub fn handed(aabb: Aabb, answer: Result<MoveResult, Refusal>) -> MoveResult
+        ensures { result ≡ (move_answer aabb (asked answer)).result }
+    {
+        match answer {
+            Ok(made) => made,
+            Err(_) => MoveResult::refused(aabb),
         }
     }
 }

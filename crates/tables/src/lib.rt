@@ -132,17 +132,7 @@ impl<'a> Tables<'a> {
     pub fn part(self, first: u32, count: u32) -> &'a [f32]
         ensures { result.now ≡ boxes_at self.entry.shapes.now first count }
     {
-        let shapes = self.shapes;
-        if count == 0 {
-            return &shapes[0..0];
-        }
-        let start = first as usize * 6;
-        let end = start + count as usize * 6;
-        if end <= shapes.len() {
-            &shapes[start..end]
-        } else {
-            &shapes[0..0]
-        }
+        boxes_at(self.shapes, first, count)
     }
 
     /// The boxes of a state, as a part of the lent shapes.
@@ -152,6 +142,30 @@ impl<'a> Tables<'a> {
         let count = self.word(state, 8);
         self.part(self.word(state, 7), count)
     }
+}
+
+/// The part of the shapes that is `count` boxes from box `first` on: nothing where it is not there whole.
+pub fn boxes_at(shapes: &[f32], first: u32, count: u32) -> &[f32]
+    ensures { result.now ≡ boxes_at shapes.now first count }
+{
+    if count == 0 {
+        return &shapes[0..0];
+    }
+    let start = first as usize * 6;
+    let end = start + count as usize * 6;
+    if end <= shapes.len() {
+        &shapes[start..end]
+    } else {
+        &shapes[0..0]
+    }
+}
+
+/// The boxes of a state, as a part of the lent shapes: it holds on to these alone, so that the records may be let go before it.
+pub fn state_boxes<'a>(records: &[u32], shapes: &'a [f32], state: u32) -> &'a [f32]
+    ensures { result.now ≡ state_boxes records.now shapes.now state }
+{
+    let count = word(records, state, 8);
+    boxes_at(shapes, word(records, state, 7), count)
 }
 
 /// Word k of record `state`: 0 where there is none, and from k = 20 on, where the next record begins.

@@ -4,3 +4,4 @@ pub mod Order
 pub mod Offsets
 pub mod Check
 pub mod Cells
+pub mod Apart

@@ -114,7 +114,7 @@ fn write_rooms(rt: &impl Print, cells: &Cells) -> io::Result<()> {
 
 // ---- what comes first: 129 blocks, no buffer, and then what the name says besides
 
-// A table of no state, a window of a word too few, a width of 0, and a place beyond the limit.
+// A table of one word, which is no state, a window of a word too few, a width of 0, and a place beyond the limit.
 fn write_wrong(rt: &impl Print, cells: &Cells) -> io::Result<()> {
     let sound = Scene {
         x: 33554432.0,
@@ -136,7 +136,7 @@ fn write_wrong(rt: &impl Print, cells: &Cells) -> io::Result<()> {
         ..width
     };
     let tables = Scene {
-        records: &[],
+        records: &[0],
         ..window
     };
     tables.say(rt, "tables, window, width and place", &mut [])?;

@@ -1,7 +1,7 @@
 -- `tables::boxes_at` meets its contract. Assumes nothing.
 use Rattle.std.proofs.Common.{refl}
 use Rattle.tables.proofs.Lists.{whole_part, short-part, no_part}
-use Rattle.tables.proofs.Tables.part.Goals as goal
+use Rattle.tables.proofs.boxes_at.Goals as goal
 
 pub returns-then-count-eq0 : goal.returns-then-count-eq0
 returns-then-count-eq0 c = no_part _ _ _ c.if-count-eq0.true
