@@ -195,7 +195,7 @@ static inline struct boltjuniper_refusals boltjuniper_refusals_of(uint64_t told)
 
 /* One tick of the scene in `file` (blocks of 512 bytes of either mark, as onetick reads them; no alignment is asked for). Writes the ten numbers of
    boltjuniper_step to `out`. Returns 0; or 8 where the file is no scene, 1, 2, 3, 4, 11, then 5, 6 or 7 at the first such event. It keeps
-   two arrays of 15,744 words of the file on the stack, and reaches 164,160 bytes below its caller (docs/STACK.md): call it from a thread that has
+   two arrays of 15,744 words of the file on the stack, and reaches 165,472 bytes below its caller (docs/STACK.md): call it from a thread that has
    more. */
 uint32_t boltjuniper_tick(const uint8_t *file, size_t file_len, double *out, size_t out_len);
 

@@ -439,7 +439,7 @@ pub fn step_falling_summed(t: Tables, w: Window, b: &Body, fall: Fall) -> Result
     tick.map(|tick| (tick, fall))
 }
 
-/// The tick of a scene file. It reaches 164,160 bytes below its caller, with the words of the file: call it from a thread that has more.
+/// The tick of a scene file. It reaches 165,472 bytes below its caller, with the words of the file: call it from a thread that has more.
 pub fn tick(file: &[u8]) -> Result<Tick, Refusal> {
     let mut out = [0.0; 10];
     let refusal = unsafe { linked::boltjuniper_tick(file.as_ptr(), file.len(), out.as_mut_ptr(), out.len()) };
