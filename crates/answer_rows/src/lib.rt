@@ -3,53 +3,34 @@
 
 ghost use Rattle.std.specs.Prelude.{◌≡◌, ◌≤◌, length};
 ghost use Rattle.base.specs.Loop.{stored};
-ghost use Rattle.base.specs.Refusals.{asked, verdict};
-ghost use Rattle.step_answers.specs.Answers.{falling_answer};
+ghost use Rattle.base.specs.Refusals.{verdict};
+ghost use Rattle.bodies.specs.declared.MotionNumbers.{MotionNumbers};
+ghost use Rattle.fall_rule.specs.declared.Fall.{Fall};
 ghost use Rattle.answer_rows.specs.Answers.{answer_numbers, row_written, count_refusal};
 
-use base::Refusal;
+use base::{Refusal, Verdict};
 use bodies::MotionNumbers;
 use fall_rule::Fall;
 use lent_numbers::put;
 use lent_steps::{float_of, put_falling};
-use step_answers::FallingTick;
+use step_answers::FallingTold;
 
 // How many numbers an answer has.
 const ANSWER_WIDTH: usize = 13;
 
-// 0, or the number of its refusal.
-fn number_of(answer: Result<FallingTick, Refusal>) -> u32
-    ensures { result ≡ verdict answer }
-{
-    match answer {
-        Ok(_) => 0,
-        Err(refusal) => refusal.number(),
-    }
-}
-
 // The numbers of an answer, as `answer_numbers` has them.
-fn put_answer(
-    row: &mut [f64],
-    given: MotionNumbers,
-    fall: Fall,
-    answer: Result<FallingTick, Refusal>,
-)
+fn put_answer<A: FallingTold>(row: &mut [f64], given: MotionNumbers, fall: Fall, answer: A)
     requires { 1 ≤ length row.old }
-    ensures { row.new ≡ stored row.old 0 (answer_numbers (falling_answer given fall (asked answer))) }
+    ensures { row.new ≡ stored row.old 0 (answer_numbers (A.answer answer given fall)) }
 {
-    put(row, 0, float_of(number_of(answer)));
+    put(row, 0, float_of(answer.said().told()));
     put_falling(&mut row[1..], given, fall, answer);
 }
 
-/// The answer of body i, which was given this motion and this fall record, in row i of a buffer that has it. A refused body hands back what was given.
-pub fn put_row(
-    out: &mut [f64],
-    i: u32,
-    given: MotionNumbers,
-    fall: Fall,
-    answer: Result<FallingTick, Refusal>,
-)
-    ensures { out.new ≡ row_written out.old i (falling_answer given fall (asked answer)) }
+/// The answer of body i, which was given this motion and this fall record, in row i of a buffer that has it. A refused `Result` hands back what was given,
+/// and a number what stands beside it.
+pub fn put_row<A: FallingTold>(out: &mut [f64], i: u32, given: MotionNumbers, fall: Fall, answer: A)
+    ensures { out.new ≡ row_written out.old i (A.answer answer given fall) }
 {
     let at = i as usize * ANSWER_WIDTH;
     if at < out.len() {

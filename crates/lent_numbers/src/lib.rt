@@ -1,14 +1,16 @@
-// Numbers written into lent places, and what a move comes to among them. A number whose place is not there is dropped.
+// Numbers written into lent places, and what a move comes to among them. A number whose place is not there is dropped. told.rt says what may tell of a
+// move.
 #![tactic(auto)]
+
+mod told;
 
 ghost use Rattle.std.specs.Prelude.{◌≡◌, [], ◌∷◌, set};
 ghost use Rattle.base.specs.Loop.{stored};
-ghost use Rattle.base.specs.Refusals.{asked, verdict};
 ghost use Rattle.lent_numbers.specs.Written.{flag_of, flagged, numbers_of, written_asked};
 
-use base::Refusal;
 use boxes::Vec3;
 use sweeps::MoveResult;
+pub use told::MoveTold;
 
 pub fn put(out: &mut [f64], i: usize, x: f64)
     ensures { out.new ≡ set out.old i x }
@@ -55,11 +57,12 @@ pub fn put_result(out: &mut [f64], m: MoveResult)
 }
 
 /// What a move comes to: ten numbers, or a refusal, which writes nothing.
-#[tactic(auto, using(base::proofs::Cases::cases))]
-pub fn move_into(out: &mut [f64], answer: Result<MoveResult, Refusal>) -> Result<(), Refusal>
-    ensures value { verdict result ≡ verdict answer }
-    ensures out_after { out.new ≡ written_asked out.old (asked answer) }
+pub fn move_into<A: MoveTold>(out: &mut [f64], answer: A) -> A::Said
+    ensures value { A.Said.says result ≡ A.says answer }
+    ensures out_after { out.new ≡ written_asked out.old (A.answer answer) }
 {
-    put_result(out, answer?);
-    Ok(())
+    if let Some(m) = answer.made() {
+        put_result(out, m);
+    }
+    answer.said()
 }

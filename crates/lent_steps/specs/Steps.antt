@@ -7,10 +7,8 @@ use Rattle.base.specs.Loop.{stored}
 use Rattle.tables.specs.declared.LiquidKind.{LiquidKind}
 use Rattle.tables.specs.Tables.{kind_number}
 use Rattle.bodies.specs.declared.MotionNumbers.{MotionNumbers}
-use Rattle.bodies.specs.Body.{yes_number}
 use Rattle.drags.specs.declared.Support.{Support}
 use Rattle.drags.specs.Cases.{case_number, sampled_number}
-use Rattle.step_answers.specs.declared.Tick.{Tick}
 use Rattle.step_answers.specs.Records.{StepAnswer}
 
 -- feet, velocity, ground, and the liquid: 0 none, 1 water, 2 lava; eight numbers
@@ -32,16 +30,6 @@ step_places = 10
 
 abbrev pub step_numbers : StepAnswer → List Float
 step_numbers a = motion_numbers a ++ support_numbers a.support
-
--- a step that was made has one answer, whatever it was given
-abbrev pub made : Tick → StepAnswer
-made t =
-    record {
-      motion = record { feet = t.motion.feet; velocity = t.motion.velocity; on_ground = yes_number t.motion.on_ground };
-      liquid = t.liquid;
-      support = t.support;
-      refusal = 0;
-    }
 
 -- 8, and 1 to 4: what is refused before any cell is asked for
 unfoldable pub comes_first : ℕ → Bool

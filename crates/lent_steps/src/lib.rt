@@ -7,18 +7,17 @@ ghost use Rattle.std.specs.Prelude.{◌≡◌, pos, length};
 ghost use Rattle.std.specs.Float.{binary64};
 ghost use Rattle.std.specs.Float.Ieee.{of_int};
 ghost use Rattle.base.specs.Loop.{stored};
-ghost use Rattle.base.specs.Refusals.{asked, verdict};
 ghost use Rattle.tables.specs.Tables.{kind_number};
 ghost use Rattle.bodies.specs.declared.MotionNumbers.{MotionNumbers};
-ghost use Rattle.step_answers.specs.Answers.{step_answer, handed_with};
-ghost use Rattle.lent_steps.specs.Steps.{moved_numbers, support_numbers, step_numbers, made, comes_first, step_refusal, step_written};
+ghost use Rattle.step_answers.specs.Answers.{handed_with};
+ghost use Rattle.lent_steps.specs.Steps.{moved_numbers, support_numbers, step_numbers, comes_first, step_refusal, step_written};
 
-use base::Refusal;
-use bodies::{MotionNumbers, yes_number};
+use base::{Refusal, Verdict};
+use bodies::MotionNumbers;
 use drags::Support;
 pub use falling::{falling_into, put_falling};
 use lent_numbers::{put, put_vec};
-use step_answers::{HandedStep, Tick};
+use step_answers::{HandedStep, StepTold};
 use tables::LiquidKind;
 
 fn kind_number(kind: LiquidKind) -> u32
@@ -39,11 +38,10 @@ pub fn float_of(n: u32) -> f64
 
 // What is refused before any cell is asked for: 8, and 1 to 4.
 #[tactic(auto, using(base::proofs::Cases::cases), unfolding(crate::specs::Steps::comes_first))]
-fn comes_first(answer: Result<Tick, Refusal>) -> bool
-    ensures { result ≡ comes_first (verdict answer) }
+fn comes_first(refusal: u32) -> bool
+    ensures { result ≡ comes_first refusal }
 {
-    use base::Refusal::{Malformed, Number, Place, Tables, Window};
-    matches!(answer, Err(Malformed | Tables | Window | Number | Place))
+    refusal == 8 || 1 <= refusal && refusal <= 4
 }
 
 // Eight numbers, as `moved_numbers` has them; one whose place is not there is dropped.
@@ -67,21 +65,6 @@ fn put_support(out: &mut [f64], i: u8, s: Support)
     put(out, k + 1, drags::sampled_number(s));
 }
 
-/// What a host is handed of a step that was made.
-pub fn made(tick: Tick) -> HandedStep
-    ensures { handed_with result 0 ≡ made tick }
-{
-    HandedStep {
-        motion: MotionNumbers {
-            feet: tick.motion.feet,
-            velocity: tick.motion.velocity,
-            on_ground: yes_number(tick.motion.on_ground),
-        },
-        liquid: tick.liquid,
-        support: tick.support,
-    }
-}
-
 /// Ten numbers of a step, refused or made, as `step_numbers` has them; one whose place is not there is dropped.
 #[tactic(auto, unfolding(base::specs::Loop::stored))]
 pub fn put_step(out: &mut [f64], step: HandedStep)
@@ -93,14 +76,17 @@ pub fn put_step(out: &mut [f64], step: HandedStep)
 
 /// Feet, velocity, ground, liquid, and the sample: ten numbers. A refusal writes nothing, so that it is all one what the step was given. `Room` is for
 /// less room than that: behind what is refused before any cell is asked for, and before all else.
-#[tactic(auto, using(base::proofs::Cases::cases, crate::proofs::Refusals::told), unfolding(crate::specs::Steps::comes_first, crate::specs::Steps::step_refusal, crate::specs::Steps::step_written, base::specs::Choose::choose))]
-pub fn step_into(out: &mut [f64], answer: Result<Tick, Refusal>) -> Result<(), Refusal>
-    ensures value { (given : MotionNumbers) → verdict result ≡ step_refusal (length out.old) (step_answer given (asked answer)) }
-    ensures out_after { (given : MotionNumbers) → out.new ≡ step_written out.old (step_answer given (asked answer)) }
+#[tactic(auto, using(base::proofs::Cases::cases), unfolding(crate::specs::Steps::comes_first, crate::specs::Steps::step_refusal, crate::specs::Steps::step_written, base::specs::Choose::choose))]
+pub fn step_into<A: StepTold>(out: &mut [f64], answer: A) -> A::Said
+    ensures value { (given : MotionNumbers) → A.Said.says result ≡ step_refusal (length out.old) (A.answer answer given) }
+    ensures out_after { (given : MotionNumbers) → out.new ≡ step_written out.old (A.answer answer given) }
 {
-    if out.len() < 10 && !comes_first(answer) {
-        return Err(Refusal::Room);
+    let said = answer.said();
+    if out.len() < 10 && !comes_first(said.told()) {
+        return A::Said::refused(Refusal::Room);
     }
-    put_step(out, made(answer?));
-    Ok(())
+    if let Some(step) = answer.made() {
+        put_step(out, step);
+    }
+    said
 }

@@ -1,8 +1,9 @@
 -- What the program works with: it counts the lines and writes each where it belongs, in a lent place. `proofs/Turns` shows that this comes to the
 -- minute as defined in `Minute`.
-use Rattle.std.specs.Prelude.{ℕ, ◌+◌, ◌*◌, ◌%◌, List, [], ◌∷◌, length, ◌==◌, Float}
+use Rattle.std.specs.Prelude.{Result, ⊤, ℕ, ◌+◌, ◌*◌, ◌%◌, List, [], ◌∷◌, length, ◌==◌, Float}
 use Rattle.base.specs.Choose.{choose}
 use Rattle.base.specs.Loop.{stored}
+use Rattle.base.specs.declared.Refusal.{Refusal}
 use Rattle.base.specs.Refusals.{verdict}
 use Rattle.boxes.specs.declared.Vec3.{Vec3}
 use Rattle.bodies.specs.declared.MotionNumbers.{MotionNumbers}
@@ -23,9 +24,12 @@ pub record Minute : Type 0 where
   pub ticks : ℕ
   pub refusal : ℕ
 
--- what the program holds of it
-abbrev pub minute_seen : Kept → Minute
-minute_seen m = record { motion = m.motion; age = m.age; fall = m.fall; ticks = m.ticks; refusal = verdict m.ended }
+-- what the program holds of it, by what is said of its end
+abbrev pub seen_by : {V : Type 0} → (V → ℕ) → Kept V → Minute
+seen_by says m = record { motion = m.motion; age = m.age; fall = m.fall; ticks = m.ticks; refusal = says m.ended }
+
+abbrev pub minute_seen : Kept (Result ⊤ Refusal) → Minute
+minute_seen m = seen_by verdict m
 
 -- what a state leaves in the program's hands
 abbrev pub minute_of : State → Minute

@@ -3,16 +3,14 @@
 
 ghost use Rattle.std.specs.Prelude.{◌≡◌, ◌*◌, []};
 ghost use Rattle.base.specs.Loop.{stored};
-ghost use Rattle.base.specs.Refusals.{asked, verdict};
-ghost use Rattle.step_answers.specs.Answers.{falling_answer};
 ghost use Rattle.minute_state.specs.Minute.{start};
-ghost use Rattle.minute_state.specs.Turns.{minute_of, minute_seen, ended_with, ticked_by, feet_numbers, feet_by};
+ghost use Rattle.minute_state.specs.Turns.{minute_of, seen_by, ended_with, ticked_by, feet_numbers, feet_by};
 
-use base::Refusal;
+use base::{Refusal, Verdict};
 use bodies::{BodyNumbers, MotionNumbers, Rules};
 use boxes::Vec3;
 use fall_rule::Fall;
-use step_answers::{FallingTick, handed};
+use step_answers::FallingTold;
 use tables::Tables;
 use window::Window;
 
@@ -28,17 +26,17 @@ pub struct Lent<'a> {
 /// What a host is handed of the state after a log: how many ticks were done, and whether a refusal ended it. Its cells and its summary stand in the lent
 /// words.
 #[derive(Clone, Copy)]
-pub struct Minute {
+pub struct Minute<V = Result<(), Refusal>> {
     pub motion: MotionNumbers,
     pub age: u64,
     pub fall: Fall,
     pub ticks: u32,
-    pub ended: Result<(), Refusal>,
+    pub ended: V,
 }
 
 /// The same, ended by a refusal, or going on.
-pub fn ended_with(m: Minute, ended: Result<(), Refusal>) -> Minute
-    ensures { minute_seen result ≡ ended_with (minute_seen m) (verdict ended) }
+pub fn ended_with<V: Verdict>(m: Minute<V>, ended: V) -> Minute<V>
+    ensures { seen_by V.says result ≡ ended_with (seen_by V.says m) (V.says ended) }
 {
     Minute { ended, ..m }
 }
@@ -56,28 +54,29 @@ fn put_feet(feet: &mut [f64], n: u32, v: Vec3)
 
 /// What one tick's step leaves: a refusal ends the minute, and else the feet are written and the age rises.
 #[tactic(auto, using(base::proofs::Cases::cases), unfolding(crate::specs::Turns::ticked_by, crate::specs::Turns::feet_by, base::specs::Choose::choose))]
-pub fn ticked(m: Minute, answer: Result<FallingTick, Refusal>, feet: &mut [f64]) -> Minute
-    ensures value { minute_seen result ≡ ticked_by (minute_seen m) (falling_answer m.motion m.fall (asked answer)) }
-    ensures feet_after { feet.new ≡ feet_by feet.old (minute_seen m) (falling_answer m.motion m.fall (asked answer)) }
+pub fn ticked<A: FallingTold>(m: Minute<A::Said>, answer: A, feet: &mut [f64]) -> Minute<A::Said>
+    ensures value { seen_by A.Said.says result ≡ ticked_by (seen_by A.Said.says m) (A.answer answer m.motion m.fall) }
+    ensures feet_after { feet.new ≡ feet_by feet.old (seen_by A.Said.says m) (A.answer answer m.motion m.fall) }
 {
-    match answer {
-        Err(refusal) => ended_with(m, Err(refusal)),
-        Ok(made) => {
-            put_feet(feet, m.ticks, made.tick.motion.feet);
-            Minute {
-                motion: handed(m.motion, Ok(made.tick)).motion,
-                age: m.age.wrapping_add(1),
-                fall: made.fall,
-                ticks: m.ticks.wrapping_add(1),
-                ended: Ok(()),
-            }
-        }
+    let said = answer.said();
+    if said.told() != 0 {
+        return ended_with(m, said);
+    }
+    let made = answer.handed(m.motion, m.fall);
+    let motion = made.step.motion;
+    put_feet(feet, m.ticks, motion.feet);
+    Minute {
+        motion,
+        age: m.age.wrapping_add(1),
+        fall: made.fall,
+        ticks: m.ticks.wrapping_add(1),
+        ended: said,
     }
 }
 
 /// Before the first event, with a fresh fall record; or refused before it.
-pub fn begin(given: MotionNumbers, age: u64, ended: Result<(), Refusal>) -> Minute
-    ensures { minute_seen result ≡ minute_of (start given age [] (verdict ended)) }
+pub fn begin<V: Verdict>(given: MotionNumbers, age: u64, ended: V) -> Minute<V>
+    ensures { seen_by V.says result ≡ minute_of (start given age [] (V.says ended)) }
 {
     Minute {
         motion: given,

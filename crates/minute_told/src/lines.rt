@@ -2,11 +2,10 @@
 // cursor, as `text` has it.
 ghost use Rattle.std.specs.Prelude.{◌≡◌};
 ghost use Rattle.base.specs.Loop.{listed};
-ghost use Rattle.base.specs.Refusals.{verdict};
 ghost use Rattle.text.specs.Cursor.{Put};
 ghost use Rattle.minute_told.specs.Printed.{feet_lines, ending, text_by, feet_at};
 
-use base::Refusal;
+use base::Verdict;
 use bodies::number_at;
 use boxes::Vec3;
 
@@ -34,19 +33,19 @@ fn put_lines(out: &mut [u8], feet: &[f64], ticks: u32) -> usize
 }
 
 #[tactic(auto, using(base::proofs::Cases::cases, text::proofs::Cursor::nothing), unfolding(crate::specs::Printed::ending, base::specs::Choose::choose))]
-fn put_ending(out: &mut [u8], at: usize, ended: Result<(), Refusal>) -> usize
-    ensures { Put out.old at (ending (verdict ended)) out.new result }
+fn put_ending<V: Verdict>(out: &mut [u8], at: usize, ended: V) -> usize
+    ensures { Put out.old at (ending (V.says ended)) out.new result }
 {
-    match ended {
-        Ok(()) => at,
-        Err(refusal) => text::put_refusal(out, at, refusal),
+    if ended.told() == 0 {
+        return at;
     }
+    text::put_refusal(out, at, ended)
 }
 
 /// The text of so many ticks, whose feet stand in lent numbers, and of what ended them, as far as there is room for it. It returns how many bytes
 /// that is.
-pub fn put_text(out: &mut [u8], feet: &[f64], ticks: u32, ended: Result<(), Refusal>) -> usize
-    ensures { Put out.old 0 (text_by (listed (feet_at feet.now) ticks 0) (verdict ended)) out.new result }
+pub fn put_text<V: Verdict>(out: &mut [u8], feet: &[f64], ticks: u32, ended: V) -> usize
+    ensures { Put out.old 0 (text_by (listed (feet_at feet.now) ticks 0) (V.says ended)) out.new result }
 {
     let at = put_lines(out, feet, ticks);
     put_ending(out, at, ended)

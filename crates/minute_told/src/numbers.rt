@@ -1,19 +1,18 @@
 // What is handed back of a minute, as twelve numbers in a lent place.
 ghost use Rattle.std.specs.Prelude.{◌≡◌};
 ghost use Rattle.base.specs.Loop.{stored};
-ghost use Rattle.base.specs.Refusals.{verdict};
-ghost use Rattle.minute_state.specs.Turns.{minute_seen};
+ghost use Rattle.minute_state.specs.Turns.{seen_by};
 ghost use Rattle.minute_told.specs.Numbers.{minute_numbers, has_moved, minute_written};
 
-use base::Refusal;
+use base::Verdict;
 use lent_numbers::{put, put_vec};
 use lent_steps::float_of;
 use minute_state::Minute;
 
 // Twelve numbers, as `minute_numbers` has them.
 #[tactic(auto, unfolding(base::specs::Loop::stored))]
-fn put_minute(out: &mut [f64], m: Minute)
-    ensures { out.new ≡ stored out.old 0 (minute_numbers (minute_seen m)) }
+fn put_minute<V: Verdict>(out: &mut [f64], m: Minute<V>)
+    ensures { out.new ≡ stored out.old 0 (minute_numbers (seen_by V.says m)) }
 {
     put_vec(out, 0, m.motion.feet);
     put_vec(out, 3, m.motion.velocity);
@@ -26,17 +25,17 @@ fn put_minute(out: &mut [f64], m: Minute)
 }
 
 #[tactic(auto, using(base::proofs::Cases::cases))]
-fn has_moved(m: Minute) -> bool
-    ensures { result ≡ has_moved (minute_seen m) }
+fn has_moved<V: Verdict>(m: Minute<V>) -> bool
+    ensures { result ≡ has_moved (seen_by V.says m) }
 {
-    m.ended.is_ok() || 0 < m.ticks
+    m.ended.told() == 0 || 0 < m.ticks
 }
 
 /// The minute's numbers, and what ended it. A refusal before the first tick writes nothing.
 #[tactic(auto, using(base::proofs::Cases::cases), unfolding(crate::specs::Numbers::minute_written, base::specs::Choose::choose))]
-pub fn minute_into(out: &mut [f64], m: Minute) -> Result<(), Refusal>
-    ensures value { verdict result ≡ verdict m.ended }
-    ensures out_after { out.new ≡ minute_written out.old (minute_seen m) }
+pub fn minute_into<V: Verdict>(out: &mut [f64], m: Minute<V>) -> V
+    ensures value { V.says result ≡ V.says m.ended }
+    ensures out_after { out.new ≡ minute_written out.old (seen_by V.says m) }
 {
     if has_moved(m) {
         put_minute(out, m);

@@ -1,5 +1,6 @@
 -- What a host is handed of a step: its answer or its refusal, the same with a fall record beside it, and the friction under a living body.
-use Rattle.std.specs.Prelude.{ℕ, eqb, Float}
+use Rattle.std.specs.Prelude.{◌≡◌, ℕ, eqb, Float, Option, Some}
+use Rattle.std.specs.Prelude as std
 use Rattle.base.specs.Choose.{choose}
 use Rattle.base.specs.Ask.{Ask, refused, found, ◌>>=◌}
 use Rattle.floats.specs.Numbers.{zero64}
@@ -15,6 +16,7 @@ use Rattle.step_answers.specs.declared.Tick.{Tick}
 use Rattle.step_answers.specs.declared.FallingTick.{FallingTick}
 use Rattle.step_answers.specs.declared.Friction.{Friction}
 use Rattle.step_answers.specs.declared.HandedStep.{HandedStep}
+use Rattle.step_answers.specs.declared.HandedFalling.{HandedFalling}
 use Rattle.step_answers.specs.Records.{StepAnswer, FallingAnswer, FrictionAnswer}
 
 -- a refused step returns position, velocity and ground flag as given, and liquid none; "where it is refused .. it carries a fifth case, not asked"
@@ -31,6 +33,21 @@ step_answer given (found t) =
 -- the same of what a host is handed beside the refusal's number
 abbrev pub handed_with : HandedStep → ℕ → StepAnswer
 handed_with h n = record { motion = h.motion; liquid = h.liquid; support = h.support; refusal = n }
+
+-- what is handed of a step that was made, by what it was given, and of none other
+abbrev pub Made : Option HandedStep → (MotionNumbers → StepAnswer) → Type 0
+Made (Some h) a = (given : MotionNumbers) → handed_with h 0 ≡ a given
+Made std.None a = (given : MotionNumbers) → (a given).refusal ≡ 0 → ⊥
+
+-- a step that was made has one answer, whatever it was given
+abbrev pub made : Tick → StepAnswer
+made t =
+    record {
+      motion = record { feet = t.motion.feet; velocity = t.motion.velocity; on_ground = yes_number t.motion.on_ground };
+      liquid = t.liquid;
+      support = t.support;
+      refusal = 0;
+    }
 
 -- ---- with a fall record beside it
 
@@ -58,6 +75,10 @@ tick_alone asked = do
 
 abbrev pub falling_answer : MotionNumbers → Fall → Ask FallingTick → FallingAnswer
 falling_answer given fall asked = record { step = step_answer given (tick_alone asked); fall = fall_left fall asked }
+
+-- the same of what a host is handed beside the refusal's number
+abbrev pub handed_falling : HandedFalling → ℕ → FallingAnswer
+handed_falling h n = record { step = handed_with h.step n; fall = h.fall }
 
 -- ---- the friction under a living body
 

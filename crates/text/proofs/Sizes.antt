@@ -15,10 +15,8 @@ use Rattle.tables.specs.declared.LiquidKind.TheVariants.{None, Water, Lava}
 use Rattle.bodies.specs.declared.MotionNumbers.{MotionNumbers}
 use Rattle.text.specs.Cursor.{behind, Put}
 use Rattle.std.specs.Prelude.{Result, Ok, Err}
-use Rattle.base.specs.declared.Refusal.{Refusal}
-use Rattle.base.specs.Refusals.{number_of}
 use Rattle.text.specs.declared.Lines.{Lines}
-use Rattle.text.specs.Told.{told_text}
+use Rattle.text.specs.Told.{told_by}
 use Rattle.text.specs.Text.{hex_of, joined_text, vec_text, feet_line, velocity_line, ground_line, liquid_line, lines_of, refused_text, text_of, text_room, written, written_count}
 use Rattle.base.proofs.Stored.{stored-length}
 
@@ -98,16 +96,16 @@ module _ (refusal : ℕ) (motion : MotionNumbers) (kind : LiquidKind) (out : Lis
 
 -- ---- an answer that may be a refusal
 
-told-most : (a : Result Lines Refusal) → length (told_text a) ≤ text_room
-told-most (Ok l) = lines-most l.motion l.liquid
-told-most (Err e) = let h = refused-length (number_of e) in omega arith
+told-most : {V : Type 0} (says : V → ℕ) (a : Result Lines V) → length (told_by says a) ≤ text_room
+told-most says (Ok l) = lines-most l.motion l.liquid
+told-most says (Err v) = let h = refused-length (says v) in omega arith
 
-pub all-told : (a : Result Lines Refusal) (out : List ℕ) {after : List ℕ} {r : ℕ} → text_room ≤ length out → Put out 0 (told_text a) after r
-    → (after ≡ written out (told_text a)) × (r ≡ written_count out (told_text a))
+pub all-told : {V : Type 0} (says : V → ℕ) (a : Result Lines V) (out : List ℕ) {after : List ℕ} {r : ℕ} → text_room ≤ length out → Put out 0 (told_by says a) after r
+    → (after ≡ written out (told_by says a)) × (r ≡ written_count out (told_by says a))
 unfolding written written_count choose
-all-told a out h p =
-    let m = told-most a in
-    let e : behind (length out) 0 (length (told_text a)) ≡ length (told_text a) = omega arith in
+all-told says a out h p =
+    let m = told-most says a in
+    let e : behind (length out) 0 (length (told_by says a)) ≡ length (told_by says a) = omega arith in
     rw (le-ltb (length out) text_room h) (p.buffer, p.cursor ∙ e)
 
 -- the buffer keeps its length

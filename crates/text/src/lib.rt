@@ -5,10 +5,9 @@
 ghost use Rattle.std.specs.Prelude.{◌≡◌, [], ◌∷◌, ◌-◌, ◌*◌, ◌%◌};
 ghost use Rattle.text.specs.Cursor.{Put};
 ghost use Rattle.text.specs.Text.{hex_digit, hex_at, hex_of, vec_text, feet_line, velocity_line, ground_digit, ground_line, liquid_text, liquid_line, lines_of, refused_text, written, written_count};
-ghost use Rattle.text.specs.Told.{told_text};
-ghost use Rattle.base.specs.Refusals.{number_of};
+ghost use Rattle.text.specs.Told.{told_by};
 
-use base::Refusal;
+use base::Verdict;
 use bodies::MotionNumbers;
 use boxes::Vec3;
 use tables::LiquidKind;
@@ -143,17 +142,17 @@ fn put_lines(out: &mut [u8], at: usize, motion: MotionNumbers, kind: LiquidKind)
 }
 
 /// The line of a refusal: `refused N`.
-pub fn put_refusal(out: &mut [u8], at: usize, refusal: Refusal) -> usize
-    ensures { Put out.old at (refused_text (number_of refusal)) out.new result }
+pub fn put_refusal<V: Verdict>(out: &mut [u8], at: usize, refusal: V) -> usize
+    ensures { Put out.old at (refused_text (V.says refusal)) out.new result }
 {
     let name = put_text(out, at, b"refused ");
-    let digit = put(out, name, 48 + (refusal.number() % 10) as u8);
+    let digit = put(out, name, 48 + (refusal.told() % 10) as u8);
     put_text(out, digit, b"\n")
 }
 
 // Four lines, or `refused N`.
-fn put_answer(out: &mut [u8], at: usize, answer: Result<Lines, Refusal>) -> usize
-    ensures { Put out.old at (told_text answer) out.new result }
+fn put_answer<V: Verdict>(out: &mut [u8], at: usize, answer: Result<Lines, V>) -> usize
+    ensures { Put out.old at (told_by V.says answer) out.new result }
 {
     match answer {
         Ok(lines) => put_lines(out, at, lines.motion, lines.liquid),
@@ -162,9 +161,9 @@ fn put_answer(out: &mut [u8], at: usize, answer: Result<Lines, Refusal>) -> usiz
 }
 
 /// An answer from the buffer's start on. It returns how many bytes that is; a buffer of fewer than 160 is left as it is, and the answer is 0.
-pub fn write_answer(out: &mut [u8], answer: Result<Lines, Refusal>) -> usize
-    ensures out_after { out.new ≡ written out.old (told_text answer) }
-    ensures value { result ≡ written_count out.old (told_text answer) }
+pub fn write_answer<V: Verdict>(out: &mut [u8], answer: Result<Lines, V>) -> usize
+    ensures out_after { out.new ≡ written out.old (told_by V.says answer) }
+    ensures value { result ≡ written_count out.old (told_by V.says answer) }
 {
     if out.len() < 160 {
         return 0;

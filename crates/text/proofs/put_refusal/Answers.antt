@@ -5,5 +5,5 @@ use Rattle.text.proofs.put_refusal.Goals as goal
 
 pub returns : goal.returns
 unfolding refused_text
-returns c =
-    first _ c.put_text-name.ensures (first _ (rw c.number.ensures at c.put-digit.ensures) (last c.put_text.ensures))
+returns g c =
+    first _ c.put_text-name.ensures (first _ (rw c.told.ensures at c.put-digit.ensures) (last c.put_text.ensures))

@@ -1,2 +1,0 @@
--- Laws of answers.
-mod Numbers
