@@ -5,7 +5,7 @@
 
 use boxes::{Aabb, Vec3};
 use std::io;
-use sweeps::{BoxList, MoveResult, Request};
+use sweeps::{MoveResult, Request};
 use tables::Tables;
 use window::{View, Window};
 
@@ -82,7 +82,10 @@ fn collect_under(
 ) -> io::Result<()> {
     let answer = moves::collect_block_boxes(TABLES, view, area, cap);
     let refusal = runs::told(&answer);
-    let boxes = answer.unwrap_or_else(|_| BoxList::new()).count;
+    let boxes = match &answer {
+        Ok(list) => list.count,
+        Err(_) => 0,
+    };
     runs::say(
         rt,
         "collect",
